@@ -1,0 +1,19 @@
+-- Every definition of specs/ that a computed example looks through, under one name: an example says `unfolding computes`
+-- and is proved by `refl`.
+use Prim.Native.Nat.{ℕ}
+use Rattle.scope.specs.Reading.{entries}
+use Rattle.scope.specs.Numbers.{bitsAt, unsigned, signed}
+use Rattle.scope.specs.Sections.{heapAt, valAt, fieldAt, fewAt, supersAt, headAt, clauseAt, formAt, definitionAt, groupAt, groupsAt, readSection}
+use Rattle.scope.specs.Order.{upTable, climbs, heapBelow, valBelow, sameHeap, sameVal}
+use Rattle.scope.specs.TypeRules.{names, inReach, superEarlierAndOpen, shortChain, formMatches, matchesSuper, clausesOnStruct, describesEarlier, clausesAgree, descriptorFollows, describesFollows}
+use Rattle.scope.specs.Judging.{linksFault, ruleFault, scan, judgeTypes, judgeSection, askType}
+use Rattle.scope.specs.Instructions.{blockTypeAt, castAt, instrAt}
+use Rattle.scope.specs.BodyRules.{lastOf, planOf}
+use Rattle.scope.specs.Bodies.{fits, takeAll, put, doPlan, close, judgeInstr, judgeFrom, localsAt, bodyAt, judgeBody}
+use Rattle.scope.specs.Machine.{splitTop, defaultsOf, past, jump, doOp, doInstr, step}
+use Rattle.scope.specs.Running.{run, trialRun}
+use Rattle.scope.specs.Memory.{rowWords, rowsFrom, objectsFrom, blockWords, stateWords}
+
+unfoldable pub computes : ℕ
+unfolding entries bitsAt unsigned signed heapAt valAt fieldAt fewAt supersAt headAt clauseAt formAt definitionAt groupAt groupsAt readSection upTable climbs heapBelow valBelow sameHeap sameVal names inReach superEarlierAndOpen shortChain formMatches matchesSuper clausesOnStruct describesEarlier clausesAgree descriptorFollows describesFollows linksFault ruleFault scan judgeTypes judgeSection askType blockTypeAt castAt instrAt lastOf planOf fits takeAll put doPlan close judgeInstr judgeFrom localsAt bodyAt judgeBody splitTop defaultsOf past jump doOp doInstr step run trialRun rowWords rowsFrom objectsFrom blockWords stateWords
+computes = 0

@@ -1,0 +1,187 @@
+-- The answers of the public calls: document 01's number and values for each case of an answer, and what each call
+-- promises of its answer and of every lent word. 14 comes before all else.
+use Prim.Native.Nat.{ℕ}
+use mathlib.Core.Path.{_≡_}
+use mathlib.Core.Bool.{Bool, true, false, cond, _&&_}
+use mathlib.Core.List.{List, [], _∷_}
+use lib.ListN.{length}
+use lib.Dec.{leb}
+use Rattle.scope.specs.declared.Verdict.{Verdict}
+use Rattle.scope.specs.declared.Verdict
+use Rattle.scope.specs.declared.Asked.{Asked}
+use Rattle.scope.specs.declared.Asked
+use Rattle.scope.specs.declared.Ran.{Ran}
+use Rattle.scope.specs.declared.Ran
+use Rattle.scope.specs.Refusals.{bufferTooSmall}
+use Rattle.scope.specs.Syntax.{Definition}
+use Rattle.scope.specs.Judging.{Judged, accepted, rejected, andThen, judgeSection, askType, partOf}
+use Rattle.scope.specs.Bodies.{Code, Body, instructions, judgeBody}
+use Rattle.scope.specs.Machine.{Machine}
+use Rattle.scope.specs.Running.{Ending, done, trapped, spent, wrong, Trial, trialRun, placeOf}
+use Rattle.scope.specs.Memory.{filled, wiped, tableRows, tableCodes, StateWords, stateWords}
+
+-- the sizes of the lent buffers, in elements; docs/LAYOUT.md has their bytes
+
+-- the table, u16: 256 rows of 12 words, and the codes of fields, parameters and results
+abbrev pub rowsSize : ℕ
+rowsSize = 3_072
+
+abbrev pub codesSize : ℕ
+codesSize = 32_768
+
+-- a body's scratch, u32
+abbrev pub workSize : ℕ
+workSize = 4_096
+
+-- a run's scratch, u16: a place for each byte of the body
+abbrev pub endsSize : ℕ
+endsSize = 32_768
+
+-- a run's state: u64 counts, u16 objects of 4 words, u64 cells of 2 words, u64 locals and operands of 2 words, u16 blocks
+-- of 3 words
+abbrev pub countsSize : ℕ
+countsSize = 6
+
+abbrev pub objectsSize : ℕ
+objectsSize = 4_096
+
+abbrev pub cellsSize : ℕ
+cellsSize = 8_192
+
+abbrev pub localsSize : ℕ
+localsSize = 512
+
+abbrev pub operandsSize : ℕ
+operandsSize = 1_024
+
+abbrev pub blocksSize : ℕ
+blocksSize = 189
+
+-- 14: a lent buffer under its one size, at 0; never otherwise
+abbrev pub holds : ℕ → List ℕ → Bool
+holds size buffer = leb size (length buffer)
+
+abbrev pub lentEnough : {A : Type 0} → Bool → Judged A → Judged A
+lentEnough enough judged = cond enough judged (rejected bufferTooSmall 0)
+
+-- a refusal's number and place, or how many were counted
+abbrev pub verdictOf : {A : Type 0} → (A → ℕ) → Judged A → Verdict
+verdictOf count (accepted x) = Verdict.the-variants.Accepted (count x)
+verdictOf count (rejected n p) = Verdict.the-variants.Refused n p
+
+-- zero after a refusal
+abbrev pub after : {A : Type 0} → (A → List ℕ) → List ℕ → Judged A → List ℕ
+after words buffer (accepted x) = filled buffer (words x)
+after words buffer (rejected n p) = wiped buffer
+
+-- judging a section: its type count and its table
+
+abbrev pub tableLent : List ℕ → List ℕ → Bool
+tableLent rows codes = holds rowsSize rows && holds codesSize codes
+
+abbrev pub sectionCall : List ℕ → List ℕ → List ℕ → Judged (List Definition)
+sectionCall s rows codes = lentEnough (tableLent rows codes) (judgeSection s)
+
+pub record SectionJudged (s rows codes rows′ codes′ : List ℕ) (r : Verdict) : Type 0 where
+  pub answer : r ≡ verdictOf length (sectionCall s rows codes)
+  pub rowsAfter : rows′ ≡ after tableRows rows (sectionCall s rows codes)
+  pub codesAfter : codes′ ≡ after tableCodes codes (sectionCall s rows codes)
+
+-- asking for a type: where its bytes lie, and the very bytes; lent memory is as after the section alone
+
+abbrev pub askCall : List ℕ → ℕ → List ℕ → List ℕ → Judged Definition
+askCall s x rows codes = lentEnough (tableLent rows codes) (askType s x)
+
+abbrev pub askedOf : Judged Definition → Asked
+askedOf (accepted d) = Asked.the-variants.Bytes (d .from) (d .to)
+askedOf (rejected n p) = Asked.the-variants.Refused n p
+
+-- the section's types, unless the number is refused
+abbrev pub askedTypes : List ℕ → Judged Definition → List Definition → Judged (List Definition)
+askedTypes s (accepted d) ds = accepted ds
+askedTypes s (rejected n p) ds = rejected n p
+
+abbrev pub askTable : List ℕ → ℕ → List ℕ → List ℕ → Judged (List Definition)
+askTable s x rows codes = andThen (sectionCall s rows codes) (askedTypes s (askCall s x rows codes))
+
+pub record TypeAsked (s : List ℕ) (x : ℕ) (rows codes rows′ codes′ : List ℕ) (r : Asked) : Type 0 where
+  pub answer : r ≡ askedOf (askCall s x rows codes)
+  pub rowsAfter : rows′ ≡ after tableRows rows (askTable s x rows codes)
+  pub codesAfter : codes′ ≡ after tableCodes codes (askTable s x rows codes)
+
+pub record TypeHanded (s : List ℕ) (x : ℕ) (rows codes rows′ codes′ part : List ℕ) : Type 0 where
+  pub bytes : part ≡ partOf s (askCall s x rows codes)
+  pub rowsAfter : rows′ ≡ after tableRows rows (askTable s x rows codes)
+  pub codesAfter : codes′ ≡ after tableCodes codes (askTable s x rows codes)
+
+-- judging a body: its count of instructions; all lent memory is scratch, zero whatever the answer
+
+abbrev pub bodyCall : List ℕ → List ℕ → ℕ → List ℕ → List ℕ → List ℕ → Judged Body
+bodyCall section s x rows codes work =
+    lentEnough (tableLent rows codes && holds workSize work) (judgeBody section s x)
+
+pub record BodyJudged (section s : List ℕ) (x : ℕ) (rows codes work rows′ codes′ work′ : List ℕ) (r : Verdict) : Type 0 where
+  pub answer : r ≡ verdictOf instructions (bodyCall section s x rows codes work)
+  pub rowsAfter : rows′ ≡ wiped rows
+  pub codesAfter : codes′ ≡ wiped codes
+  pub workAfter : work′ ≡ wiped work
+
+-- the trial run: done, trap or spent, the steps, and the state after exactly those steps
+
+-- the buffers of a run
+pub record RunMemory : Type 0 where
+  pub rows : List ℕ
+  pub codes : List ℕ
+  pub work : List ℕ
+  pub ends : List ℕ
+  pub state : StateWords
+
+abbrev pub stateLent : StateWords → Bool
+stateLent w =
+    holds countsSize (w .counts)
+    && holds objectsSize (w .objects)
+    && holds cellsSize (w .cells)
+    && holds localsSize (w .locals)
+    && holds operandsSize (w .operands)
+    && holds blocksSize (w .blocks)
+
+abbrev pub runLent : RunMemory → Bool
+runLent m = tableLent (m .rows) (m .codes) && holds workSize (m .work) && holds endsSize (m .ends) && stateLent (m .state)
+
+abbrev pub runCall : List ℕ → List ℕ → ℕ → ℕ → RunMemory → Judged Trial
+runCall section s x budget m = lentEnough (runLent m) (trialRun section s x budget)
+
+-- the machine as it stands at the end
+abbrev pub machineOf : Ending → Machine
+machineOf (done steps m) = m
+machineOf (trapped number steps m) = m
+machineOf (spent steps m) = m
+machineOf (wrong steps m) = m
+
+-- `wrong` is given a number that no trap has; soundness is that no run comes to it
+abbrev pub endedAs : List ℕ → Ending → Ran
+endedAs s (done steps m) = Ran.the-variants.Done steps (length (m .operands))
+endedAs s (trapped number steps m) = Ran.the-variants.Trapped number (placeOf s (m .code)) steps
+endedAs s (spent steps m) = Ran.the-variants.Spent steps
+endedAs s (wrong steps m) = Ran.the-variants.Trapped 0 (placeOf s (m .code)) steps
+
+abbrev pub ranOf : List ℕ → Judged Trial → Ran
+ranOf s (accepted t) = endedAs s (t .ending)
+ranOf s (rejected n p) = Ran.the-variants.Refused n p
+
+-- one buffer of the state afterwards
+abbrev pub stateAfter : List ℕ → (StateWords → List ℕ) → RunMemory → Judged Trial → List ℕ
+stateAfter s part m judged = after (λ t. part (stateWords s (machineOf (t .ending)))) (part (m .state)) judged
+
+pub record RunTried (section s : List ℕ) (x budget : ℕ) (m m′ : RunMemory) (r : Ran) : Type 0 where
+  pub answer : r ≡ ranOf s (runCall section s x budget m)
+  pub rowsAfter : m′ .rows ≡ wiped (m .rows)
+  pub codesAfter : m′ .codes ≡ wiped (m .codes)
+  pub workAfter : m′ .work ≡ wiped (m .work)
+  pub endsAfter : m′ .ends ≡ wiped (m .ends)
+  pub counts : m′ .state .counts ≡ stateAfter s (λ w. w .counts) m (runCall section s x budget m)
+  pub objects : m′ .state .objects ≡ stateAfter s (λ w. w .objects) m (runCall section s x budget m)
+  pub cells : m′ .state .cells ≡ stateAfter s (λ w. w .cells) m (runCall section s x budget m)
+  pub locals : m′ .state .locals ≡ stateAfter s (λ w. w .locals) m (runCall section s x budget m)
+  pub operands : m′ .state .operands ≡ stateAfter s (λ w. w .operands) m (runCall section s x budget m)
+  pub blocks : m′ .state .blocks ≡ stateAfter s (λ w. w .blocks) m (runCall section s x budget m)

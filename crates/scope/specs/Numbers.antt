@@ -1,0 +1,72 @@
+-- "Numbers are LEB128 as the core standard has them; padding within the greatest length is allowed." One account over
+-- the width: seven bits a byte, lowest first, a byte of 128 or more goes on; then the range of the width.
+use Prim.Native.Nat.{ℕ, zero, suc, _+_, _-_, _*_, _^_, _/_}
+use mathlib.Core.Bool.{Bool, true, false, cond}
+use mathlib.Core.List.{List}
+use lib.ListN.{getElem?}
+use lib.Dec.{ltb, leb}
+use Rattle.scope.specs.Reading.{Read, got, refused, Reader, given}
+use Rattle.scope.specs.Refusals.{bytesEnd, badNumber}
+
+-- the bits of a number as they stand: their value, how many bytes they take, the place after; or what is wrong
+pub data Bits : Type 0 where
+  bits : ℕ → ℕ → ℕ → Bits
+  cut : Bits
+  long : Bits
+
+-- seven bits put below those that follow
+abbrev pub under : ℕ → Bits → Bits
+under b (bits v k next) = bits (b - 128 + 128 * v) (k + 1) next
+under b cut = cut
+under b long = long
+
+-- at most so many bytes
+unfoldable pub bitsAt : ℕ → List ℕ → ℕ → Bits
+bitsAt zero s at = long
+bitsAt (suc room) s at =
+    given (getElem? s at) cut (λ b. let more = under b (bitsAt room s (at + 1)) in cond (ltb b 128) (bits b 1 (at + 1)) more)
+
+-- the greatest length of a number of so many bits
+abbrev pub greatestLength : ℕ → ℕ
+greatestLength width = (width + 6) / 7
+
+-- 1: bytes end inside an item; 2: LEB too long or out of range. Both at its first byte.
+abbrev pub inRange : {A : Type 0} → ℕ → Bits → (ℕ → ℕ → A) → (A → Bool) → Read A
+inRange at (bits v k next) value fits = cond (fits (value v k)) (got (value v k) next) (refused badNumber at)
+inRange at cut value fits = refused bytesEnd at
+inRange at long value fits = refused badNumber at
+
+-- uN
+unfoldable pub unsigned : ℕ → Reader ℕ
+unsigned width s at = inRange at (bitsAt (greatestLength width) s at) (λ v k. v) (λ v. ltb v (2 ^ width))
+
+-- a whole number: a natural one, or one below zero by its magnitude
+pub data Whole : Type 0 where
+  plus : ℕ → Whole
+  minus : ℕ → Whole
+
+-- the highest bit of k bytes is the sign
+abbrev pub signed-of : ℕ → ℕ → Whole
+signed-of v k = cond (ltb v (2 ^ (7 * k - 1))) (plus v) (minus (2 ^ (7 * k) - v))
+
+abbrev pub within : ℕ → Whole → Bool
+within width (plus v) = ltb v (2 ^ (width - 1))
+within width (minus v) = leb v (2 ^ (width - 1))
+
+-- sN
+unfoldable pub signed : ℕ → Reader Whole
+signed width s at = inRange at (bitsAt (greatestLength width) s at) signed-of (within width)
+
+abbrev pub u32 : Reader ℕ
+u32 = unsigned 32
+
+abbrev pub s32 : Reader Whole
+s32 = signed 32
+
+abbrev pub s33 : Reader Whole
+s33 = signed 33
+
+-- an i32 is kept as 32 bits
+abbrev pub bits32 : Whole → ℕ
+bits32 (plus v) = v
+bits32 (minus v) = 2 ^ 32 - v

@@ -1,0 +1,67 @@
+-- The trial run: a run with a budget, how it starts, and its verdict: "A run: these, then budget, then parameters."
+use Prim.Native.Nat.{ℕ, zero, suc, _+_}
+use mathlib.Core.Bool.{Bool, true, false, cond}
+use mathlib.Core.Option.{Option, none, some}
+use mathlib.Core.List.{List, [], _∷_, _++_, map}
+use lib.ListN.{length}
+use lib.Dec.{ltb}
+use Rattle.scope.specs.Sizes.{mostBudget}
+use Rattle.scope.specs.Refusals.{oversize, noDefault}
+use Rattle.scope.specs.Lists.{every}
+use Rattle.scope.specs.Syntax.{typesOf}
+use Rattle.scope.specs.Judging.{Judged, accepted, rejected, andThen}
+use Rattle.scope.specs.BodyRules.{hasDefault}
+use Rattle.scope.specs.Bodies.{Code, Function, Body, judgeBody}
+use Rattle.scope.specs.Machine.{Machine, Program, Outcome, goes, ends, traps, stuck, defaultOf, step}
+
+-- "The answer holds done with results, trap with place, or spent; and the steps": each with the steps and the machine after
+-- exactly those steps. A trap has its number; "a trapping step changes none of them". `wrong`: no accepted body comes to it.
+pub data Ending : Type 0 where
+  done : ℕ → Machine → Ending
+  trapped : ℕ → ℕ → Machine → Ending
+  spent : ℕ → Machine → Ending
+  wrong : ℕ → Machine → Ending
+
+abbrev pub onOutcome : Outcome → ℕ → Machine → (Machine → Ending) → Ending
+onOutcome (goes later) steps m more = more later
+onOutcome (ends later) steps m more = done (steps + 1) later
+onOutcome (traps number) steps m more = trapped number (steps + 1) m
+onOutcome stuck steps m more = wrong steps m
+
+-- so many steps are left of the budget, so many are done
+unfoldable pub run : Program → ℕ → ℕ → Machine → Ending
+run p zero steps m = spent steps m
+run p (suc left) steps m = onOutcome (step p m) steps m (λ later. run p left (steps + 1) later)
+
+-- "It starts with an empty heap, zero or null parameters. A local with a default starts at it; any other holds no value."
+abbrev pub startOf : Body → Machine
+startOf b =
+    record { heap = []; locals = map defaultOf (b .function .parameters ++ b .locals); operands = []; blocks = []; code = b .code }
+
+abbrev pub programOf : Body → Program
+programOf b = record { types = typesOf (b .types); results = length (b .function .results) }
+
+-- how the run of an accepted body ends
+pub record Trial : Type 0 where
+  pub body : Body
+  pub ending : Ending
+
+abbrev pub trialOf : Body → ℕ → Trial
+trialOf b budget = record { body = b; ending = run (programOf b) budget 0 (startOf b) }
+
+-- 29: for a run's parameters, place 0
+abbrev pub withParameters : Body → ℕ → Judged Trial
+withParameters b budget =
+    let trial = accepted (trialOf b budget) in
+    cond (every hasDefault (b .function .parameters)) trial (rejected noDefault 0)
+
+unfoldable pub trialRun : List ℕ → List ℕ → ℕ → ℕ → Judged Trial
+trialRun section s x budget =
+    andThen (judgeBody section s x) (λ b.
+    let allowed = withParameters b budget in
+    cond (ltb mostBudget budget) (rejected oversize 0) allowed)
+
+-- the place: of the next instruction, of the trapping one after a trap, the body's length when done
+abbrev pub placeOf : List ℕ → Code → ℕ
+placeOf s [] = length s
+placeOf s (i ∷ code) = i .0
