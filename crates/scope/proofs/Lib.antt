@@ -1,1 +1,3 @@
 pub mod Computes
+pub mod Forward
+pub mod ForwardBodies
