@@ -1,3 +1,9 @@
 pub mod Computes
 pub mod Forward
 pub mod ForwardBodies
+pub mod Truths
+pub mod TenRows
+pub mod Accepted
+pub mod Chains
+pub mod Order
+pub mod OrderExamples

@@ -110,12 +110,12 @@ fn list(bytes: &[u8]) -> String {
     }
 }
 
-/// What the goal of question i computes to: the number stands alone, or in a goal that fits a line behind what was asked.
+/// What the goal of question i computes to. The checker prints the goal as it was asked, as it computes, or both; only
+/// what it computes to has a number behind the word.
 fn shown(said: &str, i: usize) -> Option<Vec<u64>> {
     let goal = said.split_once(&format!("goal ?q{i} in"))?.1;
     let goal = goal.split("goal ?q").next()?;
-    let after = |mark: &str| goal.split_once(mark).map(|parts| parts.1);
-    let number = after("(computed: Shows ").or_else(|| after("⊢ Shows "))?;
+    let number = goal.split("Shows ").find(|text| text.starts_with(|c: char| c.is_ascii_digit()))?;
     let decimal: String = number.chars().take_while(|c| c.is_ascii_digit()).collect();
     words::unpack(&decimal)
 }
