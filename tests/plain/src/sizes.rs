@@ -1,0 +1,16 @@
+//! The sizes of document 01, each named once.
+
+pub const INPUT_BYTES: usize = 32_768;
+pub const TYPES: usize = 256;
+/// Fields of a struct, parameters or results of a function, each.
+pub const ENTRIES: usize = 64;
+pub const CHAIN_STEPS: usize = 63;
+/// Parameters included.
+pub const LOCALS: u64 = 256;
+/// In all frames together, after an instruction.
+pub const OPERANDS: usize = 512;
+/// The function's own frame counted.
+pub const FRAMES: usize = 64;
+pub const BUDGET: u64 = 1_000_000;
+pub const OBJECTS: usize = 1_024;
+pub const CELLS: usize = 4_096;

@@ -1,0 +1,119 @@
+//! Runs of accepted bodies keep to their types, whatever the budget: a check of
+//! the checker against the machine, over generated bodies.
+
+use plain::body::{judge_body, Body};
+use plain::generate::requests;
+use plain::lines::read_bytes;
+use plain::machine::{trial_run, Outcome, Run};
+use plain::state::{Object, Value};
+use plain::syntax::{Instruction, ValueType};
+use std::collections::BTreeSet;
+use std::mem::discriminant;
+
+fn fits(run: &Run, body: &Body, value: Value, wanted: ValueType) -> bool {
+    match (value, wanted) {
+        (Value::I32(_), ValueType::I32)
+        | (Value::I64(_), ValueType::I64)
+        | (Value::F32(_), ValueType::F32)
+        | (Value::F64(_), ValueType::F64) => true,
+        (Value::Null | Value::Object(_), ValueType::Ref(reference)) => {
+            run.state.is_of(&body.types, value, reference)
+        }
+        _ => false,
+    }
+}
+
+fn object_fits(run: &Run, body: &Body, object: &Object) -> bool {
+    let definition = &body.types[object.type_number as usize].definition;
+    let fields = definition.fields().expect("only structs are allocated");
+    let descriptor = object.descriptor.map(|number| run.state.heap[number].type_number);
+    let fields_fit =
+        object.fields.iter().zip(fields).all(|(&value, field)| fits(run, body, value, field.value));
+    fields.len() == object.fields.len() && fields_fit && descriptor == definition.descriptor
+}
+
+fn run_fits(run: &Run, body: &Body) -> bool {
+    let locals = run.state.locals.iter().zip(&body.locals);
+    let mut locals = locals.filter_map(|(value, &wanted)| value.map(|value| (value, wanted)));
+    let locals_fit = locals.all(|(value, wanted)| fits(run, body, value, wanted));
+    let heap_fits = run.state.heap.iter().all(|object| object_fits(run, body, object));
+    let results_fit = run.outcome != Outcome::Done
+        || run.state.operands.len() == body.results.len()
+            && run
+                .state
+                .operands
+                .iter()
+                .zip(&body.results)
+                .all(|(&value, &wanted)| fits(run, body, value, wanted));
+    locals_fit && heap_fits && results_fit
+}
+
+/// The section, type number and body of a request for a run.
+fn run_parts(request: &str) -> Option<(Vec<u8>, u32, Vec<u8>)> {
+    let parts: Vec<&str> = request.split(' ').collect();
+    let ["R", section, number, body, _] = parts[..] else {
+        return None;
+    };
+    Some((read_bytes(section).ok()?, number.parse().ok()?, read_bytes(body).ok()?))
+}
+
+#[test]
+fn states_keep_to_their_types() {
+    for request in requests(11, 6000, true).chain(requests(12, 2000, false)) {
+        let Some((section, number, bytes)) = run_parts(&request) else {
+            continue;
+        };
+        let Ok(body) = judge_body(&section, number, &bytes) else {
+            continue;
+        };
+        for budget in (0..12).chain([50, 999]) {
+            if let Ok(run) = trial_run(&section, number, &bytes, budget) {
+                assert!(run_fits(&run, &body), "{request} with {budget}");
+            }
+        }
+    }
+}
+
+/// Without a loop a run stops within as many steps as there are instructions.
+#[test]
+fn bodies_without_loop_stop() {
+    for request in requests(13, 4000, true) {
+        let Some((section, number, bytes)) = run_parts(&request) else {
+            continue;
+        };
+        let Ok(body) = judge_body(&section, number, &bytes) else {
+            continue;
+        };
+        let has_loop =
+            body.code.iter().any(|placed| matches!(placed.instruction, Instruction::Loop(_)));
+        if let (false, Ok(run)) = (has_loop, trial_run(&section, number, &bytes, 1_000_000)) {
+            assert!(run.outcome != Outcome::Spent && run.steps <= body.code.len() as u64);
+        }
+    }
+}
+
+/// Every kind of instruction stands in accepted bodies.
+#[test]
+fn every_instruction_is_accepted_somewhere() {
+    let mut kinds = BTreeSet::new();
+    for request in requests(14, 3000, true) {
+        let Some((section, number, bytes)) = run_parts(&request) else {
+            continue;
+        };
+        let Ok(body) = judge_body(&section, number, &bytes) else {
+            continue;
+        };
+        let kind_of = |instruction: Instruction| match instruction {
+            Instruction::BranchingCast(cast) => {
+                format!("branching cast {} {}", cast.by_descriptor, cast.fail)
+            }
+            Instruction::RefTest(target) => format!("test {}", target.nullable),
+            Instruction::RefCast(target) => format!("cast {}", target.nullable),
+            Instruction::RefCastDescEq(target) => format!("cast_desc_eq {}", target.nullable),
+            other => format!("{:?}", discriminant(&other)),
+        };
+        kinds.extend(body.code.iter().map(|placed| kind_of(placed.instruction)));
+    }
+    // 28 instructions, four of which stand for 4, 2, 2 and 2 of the paper's.
+    assert_eq!(kinds.len(), 28 - 4 + 4 + 2 + 2 + 2, "{kinds:?}");
+}
