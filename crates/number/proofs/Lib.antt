@@ -1,0 +1,4 @@
+pub mod Exits
+pub mod Bits
+pub mod Ranges
+pub mod Laws

@@ -1,0 +1,162 @@
+-- From the bits of a number to its value and range: what `u32_at`, `s32_at` and `s33_at` answer is what the definitions
+-- `unsigned` and `signed` say, each way out by the test that led there. One law over the width.
+use Prim.Native.Nat.{ℕ, zero, suc, _+_, _-_, _*_, _^_, _≤_, _<_}
+use mathlib.Core.Path.{_≡_, refl, sym, ap, _∙_}
+use mathlib.Core.Bool.{Bool, true, false, cond}
+use mathlib.Core.List.{List}
+use native.Mathlib.Omega.{arith}
+use mir.Syntax.{w64}
+use mir.Val.{Fits}
+use lib.ListN.{length}
+use lib.Dec.{ltb, leb, lit≤}
+use borrow.Author.Tests.{lt-ltb, le-ltb, le-leb, lt-leb}
+use Rattle.scope.specs.Reading.{Read, got, refused}
+use Rattle.scope.specs.Numbers.{Bits, bits, cut, long, bitsAt, greatestLength, inRange, Whole, plus, minus, signed-of, within, unsigned, signed, u32, s32, s33}
+use Rattle.scope.proofs.Forward.{Takes, unsigned-takes, signed-takes, never-back}
+use Rattle.number.specs.declared.Leb.{Leb}
+use Rattle.number.specs.declared.Leb
+use Rattle.number.specs.declared.Natural.{Natural}
+use Rattle.number.specs.declared.Natural
+use Rattle.number.specs.declared.Integer.{Integer}
+use Rattle.number.specs.declared.Integer
+use Rattle.number.specs.Answers.{lebIs, Few, BitsRead, naturalIs, integerIs, SignWeight, inHalf, rangeOf, SignedRead}
+
+-- the answer of `leb_at`, taken apart
+
+leb-got : (o : Bits) {r : Leb} {v k n : ℕ} → r ≡ lebIs o → r ≡ Leb.the-variants.Bits v k n → o ≡ bits v k n
+leb-got (bits u j m) p q = cc
+leb-got cut p q = absurd (let z : _≡_ {A = ℕ} 0 1 = cc in omega arith)
+leb-got long p q = absurd (let z : _≡_ {A = ℕ} 0 1 = cc in omega arith)
+
+leb-cut : (o : Bits) {r : Leb} → r ≡ lebIs o → r ≡ Leb.the-variants.Cut → o ≡ cut
+leb-cut (bits u j m) p q = absurd (let z : _≡_ {A = ℕ} 0 1 = cc in omega arith)
+leb-cut cut p q = refl
+leb-cut long p q = absurd (let z : _≡_ {A = ℕ} 0 1 = cc in omega arith)
+
+leb-long : (o : Bits) {r : Leb} → r ≡ lebIs o → r ≡ Leb.the-variants.Long → o ≡ long
+leb-long (bits u j m) p q = absurd (let z : _≡_ {A = ℕ} 0 1 = cc in omega arith)
+leb-long cut p q = absurd (let z : _≡_ {A = ℕ} 0 1 = cc in omega arith)
+leb-long long p q = refl
+
+-- u32_at
+
+module _ {s : List ℕ} {at : ℕ} {r : Leb} (a : BitsRead s at r) where
+  pub natural-fits : {v k n : ℕ} → r ≡ Leb.the-variants.Bits v k n → v < 4294967296 → Natural.the-variants.Is v n ≡ naturalIs (u32 s at)
+  unfolding unsigned
+  natural-fits {v} {k} {n} e h = rw (leb-got (bitsAt 5 s at) (a .is) e, lt-ltb v (2 ^ 32) h)
+
+  pub natural-beyond : {v k n : ℕ} → r ≡ Leb.the-variants.Bits v k n → 4294967296 ≤ v → Natural.the-variants.Refused 2 at ≡ naturalIs (u32 s at)
+  unfolding unsigned
+  natural-beyond {v} {k} {n} e h = rw (leb-got (bitsAt 5 s at) (a .is) e, le-ltb v (2 ^ 32) h)
+
+  pub natural-cut : r ≡ Leb.the-variants.Cut → Natural.the-variants.Refused 1 at ≡ naturalIs (u32 s at)
+  unfolding unsigned
+  natural-cut e = rw (leb-cut (bitsAt 5 s at) (a .is) e)
+
+  pub natural-long : r ≡ Leb.the-variants.Long → Natural.the-variants.Refused 2 at ≡ naturalIs (u32 s at)
+  unfolding unsigned
+  natural-long e = rw (leb-long (bitsAt 5 s at) (a .is) e)
+
+pub ruleset natural-exits = (natural-fits, natural-beyond, natural-cut, natural-long)
+
+-- the sign's weight
+
+module _ {k : ℕ} where
+  pub sign-one : k ≡ 1 → SignWeight k 64
+  sign-one e = rw e (record { is = λ p q. refl; twice = λ p q. refl; small = lit≤ tt })
+
+  pub sign-two : k ≡ 2 → SignWeight k 8192
+  sign-two e = rw e (record { is = λ p q. refl; twice = λ p q. refl; small = lit≤ tt })
+
+  pub sign-three : k ≡ 3 → SignWeight k 1048576
+  sign-three e = rw e (record { is = λ p q. refl; twice = λ p q. refl; small = lit≤ tt })
+
+  pub sign-four : k ≡ 4 → SignWeight k 134217728
+  sign-four e = rw e (record { is = λ p q. refl; twice = λ p q. refl; small = lit≤ tt })
+
+  pub sign-five : (k ≡ 1 → ⊥) → (k ≡ 2 → ⊥) → (k ≡ 3 → ⊥) → (k ≡ 4 → ⊥) → SignWeight k 17179869184
+  sign-five a b c d =
+      record { is = λ p q. rw (five p q); twice = λ p q. rw (five p q); small = lit≤ tt }
+    where
+      five : 1 ≤ k → k ≤ 5 → k ≡ 5
+      five p q = omega arith
+
+pub ruleset sign-exits = (sign-one, sign-two, sign-three, sign-four, sign-five)
+
+-- signed_of
+
+weight-is : {v k w : ℕ} → Few v k → SignWeight k w → w ≡ 2 ^ (7 * k - 1)
+weight-is few sign = sign .is (few .some) (few .most)
+
+twice-is : {v k w : ℕ} → Few v k → SignWeight k w → 2 * w ≡ 2 ^ (7 * k)
+twice-is few sign = sign .twice (few .some) (few .most)
+
+module _ (at half n : ℕ) {v k w : ℕ} (few : Few v k) (sign : SignWeight k w) where
+  pub plus-fits : v < w → v < half → Integer.the-variants.Plus v n ≡ integerIs (rangeOf at half v k n)
+  unfolding rangeOf
+  plus-fits p q = rw (lt-ltb v (2 ^ (7 * k - 1)) (rw (weight-is few sign) at p), lt-ltb v half q)
+
+  pub plus-beyond : v < w → half ≤ v → Integer.the-variants.Refused 2 at ≡ integerIs (rangeOf at half v k n)
+  unfolding rangeOf
+  plus-beyond p q = rw (lt-ltb v (2 ^ (7 * k - 1)) (rw (weight-is few sign) at p), le-ltb v half q)
+
+  pub minus-fits : w ≤ v → 2 * w - v ≤ half → Integer.the-variants.Minus (2 * w - v) n ≡ integerIs (rangeOf at half v k n)
+  unfolding rangeOf
+  minus-fits p q =
+      rw (le-ltb v (2 ^ (7 * k - 1)) (rw (weight-is few sign) at p), ← twice-is few sign, le-leb (2 * w - v) half q)
+
+  pub minus-beyond : w ≤ v → half < 2 * w - v → Integer.the-variants.Refused 2 at ≡ integerIs (rangeOf at half v k n)
+  unfolding rangeOf
+  minus-beyond p q =
+      rw (le-ltb v (2 ^ (7 * k - 1)) (rw (weight-is few sign) at p), ← twice-is few sign, lt-leb (2 * w - v) half q)
+
+-- the bits lie below twice the sign's weight
+pub under-twice : {v k w : ℕ} → Few v k → SignWeight k w → v ≤ 2 * w
+under-twice {v} {k} {w} few sign =
+    let e : 2 * w ≡ 2 ^ (7 * k) = twice-is few sign in let h : v < 2 ^ (7 * k) = few .seven in omega arith
+
+pub twice-fits : {k w : ℕ} → SignWeight k w → Fits w64 (2 * w)
+twice-fits sign = let h = sign .small in record { fits = omega arith }
+
+pub ruleset signed-exits = (plus-fits, plus-beyond, minus-fits, minus-beyond, under-twice, twice-fits)
+
+-- signed_at, over the width: one to which five bytes are the greatest length
+
+same-range : (half width : ℕ) → half ≡ 2 ^ (width - 1) → (w : Whole) → inHalf half w ≡ within width w
+same-range half width h (plus v) = rw h
+same-range half width h (minus v) = rw h
+
+range-is : (at half width : ℕ) → half ≡ 2 ^ (width - 1) → (v k n : ℕ) → rangeOf at half v k n ≡ inRange at (bits v k n) signed-of (within width)
+unfolding rangeOf
+range-is at half width h v k n = rw (same-range half width h (signed-of v k))
+
+signed-is : (width : ℕ) (s : List ℕ) (at : ℕ) {o : Bits} → greatestLength width ≡ 5 → bitsAt 5 s at ≡ o → signed width s at ≡ inRange at o signed-of (within width)
+unfolding signed
+signed-is width s at l e = rw (l, e)
+
+module _ {s : List ℕ} {at half : ℕ} {r : Leb} (a : BitsRead s at r) where
+  pub signed-got : {v k n : ℕ} {q : Integer} → r ≡ Leb.the-variants.Bits v k n → q ≡ integerIs (rangeOf at half v k n) → SignedRead s at half q
+  signed-got {v} {k} {n} e f =
+      record {
+        is = λ width l h.
+            f ∙ ap integerIs (range-is at half width h v k n ∙ sym (signed-is width s at l (leb-got (bitsAt 5 s at) (a .is) e)));
+      }
+
+  pub signed-cut : r ≡ Leb.the-variants.Cut → SignedRead s at half (Integer.the-variants.Refused 1 at)
+  signed-cut e = record { is = λ width l h. ap integerIs (sym (signed-is width s at l (leb-cut (bitsAt 5 s at) (a .is) e))) }
+
+  pub signed-long : r ≡ Leb.the-variants.Long → SignedRead s at half (Integer.the-variants.Refused 2 at)
+  signed-long e = record { is = λ width l h. ap integerIs (sym (signed-is width s at l (leb-long (bitsAt 5 s at) (a .is) e))) }
+
+pub few-bits : {s : List ℕ} {at : ℕ} {r : Leb} {v k n : ℕ} → BitsRead s at r → r ≡ Leb.the-variants.Bits v k n → Few v k
+few-bits {v = v} {k = k} {n = n} a e = a .small v k n e
+
+pub ruleset width-exits = (signed-got, signed-cut, signed-long, few-bits)
+
+-- the two widths
+
+pub s32-read : {s : List ℕ} {at : ℕ} {r : Integer} → SignedRead s at 2147483648 r → r ≡ integerIs (s32 s at)
+s32-read a = a .is 32 refl refl
+
+pub s33-read : {s : List ℕ} {at : ℕ} {r : Integer} → SignedRead s at 4294967296 r → r ≡ integerIs (s33 s at)
+s33-read a = a .is 33 refl refl

@@ -1,0 +1,31 @@
+-- `number::signed_of` meets its contract: each way out by the two tests that led there.
+use borrow.Author.Needs.{needs}
+use Rattle.number.proofs.Ranges.{signed-exits}
+use Rattle.number.proofs.signed_of.Statement.{statement}
+use Rattle.number.proofs.signed_of.Tie as tie
+
+sign-weight-requires : tie.Need-sign-weight-requires
+sign-weight-requires c κs = search needs
+
+returns : tie.Need-returns
+returns c = search (signed-exits, needs)
+
+returns-2 : tie.Need-returns-2
+returns-2 c = search (signed-exits, needs)
+
+mul-under : tie.Need-mul-under
+mul-under c = search needs
+
+sub-under : tie.Need-sub-under
+sub-under c = search (signed-exits, needs)
+
+returns-3 : tie.Need-returns-3
+returns-3 c = search (signed-exits, needs)
+
+returns-4 : tie.Need-returns-4
+returns-4 c = search (signed-exits, needs)
+
+pub signed-of-spec : {M : Type 1} → statement M
+signed-of-spec =
+    tie.close
+    (tie.spec sign-weight-requires returns returns-2 mul-under sub-under returns-3 returns-4)

@@ -1,0 +1,42 @@
+-- `number::u32_at` meets its contract: the bits are in range below two to the 32nd.
+use borrow.Author.Needs.{needs}
+use Rattle.number.proofs.Ranges.{natural-exits}
+use Rattle.number.proofs.u32_at.Statement.{statement}
+use Rattle.number.proofs.u32_at.Tie as tie
+
+leb-at-requires : tie.Need-leb-at-requires
+leb-at-requires c κs = search needs
+
+enum-known-read : tie.Need-enum-known-read
+enum-known-read c = search needs
+
+enum-told : tie.Need-enum-told
+enum-told c = search needs
+
+enum-told-2 : tie.Need-enum-told-2
+enum-told-2 c = search needs
+
+returns : tie.Need-returns
+returns c = search (natural-exits, needs)
+
+returns-2 : tie.Need-returns-2
+returns-2 c = search (natural-exits, needs)
+
+returns-3 : tie.Need-returns-3
+returns-3 c = search (natural-exits, needs)
+
+returns-4 : tie.Need-returns-4
+returns-4 c = search (natural-exits, needs)
+
+pub u32-at-spec : {M : Type 1} → statement M
+u32-at-spec =
+    tie.close
+    (tie.spec
+    leb-at-requires
+    enum-known-read
+    enum-told
+    enum-told-2
+    returns
+    returns-2
+    returns-3
+    returns-4)

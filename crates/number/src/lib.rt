@@ -1,0 +1,138 @@
+// Reading LEB128 numbers of 32 and 33 bits: the items of which all else is made. Each answer is that of the definition of
+// document 01 (specs/Answers.antt), on any bytes and at any place.
+ghost use mathlib.Core.Path.{_≡_};
+ghost use Rattle.scope.specs.Numbers.{u32, s32, s33};
+ghost use Rattle.number.specs.Answers.{ByteAt, Few, BitsRead, naturalIs, SignWeight, rangeOf, SignedRead, integerIs};
+
+// A byte of the input, or none where the place lies past its end.
+pub enum Byte {
+    Is(u64),
+    Missing,
+}
+
+pub fn byte_at(s: &[u8], at: usize) -> Byte
+    ensures { λ r. ⌜ ByteAt (now (s .entry)) at r ⌝ }
+{
+    if at < s.len() {
+        Byte::Is(s[at] as u64)
+    } else {
+        Byte::Missing
+    }
+}
+
+// The bits of a number of at most five bytes: their value, how many bytes they take, the place after; or what is wrong.
+pub enum Leb {
+    Bits(u64, u64, usize),
+    Cut,
+    Long,
+}
+
+// Seven bits a byte, lowest first; `weight` is that of the next seven.
+fn leb_at(s: &[u8], at: usize) -> Leb
+    ensures { λ r. ⌜ BitsRead (now (s .entry)) at r ⌝ }
+{
+    let mut value: u64 = 0;
+    let mut weight: u64 = 1;
+    let mut next = at;
+    let mut left: u64 = 5;
+    while 0 < left {
+        let read = byte_at(s, next);
+        let Byte::Is(b) = read else {
+            return Leb::Cut;
+        };
+        if b < 128 {
+            return Leb::Bits(value + weight * b, 6 - left, next + 1);
+        }
+        value = value + weight * (b - 128);
+        weight = weight * 128;
+        next = next + 1;
+        left = left - 1;
+    }
+    Leb::Long
+}
+
+// A natural number and the place after it; or a refusal's number and place.
+pub enum Natural {
+    Is(u64, usize),
+    Refused(u64, usize),
+}
+
+pub fn u32_at(s: &[u8], at: usize) -> Natural
+    ensures { λ r. ⌜ r ≡ naturalIs (u32 (now (s .entry)) at) ⌝ }
+{
+    let read = leb_at(s, at);
+    match read {
+        Leb::Bits(value, _, next) => {
+            if value < 4294967296 {
+                Natural::Is(value, next)
+            } else {
+                Natural::Refused(2, at)
+            }
+        }
+        Leb::Cut => Natural::Refused(1, at),
+        Leb::Long => Natural::Refused(2, at),
+    }
+}
+
+// A whole number by its magnitude, and the place after it; or a refusal's number and place.
+pub enum Integer {
+    Plus(u64, usize),
+    Minus(u64, usize),
+    Refused(u64, usize),
+}
+
+// The weight of the highest bit of so many bytes: the sign.
+fn sign_weight(count: u64) -> u64
+    ensures { λ r. ⌜ SignWeight count r ⌝ }
+{
+    match count {
+        1 => 64,
+        2 => 8192,
+        3 => 1048576,
+        4 => 134217728,
+        _ => 17179869184,
+    }
+}
+
+// The bits of so many bytes as a whole number: below the sign's weight as they are, else less twice that weight.
+fn signed_of(value: u64, count: u64, next: usize, at: usize, half: u64) -> Integer
+    requires { ⌜ Few value count ⌝ }
+    ensures { λ r. ⌜ r ≡ integerIs (rangeOf at half value count next) ⌝ }
+{
+    let sign = sign_weight(count);
+    if value < sign {
+        if value < half {
+            return Integer::Plus(value, next);
+        }
+        return Integer::Refused(2, at);
+    }
+    let under = 2 * sign - value;
+    if under <= half {
+        return Integer::Minus(under, next);
+    }
+    Integer::Refused(2, at)
+}
+
+// A whole number of a width of five bytes, in the range from -half up to half.
+fn signed_at(s: &[u8], at: usize, half: u64) -> Integer
+    ensures { λ r. ⌜ SignedRead (now (s .entry)) at half r ⌝ }
+{
+    let read = leb_at(s, at);
+    match read {
+        Leb::Bits(value, count, next) => signed_of(value, count, next, at, half),
+        Leb::Cut => Integer::Refused(1, at),
+        Leb::Long => Integer::Refused(2, at),
+    }
+}
+
+pub fn s32_at(s: &[u8], at: usize) -> Integer
+    ensures { λ r. ⌜ r ≡ integerIs (s32 (now (s .entry)) at) ⌝ }
+{
+    signed_at(s, at, 2147483648)
+}
+
+pub fn s33_at(s: &[u8], at: usize) -> Integer
+    ensures { λ r. ⌜ r ≡ integerIs (s33 (now (s .entry)) at) ⌝ }
+{
+    signed_at(s, at, 4294967296)
+}
