@@ -1,0 +1,1 @@
+// The lent table: rows and codes of types, and what they say.
