@@ -1,0 +1,2 @@
+pub mod Heaps
+pub mod Vals
