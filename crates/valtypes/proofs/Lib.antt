@@ -1,2 +1,3 @@
 pub mod Heaps
 pub mod Vals
+pub mod Fields

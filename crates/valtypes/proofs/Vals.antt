@@ -64,14 +64,14 @@ pub ruleset number-of-exits = (number-i32, number-i64, number-f32, number-f64, n
 
 -- codes are small
 
-abstract-most : (h : Heap) → heapCodeKept h ≤ 8201
+pub heap-code-bound : (h : Heap) → heapCodeKept h ≤ 8201
 unfolding heapCodeKept
-abstract-most (abstract a) = let h = code-small a in omega arith
-abstract-most (defined x) = omega arith
-abstract-most (exact x) = omega arith
+heap-code-bound (abstract a) = let h = code-small a in omega arith
+heap-code-bound (defined x) = omega arith
+heap-code-bound (exact x) = omega arith
 
 pub heap-code-most : (o : Read Heap) {c next : ℕ} {r : Coded} → r ≡ codedIs heapCodeKept o → r ≡ Coded.the-variants.Is c next → c ≤ 8201
-heap-code-most o p q = let (h, e, f) = coded-got heapCodeKept o p q in let m = abstract-most h in omega arith
+heap-code-most o p q = let (h, e, f) = coded-got heapCodeKept o p q in let m = heap-code-bound h in omega arith
 
 -- referent_at
 

@@ -6,8 +6,9 @@ use number::Integer;
 use number::Natural;
 ghost use mathlib.Core.Path.{_≡_};
 ghost use Rattle.scope.specs.Sections.{heapAt, valAt, flagAt, fieldAt, numberOf};
+ghost use Rattle.scope.specs.Memory.{flag};
 ghost use Rattle.table.specs.Kept.{kept};
-ghost use Rattle.valtypes.specs.Codes.{codedIs, heapCodeKept, valCodeKept, exactAt, definedAt, numberIs, referentAt, referenceAt};
+ghost use Rattle.valtypes.specs.Codes.{codedIs, heapCodeKept, valCodeKept, fieldCodeKept, exactAt, definedAt, numberIs, referentAt, referenceAt};
 
 // A type's code and the place after its bytes; or a refusal's number and place.
 pub enum Coded {
@@ -124,4 +125,35 @@ pub fn val_at(s: &[u8], at: usize) -> Coded
         return reference_at(s, at, b, at + 1);
     };
     Coded::Is(n, at + 1)
+}
+
+// 00 fixed or 01 mutable, as 0 or 1.
+fn flag_at(s: &[u8], at: usize) -> Coded
+    ensures { λ r. ⌜ r ≡ codedIs flag (flagAt (now (s .entry)) at) ⌝ }
+{
+    let first = number::byte_at(s, at);
+    let Byte::Is(b) = first else {
+        return Coded::Refused(1, at);
+    };
+    if b == 0 {
+        return Coded::Is(0, at + 1);
+    }
+    if b == 1 {
+        return Coded::Is(1, at + 1);
+    }
+    Coded::Refused(3, at)
+}
+
+pub fn field_at(s: &[u8], at: usize) -> Coded
+    ensures { λ r. ⌜ r ≡ codedIs fieldCodeKept (fieldAt (now (s .entry)) at) ⌝ }
+{
+    let holds = val_at(s, at);
+    let Coded::Is(code, next) = holds else {
+        return holds;
+    };
+    let mutable = flag_at(s, next);
+    let Coded::Is(bit, end) = mutable else {
+        return mutable;
+    };
+    Coded::Is(2 * code + bit, end)
 }
