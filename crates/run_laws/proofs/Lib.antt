@@ -1,0 +1,10 @@
+pub mod Budgets
+pub mod LargerBudget
+pub mod Straight
+pub mod Steps
+pub mod Allocations
+pub mod Verdicts
+pub mod AcceptedCode
+pub mod Loopless
+pub mod Trials
+pub mod Laws
