@@ -1,0 +1,10 @@
+pub mod Ruled
+pub mod Premises
+pub mod Planned
+pub mod Derived
+pub mod Stack
+pub mod Steps
+pub mod Bytes
+pub mod Verdict
+pub mod Main
+pub mod Examples
