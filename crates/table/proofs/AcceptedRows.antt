@@ -2,12 +2,12 @@
 -- their last word only, a further supertype or how many there are, and both are 0 where there is at most one supertype.
 use Prim.Native.Nat.{ℕ, _+_, _-_, _≤_}
 use native.Mathlib.Omega.{arith}
-use mathlib.Core.Path.{_≡_, refl, ap, ap₂, _∙_}
+use mathlib.Core.Path.{_≡_, refl, ap, ap₂}
 use mathlib.Core.List.{List, [], _∷_, _++_}
 use lib.ListN.{length}
 use Rattle.scope.specs.Syntax.{Definition, typesOf}
 use Rattle.scope.specs.Memory.{formCodes, orZero, rowWords, rowsFrom, tableRows, tableCodes}
-use Rattle.scope.specs.Judging.{Judged, accepted, judgeTypes}
+use Rattle.scope.specs.Judging.{accepted, judgeTypes}
 use Rattle.table.specs.View.{furtherOf, row, rowsOf, codesOf}
 use Rattle.table.proofs.Supers.{SupersAtMost, first-few, later-few, accepted-few}
 

@@ -1,5 +1,9 @@
 pub mod AcceptedRows
 pub mod Codes
+pub mod KeptReach
+pub mod KeptVerdict
 pub mod Puts
+pub mod Rows
 pub mod Supers
+pub mod TableVerdict
 pub mod Viewed

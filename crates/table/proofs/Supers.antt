@@ -9,7 +9,7 @@ use lib.ListN.{length}
 use Rattle.scope.specs.Lists.{asList}
 use Rattle.scope.specs.Syntax.{Definition, Types, typesOf, firstOf}
 use Rattle.scope.specs.TypeRules.{oneSuper, superEarlierAndOpen}
-use Rattle.scope.specs.Judging.{Judged, accepted, judgeTypes}
+use Rattle.scope.specs.Judging.{accepted, judgeTypes}
 use Rattle.scope.proofs.Accepted.{judged-kept}
 use Rattle.table.specs.Kept.{keptSupers, keptDefinition}
 use Rattle.table.specs.View.{furtherOf}

@@ -16,6 +16,7 @@ use Rattle.scope.specs.Syntax.{Form, struct, func, Definition, typesOf, blank, 
 use Rattle.scope.specs.Memory.{valCode, fieldCode, formCodes, formWords, flag, orZero}
 use Rattle.table.specs.View.{linkAt, codesAt, valAtCode, fieldAtCode, formAtWords, rowSize, wordOf, view, furtherOf, row, rowsOf, codesOf}
 use Rattle.table.proofs.Codes.{val-code, field-code}
+use Rattle.table.proofs.Rows.{row-length}
 use Rattle.table.proofs.Supers.{SupersAtMost, first-few, later-few, two-links}
 
 -- codes
@@ -60,14 +61,6 @@ form-word (struct fs) ws k = getD-append-add (1 ∷ length fs ∷ 0 ∷ []) ws k
 form-word (func ps rs) ws k = getD-append-add (2 ∷ length ps ∷ length rs ∷ []) ws k 0
 
 -- rows
-
-form-length : (f : Form) → length (formWords f) ≡ 3
-form-length (struct fs) = refl
-form-length (func ps rs) = refl
-
-row-length : (first : ℕ) (d : Definition) → length (row first d) ≡ rowSize
-unfolding row
-row-length first d = length-append (formWords (d .form)) _ ∙ ap (λ n. n + 9) (form-length (d .form))
 
 row-view : (d : Definition) (rest pre post : List ℕ) (first : ℕ) → length pre ≡ first → length (d .supers) ≤ 2
     → view (row first d ++ rest) (pre ++ (formCodes (d .form) ++ post)) 0 ≡ d
