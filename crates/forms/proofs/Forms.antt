@@ -210,7 +210,7 @@ few-counted {A} {one} t s at = go (unsigned-takes 32 .takes s at)
     go stops = uncounted
     go (reaches {x = n} {next = next} a b) = earlier a (entries-counted t mostEach n s next)
 
-few-ahead : {A : Type 0} {one : Reader A} → Takes one → (s : List ℕ) (at : ℕ) {xs : List A} {next : ℕ} → fewAt one s at ≡ got xs next → at + length xs ≤ next
+pub few-ahead : {A : Type 0} {one : Reader A} → Takes one → (s : List ℕ) (at : ℕ) {xs : List A} {next : ℕ} → fewAt one s at ≡ got xs next → at + length xs ≤ next
 few-ahead {A} {one} t s at {xs} {next} e = go (few-counted t s at) e
   where
     go : {o : Read (List A)} → Counted at o → o ≡ got xs next → at + length xs ≤ next

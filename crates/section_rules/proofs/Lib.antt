@@ -1,0 +1,16 @@
+pub mod Tests
+pub mod Named
+pub mod Rules
+pub mod Judge
+pub mod Between
+pub mod Readers
+pub mod NumberReading
+pub mod ValueReading
+pub mod ListReading
+pub mod DefinitionReading
+pub mod SectionReading
+pub mod Verdict
+pub mod Exactly
+pub mod FaultOrder
+pub mod UnequalForms
+pub mod FirstFaults

@@ -1,0 +1,232 @@
+-- Sections with two faults, one list in document 01's order: the earlier fault is the one that is said. Beside each
+-- stands the same section with that fault mended, which is then refused for the later one: so both were there.
+use Prim.Native.Nat.{ℕ, zero, suc}
+use mathlib.Core.Bool.{Bool, false, _&&_}
+use mathlib.Core.List.{List, [], _∷_, _++_}
+use lib.ListN.{replicate}
+use lib.Dec.{eqb}
+use Rattle.scope.specs.Refusals.{bytesEnd, badNumber, notListed, oversize, leftOver, outOfReach, badSupertype, noMatch, clauseNotOnStruct, describesNotEarlier, clausesDisagree, badDescriptor, badDescribes}
+use Rattle.scope.specs.Lists.{someOf, joined}
+use Rattle.scope.specs.Judging.{Judged, accepted, rejected, judgeSection}
+
+-- a refusal's number and place
+pub record Fault : Type 0 where
+  pub number : ℕ
+  pub place : ℕ
+
+pub record Case : Type 0 where
+  pub bytes : List ℕ
+  pub said : Fault
+  pub mended : List ℕ
+  pub saidThen : Fault
+
+abbrev pub refusedFor : {A : Type 0} → Fault → Judged A → Bool
+refusedFor f (accepted x) = false
+refusedFor f (rejected n p) = eqb n (f .number) && eqb p (f .place)
+
+abbrev pub firstSaid : Case → Bool
+firstSaid c = refusedFor (c .said) (judgeSection (c .bytes)) && refusedFor (c .saidThen) (judgeSection (c .mended))
+
+-- pieces of sections
+
+abbrev pub times : ℕ → List ℕ → List ℕ
+times n piece = joined (replicate n piece)
+
+-- a final struct without fields; an open one
+abbrev pub plain : List ℕ
+plain = 0x5F ∷ 0x00 ∷ []
+
+abbrev pub root : List ℕ
+root = 0x50 ∷ 0x00 ∷ 0x5F ∷ 0x00 ∷ []
+
+-- types 1 to n, open, each below the one before it
+abbrev pub below : ℕ → List ℕ
+below zero = []
+below (suc n) = below n ++ (0x50 ∷ 0x01 ∷ n ∷ 0x5F ∷ 0x00 ∷ [])
+
+-- type 0 with descriptor 1, open; type 1 describes it
+abbrev pub described : List ℕ
+described = 0x50 ∷ 0x00 ∷ 0x4D ∷ 0x01 ∷ 0x5F ∷ 0x00 ∷ 0x50 ∷ 0x00 ∷ 0x4C ∷ 0x00 ∷ 0x5F ∷ 0x00 ∷ []
+
+-- The whole size, then the bytes in the order in which they stand, then the rules
+
+abbrev pub byteCases : List Case
+byteCases =
+    -- the whole size before bytes left over
+    record {
+      bytes = replicate 32_769 0x00;
+      said = record { number = oversize; place = 0 };
+      mended = replicate 32_768 0x00;
+      saidThen = record { number = leftOver; place = 1 };
+    }
+    -- a count out of range before a group that is missing
+    ∷ record {
+      bytes = 0x80 ∷ 0x80 ∷ 0x80 ∷ 0x80 ∷ 0x10 ∷ [];
+      said = record { number = badNumber; place = 0 };
+      mended = 0x01 ∷ [];
+      saidThen = record { number = bytesEnd; place = 1 };
+    }
+    -- a byte that is not listed before a number that is too long
+    ∷ record {
+      bytes = 0x02 ∷ 0x61 ∷ 0x5F ∷ 0x80 ∷ 0x80 ∷ 0x80 ∷ 0x80 ∷ 0x80 ∷ [];
+      said = record { number = notListed; place = 1 };
+      mended = 0x02 ∷ 0x5F ∷ 0x00 ∷ 0x5F ∷ 0x80 ∷ 0x80 ∷ 0x80 ∷ 0x80 ∷ 0x80 ∷ [];
+      saidThen = record { number = badNumber; place = 4 };
+    }
+    -- a number out of range before that it is negative
+    ∷ record {
+      bytes = 0x01 ∷ 0x5F ∷ 0x01 ∷ 0x63 ∷ 0x80 ∷ 0x80 ∷ 0x80 ∷ 0x80 ∷ 0x60 ∷ 0x00 ∷ [];
+      said = record { number = badNumber; place = 4 };
+      mended = 0x01 ∷ 0x5F ∷ 0x01 ∷ 0x63 ∷ 0x80 ∷ 0x80 ∷ 0x80 ∷ 0x80 ∷ 0x70 ∷ 0x00 ∷ [];
+      saidThen = record { number = notListed; place = 4 };
+    }
+    -- a byte that is not listed before bytes left over
+    ∷ record {
+      bytes = 0x01 ∷ 0x61 ∷ 0x00 ∷ 0x00 ∷ [];
+      said = record { number = notListed; place = 1 };
+      mended = 0x01 ∷ 0x5F ∷ 0x00 ∷ 0x00 ∷ [];
+      saidThen = record { number = leftOver; place = 3 };
+    }
+    -- the 65th field before that it is missing
+    ∷ record {
+      bytes = (0x01 ∷ 0x5F ∷ 0x41 ∷ []) ++ times 64 (0x7F ∷ 0x00 ∷ []);
+      said = record { number = oversize; place = 131 };
+      mended = (0x01 ∷ 0x5F ∷ 0x40 ∷ []) ++ times 63 (0x7F ∷ 0x00 ∷ []);
+      saidThen = record { number = bytesEnd; place = 129 };
+    }
+    -- the 65th field before its own first byte, which is not listed
+    ∷ record {
+      bytes = (0x01 ∷ 0x5F ∷ 0x41 ∷ []) ++ times 64 (0x7F ∷ 0x00 ∷ []) ++ (0x77 ∷ 0x00 ∷ []);
+      said = record { number = oversize; place = 131 };
+      mended = (0x01 ∷ 0x5F ∷ 0x40 ∷ []) ++ times 63 (0x7F ∷ 0x00 ∷ []) ++ (0x77 ∷ 0x00 ∷ []);
+      saidThen = record { number = notListed; place = 129 };
+    }
+    -- the 257th type before a number out of reach in the first
+    ∷ record {
+      bytes = (0x81 ∷ 0x02 ∷ 0x4C ∷ 0x09 ∷ []) ++ times 257 plain;
+      said = record { number = oversize; place = 516 };
+      mended = (0x80 ∷ 0x02 ∷ 0x4C ∷ 0x09 ∷ []) ++ times 256 plain;
+      saidThen = record { number = outOfReach; place = 0 };
+    }
+    -- bytes that end, and bytes left over, before a number out of reach
+    ∷ record {
+      bytes = 0x02 ∷ 0x5F ∷ 0x01 ∷ 0x63 ∷ 0x05 ∷ 0x00 ∷ [];
+      said = record { number = bytesEnd; place = 6 };
+      mended = 0x01 ∷ 0x5F ∷ 0x01 ∷ 0x63 ∷ 0x05 ∷ 0x00 ∷ [];
+      saidThen = record { number = outOfReach; place = 0 };
+    }
+    ∷ record {
+      bytes = 0x01 ∷ 0x5F ∷ 0x01 ∷ 0x63 ∷ 0x05 ∷ 0x00 ∷ 0x00 ∷ [];
+      said = record { number = leftOver; place = 6 };
+      mended = 0x01 ∷ 0x5F ∷ 0x01 ∷ 0x63 ∷ 0x05 ∷ 0x00 ∷ [];
+      saidThen = record { number = outOfReach; place = 0 };
+    }
+    ∷ []
+
+-- Type by type, 6, 7 and the chain; all of these before any 8 to 13
+
+abbrev pub linkCases : List Case
+linkCases =
+    -- in one type: a number out of reach before two supertypes
+    record {
+      bytes = (0x03 ∷ []) ++ root ++ root ++ (0x4F ∷ 0x02 ∷ 0x00 ∷ 0x09 ∷ 0x5F ∷ 0x00 ∷ []);
+      said = record { number = outOfReach; place = 2 };
+      mended = (0x03 ∷ []) ++ root ++ root ++ (0x4F ∷ 0x02 ∷ 0x00 ∷ 0x01 ∷ 0x5F ∷ 0x00 ∷ []);
+      saidThen = record { number = badSupertype; place = 2 };
+    }
+    -- in one type: two supertypes before a chain of 64 steps
+    ∷ record {
+      bytes = (0x41 ∷ []) ++ root ++ below 63 ++ (0x50 ∷ 0x02 ∷ 63 ∷ 63 ∷ 0x5F ∷ 0x00 ∷ []);
+      said = record { number = badSupertype; place = 64 };
+      mended = (0x41 ∷ []) ++ root ++ below 64;
+      saidThen = record { number = oversize; place = 64 };
+    }
+    -- type by type: a supertype that is not earlier, before a later type's number out of reach
+    ∷ record {
+      bytes = 0x02 ∷ 0x4F ∷ 0x01 ∷ 0x00 ∷ 0x5F ∷ 0x00 ∷ 0x4C ∷ 0x09 ∷ 0x5F ∷ 0x00 ∷ [];
+      said = record { number = badSupertype; place = 0 };
+      mended = 0x02 ∷ 0x5F ∷ 0x00 ∷ 0x4C ∷ 0x09 ∷ 0x5F ∷ 0x00 ∷ [];
+      saidThen = record { number = outOfReach; place = 1 };
+    }
+    -- type by type: a chain of 64 steps before a later type's number out of reach
+    ∷ record {
+      bytes = (0x42 ∷ []) ++ root ++ below 64 ++ (0x4C ∷ 0xC2 ∷ 0x00 ∷ 0x5F ∷ 0x00 ∷ []);
+      said = record { number = oversize; place = 64 };
+      mended = (0x41 ∷ []) ++ root ++ below 63 ++ (0x4C ∷ 0xC2 ∷ 0x00 ∷ 0x5F ∷ 0x00 ∷ []);
+      saidThen = record { number = outOfReach; place = 64 };
+    }
+    -- a final supertype before an earlier type's missing field
+    ∷ record {
+      bytes = 0x03 ∷ 0x50 ∷ 0x00 ∷ 0x5F ∷ 0x01 ∷ 0x7F ∷ 0x00 ∷ 0x4F ∷ 0x01 ∷ 0x00 ∷ 0x5F ∷ 0x00 ∷ 0x4F ∷ 0x01 ∷ 0x01 ∷ 0x5F ∷ 0x00 ∷ [];
+      said = record { number = badSupertype; place = 2 };
+      mended = 0x03 ∷ 0x50 ∷ 0x00 ∷ 0x5F ∷ 0x01 ∷ 0x7F ∷ 0x00 ∷ 0x4F ∷ 0x01 ∷ 0x00 ∷ 0x5F ∷ 0x00 ∷ 0x5F ∷ 0x00 ∷ [];
+      saidThen = record { number = noMatch; place = 1 };
+    }
+    -- a chain of 64 steps before an earlier type's missing field
+    ∷ record {
+      bytes = (0x41 ∷ 0x50 ∷ 0x00 ∷ 0x5F ∷ 0x01 ∷ 0x7F ∷ 0x00 ∷ []) ++ below 64;
+      said = record { number = oversize; place = 64 };
+      mended = (0x40 ∷ 0x50 ∷ 0x00 ∷ 0x5F ∷ 0x01 ∷ 0x7F ∷ 0x00 ∷ []) ++ below 63;
+      saidThen = record { number = noMatch; place = 1 };
+    }
+    ∷ []
+
+-- Type by type again, 8 to 13 in rising number
+
+abbrev pub ruleCases : List Case
+ruleCases =
+    -- a function below a struct, before its clause
+    record {
+      bytes = (0x02 ∷ []) ++ root ++ (0x4F ∷ 0x01 ∷ 0x00 ∷ 0x4C ∷ 0x00 ∷ 0x60 ∷ 0x00 ∷ 0x00 ∷ []);
+      said = record { number = noMatch; place = 1 };
+      mended = (0x02 ∷ []) ++ root ++ (0x4C ∷ 0x00 ∷ 0x60 ∷ 0x00 ∷ 0x00 ∷ []);
+      saidThen = record { number = clauseNotOnStruct; place = 1 };
+    }
+    -- a function's clause, before what it names, which is itself
+    ∷ record {
+      bytes = 0x01 ∷ 0x4C ∷ 0x00 ∷ 0x60 ∷ 0x00 ∷ 0x00 ∷ [];
+      said = record { number = clauseNotOnStruct; place = 0 };
+      mended = 0x01 ∷ 0x4C ∷ 0x00 ∷ 0x5F ∷ 0x00 ∷ [];
+      saidThen = record { number = describesNotEarlier; place = 0 };
+    }
+    -- describes itself, before that it has no descriptor
+    ∷ record {
+      bytes = (0x02 ∷ []) ++ plain ++ (0x4C ∷ 0x01 ∷ 0x5F ∷ 0x00 ∷ []);
+      said = record { number = describesNotEarlier; place = 1 };
+      mended = (0x02 ∷ []) ++ plain ++ (0x4C ∷ 0x00 ∷ 0x5F ∷ 0x00 ∷ []);
+      saidThen = record { number = clausesDisagree; place = 1 };
+    }
+    -- a descriptor that describes nothing, before that it is not below the supertype's descriptor
+    ∷ record {
+      bytes = (0x01 ∷ 0x4E ∷ 0x04 ∷ []) ++ described ++ (0x4F ∷ 0x01 ∷ 0x00 ∷ 0x4D ∷ 0x03 ∷ 0x5F ∷ 0x00 ∷ []) ++ plain;
+      said = record { number = clausesDisagree; place = 2 };
+      mended = (0x01 ∷ 0x4E ∷ 0x04 ∷ []) ++ described ++ (0x4F ∷ 0x01 ∷ 0x00 ∷ 0x4D ∷ 0x03 ∷ 0x5F ∷ 0x00 ∷ []) ++ (0x4C ∷ 0x02 ∷ []) ++ plain;
+      saidThen = record { number = badDescriptor; place = 2 };
+    }
+    -- below a type that describes and has a descriptor: no descriptor, before that it describes nothing
+    ∷ record {
+      bytes = (0x02 ∷ 0x4E ∷ 0x03 ∷ 0x50 ∷ 0x00 ∷ 0x4D ∷ 0x01 ∷ 0x5F ∷ 0x00 ∷ 0x50 ∷ 0x00 ∷ 0x4C ∷ 0x00 ∷ 0x4D ∷ 0x02 ∷ 0x5F ∷ 0x00 ∷ [])
+          ++ (0x50 ∷ 0x00 ∷ 0x4C ∷ 0x01 ∷ 0x5F ∷ 0x00 ∷ 0x4F ∷ 0x01 ∷ 0x01 ∷ 0x5F ∷ 0x00 ∷ []);
+      said = record { number = badDescriptor; place = 3 };
+      mended = (0x02 ∷ 0x4E ∷ 0x02 ∷ []) ++ described ++ (0x4F ∷ 0x01 ∷ 0x01 ∷ 0x5F ∷ 0x00 ∷ []);
+      saidThen = record { number = badDescribes; place = 2 };
+    }
+    -- type by type: rule 5 before a later type's rule 2
+    ∷ record {
+      bytes = (0x03 ∷ 0x4E ∷ 0x02 ∷ []) ++ described ++ (0x4F ∷ 0x01 ∷ 0x01 ∷ 0x5F ∷ 0x00 ∷ 0x4F ∷ 0x01 ∷ 0x00 ∷ 0x60 ∷ 0x00 ∷ 0x00 ∷ []);
+      said = record { number = badDescribes; place = 2 };
+      mended = (0x03 ∷ 0x4E ∷ 0x02 ∷ []) ++ described ++ (0x5F ∷ 0x00 ∷ 0x4F ∷ 0x01 ∷ 0x00 ∷ 0x60 ∷ 0x00 ∷ 0x00 ∷ []);
+      saidThen = record { number = noMatch; place = 3 };
+    }
+    ∷ []
+
+abbrev pub cases : List Case
+cases = byteCases ++ linkCases ++ ruleCases
+
+-- the refusals of a section
+abbrev pub thirteen : List ℕ
+thirteen = 1 ∷ 2 ∷ 3 ∷ 4 ∷ 5 ∷ 6 ∷ 7 ∷ 8 ∷ 9 ∷ 10 ∷ 11 ∷ 12 ∷ 13 ∷ []
+
+-- this number is said in some case, though a later fault is there
+abbrev pub saidFirst : ℕ → Bool
+saidFirst n = someOf (λ c. eqb (c .said .number) n) cases
