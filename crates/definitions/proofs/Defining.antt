@@ -16,6 +16,7 @@ use Rattle.table.specs.Kept.{keptOption, keptForm, keptDefinition}
 use Rattle.table.specs.View.{row}
 use Rattle.table.proofs.Puts.{Puts}
 use Rattle.forms.specs.Reads.{Room}
+use Rattle.forms.proofs.Ahead.{form-ahead}
 use Rattle.fronts.specs.declared.Front.{Front}
 use Rattle.fronts.specs.declared.Front
 use Rattle.fronts.specs.Links.{firstOfKept, furtherOfKept, Clauses, clausesAt, FrontOf, frontAt, frontIs}
@@ -147,3 +148,30 @@ module _ (s : List ℕ) (at : ℕ) {r : Front} (a : r ≡ frontIs (frontAt s at)
     definition-got b = let (x, read, same) = front-got (frontAt s at) a is in definition-read x read same b
 
 pub ruleset definition-exits = (definition-refused, form-place, definition-got)
+
+-- a definition's codes took a byte each
+pub definition-ahead : (reach : ℕ) (s : List ℕ) (at : ℕ) {y : Definition} {end : ℕ} → definitionAt reach s at ≡ got y end → at + length (formCodes (keptForm (y .form))) < end
+definition-ahead reach s at {y} {end} e = go (frontAt s at) refl (sym (definition-is reach s at) ∙ e)
+  where
+    more : (x : FrontOf) (n : ℕ) → at ≤ n → (o : Read Form) → formAt s n ≡ o → then o (λ f stop. got (defined x f at stop reach) stop) ≡ got y end → at + length (formCodes (keptForm (y .form))) < end
+    more x n h (refused k p) u q = absurd (let z : _≡_ {A = ℕ} 0 1 = cc in omega arith)
+    more x n h (got f stop) u q =
+        let same : defined x f at stop reach ≡ y = cc in
+        let there : stop ≡ end = cc in
+        let long : length (formCodes (keptForm f)) ≡ length (formCodes (keptForm (y .form))) = ap (λ (d : Definition). length (formCodes (keptForm (d .form)))) same in
+        let k = form-ahead s n u in
+        omega arith
+
+    go : (o : Read FrontOf) → frontAt s at ≡ o → then o (λ x form. then (formAt s form) (λ f stop. got (defined x f at stop reach) stop)) ≡ got y end → at + length (formCodes (keptForm (y .form))) < end
+    go (refused k p) u q = absurd (let z : _≡_ {A = ℕ} 0 1 = cc in omega arith)
+    go (got x n) u q = more x n (front-inside s at u .0) (formAt s n) refl q
+
+-- the answer, taken apart
+
+pub definition-inv : (used : ℕ) (o : Read Definition) {r : DefinitionRead} {next more : ℕ} → r ≡ definitionIs used o → r ≡ DefinitionRead.the-variants.Got next more → (d : Definition) × (o ≡ got d next) × (more ≡ used + length (formCodes (keptForm (d .form))))
+definition-inv used (got d m) {next = next} p q = let e : m ≡ next = cc in (d, ap (got d) e, cc)
+definition-inv used (refused k m) p q = absurd (let z : _≡_ {A = ℕ} 0 1 = cc in omega arith)
+
+pub definition-refused-inv : (used : ℕ) (o : Read Definition) {r : DefinitionRead} {k place : ℕ} → r ≡ definitionIs used o → r ≡ DefinitionRead.the-variants.Refused k place → o ≡ refused k place
+definition-refused-inv used (got d m) p q = absurd (let z : _≡_ {A = ℕ} 0 1 = cc in omega arith)
+definition-refused-inv used (refused n m) p q = cc

@@ -57,7 +57,7 @@ code-most false s at {c} {next} e = let h = val-code-most (valAt s at) refl (cod
 -- the loop
 
 -- what is done, put before what follows
-abbrev pub onto : List ℕ → Read (List ℕ) → Read (List ℕ)
+abbrev pub onto : {A : Type 0} → List A → Read (List A) → Read (List A)
 onto done (got xs stop) = got (done ++ xs) stop
 onto done (refused n p) = refused n p
 
@@ -71,34 +71,34 @@ pub record Listed (fields : Bool) (n : ℕ) (s : List ℕ) (at : ℕ) (codes₀ 
   pub ahead : at + count ≤ next
   pub inside : next ≤ length s
 
-pub onto-none : (o : Read (List ℕ)) → o ≡ onto [] o
+pub onto-none : {A : Type 0} (o : Read (List A)) → o ≡ onto [] o
 onto-none (got xs stop) = refl
 onto-none (refused n p) = refl
 
-pub onto-more : (done : List ℕ) (x : ℕ) (o : Read (List ℕ)) → onto done (then o (λ xs stop. got (x ∷ xs) stop)) ≡ onto (done ++ x ∷ []) o
+pub onto-more : {A : Type 0} (done : List A) (x : A) (o : Read (List A)) → onto done (then o (λ xs stop. got (x ∷ xs) stop)) ≡ onto (done ++ x ∷ []) o
 onto-more done x (got xs stop) = simp append-assoc
 onto-more done x (refused n p) = refl
 
-pub entries-step : (one : Reader ℕ) (room n : ℕ) (s : List ℕ) (at : ℕ) {x next : ℕ} → 0 < room → 0 < n → one s at ≡ got x next → entries one room n s at ≡ then (entries one (room - 1) (n - 1) s next) (λ xs stop. got (x ∷ xs) stop)
+pub entries-step : {A : Type 0} (one : Reader A) (room n : ℕ) (s : List ℕ) (at : ℕ) {x : A} {next : ℕ} → 0 < room → 0 < n → one s at ≡ got x next → entries one room n s at ≡ then (entries one (room - 1) (n - 1) s next) (λ xs stop. got (x ∷ xs) stop)
 unfolding entries
 entries-step one zero n s at p q e = absurd (omega arith)
 entries-step one (suc room) zero s at p q e = absurd (omega arith)
 entries-step one (suc room) (suc n) s at p q e =
     let a : suc room - 1 ≡ room = omega arith in let b : suc n - 1 ≡ n = omega arith in rw (e, a, b)
 
-pub entries-refused : (one : Reader ℕ) (room n : ℕ) (s : List ℕ) (at : ℕ) {k place : ℕ} → 0 < room → 0 < n → one s at ≡ refused k place → entries one room n s at ≡ refused k place
+pub entries-refused : {A : Type 0} (one : Reader A) (room n : ℕ) (s : List ℕ) (at : ℕ) {k place : ℕ} → 0 < room → 0 < n → one s at ≡ refused k place → entries one room n s at ≡ refused k place
 unfolding entries
 entries-refused one zero n s at p q e = absurd (omega arith)
 entries-refused one (suc room) zero s at p q e = absurd (omega arith)
 entries-refused one (suc room) (suc n) s at p q e = rw e
 
-entries-over : (one : Reader ℕ) (room n : ℕ) (s : List ℕ) (at : ℕ) → room ≤ 0 → 0 < n → entries one room n s at ≡ refused 4 at
+pub entries-over : {A : Type 0} (one : Reader A) (room n : ℕ) (s : List ℕ) (at : ℕ) → room ≤ 0 → 0 < n → entries one room n s at ≡ refused 4 at
 unfolding entries
 entries-over one zero zero s at p q = absurd (omega arith)
 entries-over one zero (suc n) s at p q = refl
 entries-over one (suc room) n s at p q = absurd (omega arith)
 
-pub entries-done : (one : Reader ℕ) (room n : ℕ) (s : List ℕ) (at : ℕ) → n ≤ 0 → entries one room n s at ≡ got [] at
+pub entries-done : {A : Type 0} (one : Reader A) (room n : ℕ) (s : List ℕ) (at : ℕ) → n ≤ 0 → entries one room n s at ≡ got [] at
 unfolding entries
 entries-done one room zero s at q = refl
 entries-done one room (suc n) s at q = absurd (omega arith)

@@ -1,0 +1,49 @@
+// Reading groups and the whole section into the lent table. While a group is read, it is lent only the rest of the table
+// from its first row on.
+use definitions::DefinitionRead;
+use number::Byte;
+use number::Natural;
+ghost use Rattle.groups.specs.Lent.{Lent, GroupPut, entriesAt};
+
+// How many definitions were read, the place after them and the codes that are used then; or a refusal.
+pub enum GroupRead {
+    Got(u64, usize, u64),
+    Refused(u64, usize),
+}
+
+// n definitions of a group that reaches so far and whose first type has the number `first`. `rows` starts at the group's
+// first row.
+fn entries_at(
+    s: &[u8],
+    at: usize,
+    n: u64,
+    reach: u64,
+    first: u64,
+    rows: &mut [u16],
+    codes: &mut [u16],
+    used: u64,
+) -> GroupRead
+    requires { ⌜ Lent (now s) (now rows) (now codes) at first used ⌝ }
+    ensures { λ r. ⌜ GroupPut (entriesAt reach first n) (now (s .entry)) at (now (rows .entry)) (now (rows .exit)) (now (codes .entry)) (now (codes .exit)) used r ⌝ }
+{
+    let mut next = at;
+    let mut count: u64 = 0;
+    let mut taken = used;
+    while count < n {
+        if 256 <= first + count {
+            return GroupRead::Refused(4, next);
+        }
+        let read = definitions::definition_at(s, next, reach, rows, 12 * count, codes, taken);
+        match read {
+            DefinitionRead::Refused(number, place) => {
+                return GroupRead::Refused(number, place);
+            }
+            DefinitionRead::Got(after, more) => {
+                next = after;
+                taken = more;
+                count = count + 1;
+            }
+        }
+    }
+    GroupRead::Got(count, next, taken)
+}
