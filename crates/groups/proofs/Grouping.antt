@@ -56,11 +56,11 @@ grouped-first {s} {rows} {codes} {at} {first} {used} reach n lent =
       room = lent .room;
     }
 
-one-row : (used : ℕ) (d : Definition) → rowsOf used (keptDefinition d ∷ []) ≡ row used (keptDefinition d)
+pub one-row : (used : ℕ) (d : Definition) → rowsOf used (keptDefinition d ∷ []) ≡ row used (keptDefinition d)
 unfolding rowsOf
 one-row used d = append-nil (row used (keptDefinition d))
 
-one-codes : (d : Definition) → codesOf (keptDefinition d ∷ []) ≡ formCodes (keptForm (d .form))
+pub one-codes : (d : Definition) → codesOf (keptDefinition d ∷ []) ≡ formCodes (keptForm (d .form))
 unfolding codesOf keptDefinition
 one-codes d = append-nil (formCodes (keptForm (d .form)))
 

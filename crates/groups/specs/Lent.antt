@@ -1,10 +1,14 @@
 -- What the readers of groups and of the section answer and leave in the table, by the definitions of document 01.
 use Prim.Native.Nat.{ℕ, _+_, _-_, _*_, _^_, _≤_, _<_}
 use mathlib.Core.Path.{_≡_}
+use mathlib.Core.Bool.{cond}
+use lib.Dec.{ltb}
 use mathlib.Core.List.{List, [], _∷_, map}
 use lib.ListN.{length}
 use Rattle.scope.specs.Sizes.{mostTypes}
-use Rattle.scope.specs.Reading.{Read, got, refused, Reader, entries}
+use Rattle.scope.specs.Refusals.{oversize}
+use Rattle.scope.specs.Reading.{Read, got, refused, Reader, then, entries}
+use Rattle.scope.specs.Numbers.{u32}
 use Rattle.scope.specs.Syntax.{Definition, Group}
 use Rattle.scope.specs.Sections.{definitionAt}
 use Rattle.table.specs.Kept.{keptDefinition}
@@ -24,6 +28,13 @@ pub record Lent (s rows codes : List ℕ) (at first used : ℕ) : Type 0 where
 -- n definitions of a group that reaches so far and whose first type has the number `first`
 abbrev pub entriesAt : ℕ → ℕ → ℕ → Reader (List Definition)
 entriesAt reach first n s at = entries (definitionAt reach) (mostTypes - first) n s at
+
+-- the two ways in which a group is written
+abbrev pub severalAt : ℕ → Reader (List Definition)
+severalAt first s at = then (u32 s at) (λ n next. entriesAt (first + n) first n s next)
+
+abbrev pub aloneAt : ℕ → Reader (List Definition)
+aloneAt first s at = cond (ltb first mostTypes) (then (definitionAt (first + 1) s at) (λ d next. got (d ∷ []) next)) (refused oversize at)
 
 abbrev pub keptAll : List Definition → List Definition
 keptAll ds = map keptDefinition ds

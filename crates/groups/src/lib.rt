@@ -3,7 +3,8 @@
 use definitions::DefinitionRead;
 use number::Byte;
 use number::Natural;
-ghost use Rattle.groups.specs.Lent.{Lent, GroupPut, entriesAt};
+ghost use Rattle.scope.specs.Sections.{groupAt};
+ghost use Rattle.groups.specs.Lent.{Lent, GroupPut, entriesAt, severalAt, aloneAt};
 
 // How many definitions were read, the place after them and the codes that are used then; or a refusal.
 pub enum GroupRead {
@@ -46,4 +47,46 @@ fn entries_at(
         }
     }
     GroupRead::Got(count, next, taken)
+}
+
+// 4E was read: a list of definitions.
+fn several_at(s: &[u8], at: usize, first: u64, rows: &mut [u16], codes: &mut [u16], used: u64) -> GroupRead
+    requires { ⌜ Lent (now s) (now rows) (now codes) at first used ⌝ }
+    ensures { λ r. ⌜ GroupPut (severalAt first) (now (s .entry)) at (now (rows .entry)) (now (rows .exit)) (now (codes .entry)) (now (codes .exit)) used r ⌝ }
+{
+    let counted = number::u32_at(s, at);
+    match counted {
+        Natural::Refused(number, place) => GroupRead::Refused(number, place),
+        Natural::Is(n, next) => entries_at(s, next, n, first + n, first, rows, codes, used),
+    }
+}
+
+// One definition alone, where there is a row for it.
+fn alone_at(s: &[u8], at: usize, first: u64, rows: &mut [u16], codes: &mut [u16], used: u64) -> GroupRead
+    requires { ⌜ Lent (now s) (now rows) (now codes) at first used ⌝ }
+    ensures { λ r. ⌜ GroupPut (aloneAt first) (now (s .entry)) at (now (rows .entry)) (now (rows .exit)) (now (codes .entry)) (now (codes .exit)) used r ⌝ }
+{
+    if 256 <= first {
+        return GroupRead::Refused(4, at);
+    }
+    let read = definitions::definition_at(s, at, first + 1, rows, 0, codes, used);
+    match read {
+        DefinitionRead::Refused(number, place) => GroupRead::Refused(number, place),
+        DefinitionRead::Got(next, taken) => GroupRead::Got(1, next, taken),
+    }
+}
+
+// A group: 4E and a list of definitions, or one definition alone.
+fn group_at(s: &[u8], at: usize, first: u64, rows: &mut [u16], codes: &mut [u16], used: u64) -> GroupRead
+    requires { ⌜ Lent (now s) (now rows) (now codes) at first used ⌝ }
+    ensures { λ r. ⌜ GroupPut (groupAt first) (now (s .entry)) at (now (rows .entry)) (now (rows .exit)) (now (codes .entry)) (now (codes .exit)) used r ⌝ }
+{
+    let form = number::byte_at(s, at);
+    let Byte::Is(b) = form else {
+        return GroupRead::Refused(1, at);
+    };
+    if b == 0x4E {
+        return several_at(s, at + 1, first, rows, codes, used);
+    }
+    alone_at(s, at, first, rows, codes, used)
 }
