@@ -16,7 +16,7 @@ use Rattle.scope.proofs.Forward.{definition-takes, never-back}
 use Rattle.table.specs.Kept.{keptForm, keptDefinition}
 use Rattle.table.specs.View.{row, rowsOf, codesOf}
 use Rattle.table.proofs.Puts.{Puts, puts-none, puts-more, puts-length}
-use Rattle.table.proofs.Rows.{rows-length, codes-append, rows-append}
+use Rattle.table.proofs.Growing.{rows-length, codes-append, rows-append}
 use Rattle.forms.specs.Reads.{Room}
 use Rattle.forms.proofs.Lists.{onto, onto-none, onto-more, entries-step, entries-refused, entries-over, entries-done}
 use Rattle.definitions.specs.declared.DefinitionRead.{DefinitionRead}

@@ -40,23 +40,23 @@ use Rattle.groups.proofs.Grouping.{one-row, one-codes}
 
 same-put : {one other : Reader (List Definition)} {s : List ℕ} {at from : ℕ} {rows rows′ codes codes′ : List ℕ} {used : ℕ} {r : GroupRead} → other s from ≡ one s at → GroupPut one s at rows rows′ codes codes′ used r → GroupPut other s from rows rows′ codes codes′ used r
 same-put {used = used} e p =
-    record
-      { answer = p .answer ∙ ap (groupIs used) (sym e)
-      ; rowsPut = λ ds next f. p .rowsPut ds next (sym e ∙ f)
-      ; codesPut = λ ds next f. p .codesPut ds next (sym e ∙ f)
-      ; rowsSize = p .rowsSize
-      ; codesSize = p .codesSize
-      }
+    record {
+      answer = p .answer ∙ ap (groupIs used) (sym e);
+      rowsPut = λ ds next f. p .rowsPut ds next (sym e ∙ f);
+      codesPut = λ ds next f. p .codesPut ds next (sym e ∙ f);
+      rowsSize = p .rowsSize;
+      codesSize = p .codesSize;
+    }
 
 no-put : (one : Reader (List Definition)) (s : List ℕ) (at : ℕ) {rows rows′ codes codes′ : List ℕ} (used : ℕ) {k place : ℕ} → length rows′ ≡ length rows → length codes′ ≡ length codes → one s at ≡ refused k place → GroupPut one s at rows rows′ codes codes′ used (GroupRead.the-variants.Refused k place)
 no-put one s at used a b e =
-    record
-      { answer = rw e
-      ; rowsPut = λ ds next f. absurd (let z : _≡_ {A = ℕ} 0 1 = cc in omega arith)
-      ; codesPut = λ ds next f. absurd (let z : _≡_ {A = ℕ} 0 1 = cc in omega arith)
-      ; rowsSize = a
-      ; codesSize = b
-      }
+    record {
+      answer = rw e;
+      rowsPut = λ ds next f. absurd (let z : _≡_ {A = ℕ} 0 1 = cc in omega arith);
+      codesPut = λ ds next f. absurd (let z : _≡_ {A = ℕ} 0 1 = cc in omega arith);
+      rowsSize = a;
+      codesSize = b;
+    }
 
 -- several_at
 
@@ -68,11 +68,11 @@ module _ (s : List ℕ) (at : ℕ) {c : Natural} (a : c ≡ naturalIs (u32 s at)
     pub several-lent : {rows codes : List ℕ} {first used : ℕ} → Lent s rows codes at first used → Lent s rows codes next first used
     several-lent lent =
         let ends = never-back (unsigned-takes 32) s at (natural-got (u32 s at) a e) in
-        record
-          { room = record { behind = omega (arith, lent .room .behind); inside = ends .1; enough = lent .room .enough; small = lent .room .small }
-          ; few = lent .few
-          ; lines = lent .lines
-          }
+        record {
+          room = record { behind = omega (arith, lent .room .behind); inside = ends .1; enough = lent .room .enough; small = lent .room .small };
+          few = lent .few;
+          lines = lent .lines;
+        }
 
     pub several-reach-fits : {rows codes : List ℕ} {first used : ℕ} → Lent s rows codes at first used → Fits w64 (first + n)
     several-reach-fits lent = let h = unsigned-small 32 s at (natural-got (u32 s at) a e) in record { fits = omega (arith, lent .few) }
@@ -104,13 +104,13 @@ module _ {s : List ℕ} {at first : ℕ} {rows rows′ codes codes′ : List ℕ
   alone-read : {next taken : ℕ} (d : Definition) → definitionAt (first + 1) s at ≡ got d next → taken ≡ used + length (formCodes (keptForm (d .form))) → GroupPut (aloneAt first) s at rows rows′ codes codes′ used (GroupRead.the-variants.Got 1 next taken)
   alone-read {next} {taken} d read count =
       let whole : aloneAt first s at ≡ got (d ∷ []) next = alone-is read in
-      record
-        { answer = rw (whole, one-codes d, count)
-        ; rowsPut = λ ds stop f. let same : d ∷ [] ≡ ds = cc in rw (← same, one-row used d) (a .rowPut d next read)
-        ; codesPut = λ ds stop f. let same : d ∷ [] ≡ ds = cc in rw (← same, one-codes d) (a .codesPut d next read)
-        ; rowsSize = a .rowsSize
-        ; codesSize = a .codesSize
-        }
+      record {
+        answer = rw (whole, one-codes d, count);
+        rowsPut = λ ds stop f. let same : d ∷ [] ≡ ds = cc in rw (← same, one-row used d) (a .rowPut d next read);
+        codesPut = λ ds stop f. let same : d ∷ [] ≡ ds = cc in rw (← same, one-codes d) (a .codesPut d next read);
+        rowsSize = a .rowsSize;
+        codesSize = a .codesSize;
+      }
 
   pub alone-got : {next taken : ℕ} → r ≡ DefinitionRead.the-variants.Got next taken → GroupPut (aloneAt first) s at rows rows′ codes codes′ used (GroupRead.the-variants.Got 1 next taken)
   alone-got e = let (d, read, count) = definition-inv used (definitionAt (first + 1) s at) (a .answer) e in alone-read d read count
@@ -128,11 +128,11 @@ module _ {s : List ℕ} {at : ℕ} {b : Byte} (a : ByteAt s at b) where
     pub group-lent : {rows codes : List ℕ} {first used : ℕ} → Lent s rows codes at first used → Lent s rows codes (at + 1) first used
     group-lent lent =
         let h = a .small k e .1 in
-        record
-          { room = record { behind = omega (arith, lent .room .behind); inside = omega arith; enough = lent .room .enough; small = lent .room .small }
-          ; few = lent .few
-          ; lines = lent .lines
-          }
+        record {
+          room = record { behind = omega (arith, lent .room .behind); inside = omega arith; enough = lent .room .enough; small = lent .room .small };
+          few = lent .few;
+          lines = lent .lines;
+        }
 
     pub group-several : (first : ℕ) {rows rows′ codes codes′ : List ℕ} {used : ℕ} {r : GroupRead} → k ≡ 0x4E → GroupPut (severalAt first) s (at + 1) rows rows′ codes codes′ used r → GroupPut (groupAt first) s at rows rows′ codes codes′ used r
     unfolding groupAt

@@ -50,7 +50,14 @@ fn entries_at(
 }
 
 // 4E was read: a list of definitions.
-fn several_at(s: &[u8], at: usize, first: u64, rows: &mut [u16], codes: &mut [u16], used: u64) -> GroupRead
+fn several_at(
+    s: &[u8],
+    at: usize,
+    first: u64,
+    rows: &mut [u16],
+    codes: &mut [u16],
+    used: u64,
+) -> GroupRead
     requires { ⌜ Lent (now s) (now rows) (now codes) at first used ⌝ }
     ensures { λ r. ⌜ GroupPut (severalAt first) (now (s .entry)) at (now (rows .entry)) (now (rows .exit)) (now (codes .entry)) (now (codes .exit)) used r ⌝ }
 {
@@ -62,7 +69,14 @@ fn several_at(s: &[u8], at: usize, first: u64, rows: &mut [u16], codes: &mut [u1
 }
 
 // One definition alone, where there is a row for it.
-fn alone_at(s: &[u8], at: usize, first: u64, rows: &mut [u16], codes: &mut [u16], used: u64) -> GroupRead
+fn alone_at(
+    s: &[u8],
+    at: usize,
+    first: u64,
+    rows: &mut [u16],
+    codes: &mut [u16],
+    used: u64,
+) -> GroupRead
     requires { ⌜ Lent (now s) (now rows) (now codes) at first used ⌝ }
     ensures { λ r. ⌜ GroupPut (aloneAt first) (now (s .entry)) at (now (rows .entry)) (now (rows .exit)) (now (codes .entry)) (now (codes .exit)) used r ⌝ }
 {
@@ -77,7 +91,14 @@ fn alone_at(s: &[u8], at: usize, first: u64, rows: &mut [u16], codes: &mut [u16]
 }
 
 // A group: 4E and a list of definitions, or one definition alone.
-fn group_at(s: &[u8], at: usize, first: u64, rows: &mut [u16], codes: &mut [u16], used: u64) -> GroupRead
+fn group_at(
+    s: &[u8],
+    at: usize,
+    first: u64,
+    rows: &mut [u16],
+    codes: &mut [u16],
+    used: u64,
+) -> GroupRead
     requires { ⌜ Lent (now s) (now rows) (now codes) at first used ⌝ }
     ensures { λ r. ⌜ GroupPut (groupAt first) (now (s .entry)) at (now (rows .entry)) (now (rows .exit)) (now (codes .entry)) (now (codes .exit)) used r ⌝ }
 {

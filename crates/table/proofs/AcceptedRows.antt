@@ -9,7 +9,7 @@ use Rattle.scope.specs.Syntax.{Definition, typesOf}
 use Rattle.scope.specs.Memory.{formCodes, orZero, rowWords, rowsFrom, tableRows, tableCodes}
 use Rattle.scope.specs.Judging.{accepted, judgeTypes}
 use Rattle.table.specs.View.{furtherOf, row, rowsOf, codesOf}
-use Rattle.table.proofs.Supers.{SupersAtMost, first-few, later-few, accepted-few}
+use Rattle.table.proofs.AtMost.{SupersAtMost, first-few, later-few, accepted-few}
 
 no-further : (supers : List ℕ) → length supers ≤ 1 → orZero (furtherOf supers) ≡ length supers - 1
 no-further [] h = refl

@@ -1,81 +1,88 @@
--- Reading a code back gives the type it is the code of. A code is a remainder on top of twice (or once) another code, so
--- each test of the reader is decided by the size or the parity of the code, and halving gives back what was doubled.
-use Prim.Native.Nat.{ℕ, _+_, _-_, _*_, _/_, _%_, _<_, _≤_}
+-- Each type has one code and each code is one type's: what a code is read as has that code again, and the other way. A
+-- code of a type number is even or odd as its type is exact or not, and half of it is the number.
+use Prim.Native.Nat.{ℕ, _+_, _-_, _*_, _/_, _%_, _≤_, _<_}
+use mathlib.Core.Path.{_≡_, sym, ap, _∙_}
+use mathlib.Core.Logic.{_⊎_, inl, inr}
+use mathlib.Core.Bool.{true, false}
 use native.Mathlib.Omega.{arith}
-use mathlib.Core.Path.{_≡_, refl, ap, _∙_}
-use mathlib.Core.Bool.{Bool, true, false, cond}
-use lib.Dec.{ltb}
-use borrow.Author.Tests.{lt-ltb, le-ltb, eq-eqb, ne-eqb}
-use Rattle.scope.specs.Syntax.{Heap, abstract, defined, exact, Number, i32, i64, f32, f64, Val, num, ref, Field}
+use borrow.Author.Tests.{lt-ltb, le-ltb, eq-eqb, ne-eqb, ltb-true, ltb-false, eqb-true, eqb-false}
+use lib.Dec.{eqb, ltb}
+use Rattle.scope.specs.Syntax.{Heap, abstract, defined, exact, num, ref}
 use Rattle.scope.specs.Order.{numberCode}
-use Rattle.scope.specs.Memory.{abstractCode, heapCode, valCode, fieldCode, flag}
-use Rattle.heaps.proofs.Laws.{code-small, at-code}
-use Rattle.table.specs.Kept.{keptHeap, keptVal, keptField}
-use Rattle.table.specs.View.{isOdd, heapAtCode, valAtCode, fieldAtCode}
+use Rattle.scope.specs.Memory.{flag, heapCode, valCode}
+use Rattle.scope.proofs.Truths.{decided}
+use Rattle.heaps.specs.Heaps.{abstractAt}
+use Rattle.heaps.proofs.Laws.{code-small, at-code, code-at}
+use Rattle.table.specs.View.{isOdd, numberAt, heapAtCode, valAtCode}
 
--- twice a number and a flag
+-- a code, read
 
-odd-flag : (n : ℕ) (b : Bool) → isOdd (2 * n + flag b) ≡ b
-odd-flag n true = eq-eqb ((2 * n + 1) % 2) 1 (omega arith)
-odd-flag n false = ne-eqb ((2 * n + 0) % 2) 1 (λ e. omega arith)
-
-half-flag : (n : ℕ) (b : Bool) → (2 * n + flag b) / 2 ≡ n
-half-flag n true = omega arith
-half-flag n false = omega arith
-
-flag-small : (b : Bool) → flag b ≤ 1
-flag-small true = omega arith
-flag-small false = omega arith
-
--- reading back
-
--- a code of 10 or more is a type number's
-numbered-code : (x : ℕ) (b : Bool) → heapAtCode (10 + (2 * x + flag b)) ≡ cond b (exact x) (defined x)
+pub heap-abstract : {c : ℕ} → c < 10 → heapAtCode c ≡ abstract (abstractAt c)
 unfolding heapAtCode
-numbered-code x b =
-    let large : ltb (10 + (2 * x + flag b)) 10 ≡ false = le-ltb (10 + (2 * x + flag b)) 10 (omega arith) in
-    let rest : 10 + (2 * x + flag b) - 10 ≡ 2 * x + flag b = omega arith in
-    let even : (10 + (2 * x + flag b)) % 2 ≡ (2 * x + flag b) % 2 = omega arith in
-    rw (large, even, odd-flag x b, rest, half-flag x b)
+heap-abstract {c} h = rw (lt-ltb c 10 h)
 
-pub heap-code : (h : Heap) → heapAtCode (heapCode h) ≡ h
+pub heap-exact : {c : ℕ} → 10 ≤ c → c % 2 ≡ 1 → heapAtCode c ≡ exact ((c - 10) / 2)
 unfolding heapAtCode
-heap-code (abstract a) = rw (lt-ltb (abstractCode a) 10 (code-small a), at-code a)
-heap-code (defined x) = let e : 10 + 2 * x ≡ 10 + (2 * x + flag false) = omega arith in ap heapAtCode e ∙ numbered-code x false
-heap-code (exact x) = let e : 11 + 2 * x ≡ 10 + (2 * x + flag true) = omega arith in ap heapAtCode e ∙ numbered-code x true
+heap-exact {c} h o = rw (le-ltb c 10 h, eq-eqb (c % 2) 1 o)
 
-pub val-code : (v : Val) → valAtCode (valCode v) ≡ v
+pub heap-defined : {c : ℕ} → 10 ≤ c → (c % 2 ≡ 1 → ⊥) → heapAtCode c ≡ defined ((c - 10) / 2)
+unfolding heapAtCode
+heap-defined {c} h o = rw (le-ltb c 10 h, ne-eqb (c % 2) 1 o)
+
+pub val-number : {c : ℕ} → c < 4 → valAtCode c ≡ num (numberAt c)
 unfolding valAtCode
-val-code (num i32) = refl
-val-code (num i64) = refl
-val-code (num f32) = refl
-val-code (num f64) = refl
-val-code (ref n h) =
-    let large : ltb (4 + 2 * heapCode h + flag n) 4 ≡ false = le-ltb (4 + 2 * heapCode h + flag n) 4 (omega arith) in
-    let rest : 4 + 2 * heapCode h + flag n - 4 ≡ 2 * heapCode h + flag n = omega arith in
-    let even : (4 + 2 * heapCode h + flag n) % 2 ≡ (2 * heapCode h + flag n) % 2 = omega arith in
-    rw (large, even, odd-flag (heapCode h) n, rest, half-flag (heapCode h) n, heap-code h)
+val-number {c} h = rw (lt-ltb c 4 h)
 
-pub field-code : (f : Field) → fieldAtCode (fieldCode f) ≡ f
-unfolding fieldAtCode
-field-code f = rw (odd-flag (valCode (f .holds)) (f .mutable), half-flag (valCode (f .holds)) (f .mutable), val-code (f .holds))
+pub val-ref : {c : ℕ} → 4 ≤ c → valAtCode c ≡ ref (isOdd c) (heapAtCode ((c - 4) / 2))
+unfolding valAtCode
+val-ref {c} h = rw (le-ltb c 4 h)
 
--- codes of what the table keeps
+-- from a code to a type and back
 
-pub heap-code-small : (h : Heap) → heapCode (keptHeap h) ≤ 8_201
-heap-code-small (abstract a) = omega (arith, code-small a)
-heap-code-small (defined x) = omega arith
-heap-code-small (exact x) = omega arith
+pub heap-code-at : (c : ℕ) → heapCode (heapAtCode c) ≡ c
+heap-code-at c = go (decided (ltb c 10)) (decided (isOdd c))
+  where
+    go : (ltb c 10 ≡ true) ⊎ (ltb c 10 ≡ false) → (isOdd c ≡ true) ⊎ (isOdd c ≡ false) → heapCode (heapAtCode c) ≡ c
+    go (inl small) odd = let h : c < 10 = ltb-true c 10 small in rw (heap-abstract h, code-at c h)
+    go (inr large) (inl odd) =
+        let h : 10 ≤ c = ltb-false c 10 large in let o : c % 2 ≡ 1 = eqb-true (c % 2) 1 odd in rw (heap-exact h o) (omega arith)
+    go (inr large) (inr even) =
+        let h : 10 ≤ c = ltb-false c 10 large in
+        let o : c % 2 ≡ 1 → ⊥ = eqb-false (c % 2) 1 even in
+        rw (heap-defined h o) (omega arith)
 
-number-code-small : (n : Number) → numberCode n < 4
-number-code-small i32 = omega arith
-number-code-small i64 = omega arith
-number-code-small f32 = omega arith
-number-code-small f64 = omega arith
+number-code-at : (c : ℕ) → c < 4 → numberCode (numberAt c) ≡ c
+number-code-at c h = go (decided (eqb c 0)) (decided (eqb c 1)) (decided (eqb c 2))
+  where
+    go : (eqb c 0 ≡ true) ⊎ (eqb c 0 ≡ false) → (eqb c 1 ≡ true) ⊎ (eqb c 1 ≡ false) → (eqb c 2 ≡ true) ⊎ (eqb c 2 ≡ false) → numberCode (numberAt c) ≡ c
+    go (inl a) q r = rw a (sym (eqb-true c 0 a))
+    go (inr a) (inl b) r = rw (a, b) (sym (eqb-true c 1 b))
+    go (inr a) (inr b) (inl d) = rw (a, b, d) (sym (eqb-true c 2 d))
+    go (inr a) (inr b) (inr d) =
+        let x = eqb-false c 0 a in let y = eqb-false c 1 b in let z = eqb-false c 2 d in rw (a, b, d) (omega arith)
 
-pub val-code-small : (v : Val) → valCode (keptVal v) ≤ 16_407
-val-code-small (num n) = omega (arith, number-code-small n)
-val-code-small (ref n h) = omega (arith, heap-code-small h, flag-small n)
+flag-odd : (c : ℕ) → flag (isOdd c) ≡ c % 2
+flag-odd c = go (decided (isOdd c))
+  where
+    go : (isOdd c ≡ true) ⊎ (isOdd c ≡ false) → flag (isOdd c) ≡ c % 2
+    go (inl odd) = rw odd (sym (eqb-true (c % 2) 1 odd))
+    go (inr even) = let o = eqb-false (c % 2) 1 even in rw even (omega arith)
 
-pub field-code-small : (f : Field) → fieldCode (keptField f) ≤ 32_815
-field-code-small f = omega (arith, val-code-small (f .holds), flag-small (f .mutable))
+pub val-code-at : (c : ℕ) → valCode (valAtCode c) ≡ c
+val-code-at c = go (decided (ltb c 4))
+  where
+    go : (ltb c 4 ≡ true) ⊎ (ltb c 4 ≡ false) → valCode (valAtCode c) ≡ c
+    go (inl small) = let h : c < 4 = ltb-true c 4 small in rw (val-number h) (number-code-at c h)
+    go (inr large) =
+        let h : 4 ≤ c = ltb-false c 4 large in rw (val-ref h, heap-code-at ((c - 4) / 2), flag-odd c) (omega arith)
+
+-- from a type to its code and back
+
+pub heap-at-code : (h : Heap) → heapAtCode (heapCode h) ≡ h
+heap-at-code (abstract a) = heap-abstract (code-small a) ∙ ap abstract (at-code a)
+heap-at-code (defined x) =
+    let half : (10 + 2 * x - 10) / 2 ≡ x = omega arith in
+    heap-defined (omega arith) (λ o. omega arith) ∙ ap defined half
+heap-at-code (exact x) =
+    let half : (11 + 2 * x - 10) / 2 ≡ x = omega arith in
+    heap-exact (omega arith) (omega arith) ∙ ap exact half

@@ -21,7 +21,7 @@ use Rattle.scope.specs.Judging.{Judged, accepted, rejected, andThen, linksFault
 use Rattle.scope.proofs.Truths.{decided}
 use Rattle.scope.proofs.Accepted.{scan-met-none, judged-kept, links-kept, blank-no-fault, super-earlier-and-open}
 use Rattle.table.specs.Kept.{beyond, keptSupers, keptDefinition}
-use Rattle.table.proofs.Supers.{super-alone}
+use Rattle.table.proofs.AtMost.{super-alone}
 use Rattle.table.proofs.KeptReach.{below, number-keeps, parts-below, definition-reach, definition-same}
 
 -- two scans

@@ -1,9 +1,12 @@
-pub mod AcceptedRows
+pub mod Rows
 pub mod Codes
+pub mod Laws
+pub mod CodesBack
+pub mod Puts
+pub mod Growing
+pub mod AtMost
+pub mod Viewed
+pub mod AcceptedRows
 pub mod KeptReach
 pub mod KeptVerdict
-pub mod Puts
-pub mod Rows
-pub mod Supers
 pub mod TableVerdict
-pub mod Viewed

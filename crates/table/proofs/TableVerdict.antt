@@ -10,7 +10,7 @@ use Rattle.scope.specs.Memory.{tableRows, tableCodes}
 use Rattle.scope.specs.Judging.{accepted, judgeTypes}
 use Rattle.table.specs.Kept.{keptDefinition}
 use Rattle.table.specs.View.{view, rowsOf, codesOf}
-use Rattle.table.proofs.Supers.{kept-few}
+use Rattle.table.proofs.AtMost.{kept-few}
 use Rattle.table.proofs.Viewed.{view-is}
 use Rattle.table.proofs.KeptVerdict.{ReachWithin, kept-verdict, kept-accepted}
 use Rattle.table.proofs.AcceptedRows.{accepted-rows, table-codes}

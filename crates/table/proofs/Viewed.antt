@@ -15,9 +15,9 @@ use Rattle.scope.specs.Lists.{asList}
 use Rattle.scope.specs.Syntax.{Form, struct, func, Definition, typesOf, blank, firstOf}
 use Rattle.scope.specs.Memory.{valCode, fieldCode, formCodes, formWords, flag, orZero}
 use Rattle.table.specs.View.{linkAt, codesAt, valAtCode, fieldAtCode, formAtWords, rowSize, wordOf, view, furtherOf, row, rowsOf, codesOf}
-use Rattle.table.proofs.Codes.{val-code, field-code}
-use Rattle.table.proofs.Rows.{row-length}
-use Rattle.table.proofs.Supers.{SupersAtMost, first-few, later-few, two-links}
+use Rattle.table.proofs.CodesBack.{val-code, field-code}
+use Rattle.table.proofs.Growing.{row-length}
+use Rattle.table.proofs.AtMost.{SupersAtMost, first-few, later-few, two-links}
 
 -- codes
 

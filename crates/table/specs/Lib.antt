@@ -1,2 +1,3 @@
 pub mod Kept
 pub mod View
+pub mod Answers

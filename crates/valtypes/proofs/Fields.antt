@@ -17,10 +17,11 @@ use Rattle.number.specs.declared.Byte.{Byte}
 use Rattle.number.specs.declared.Byte
 use Rattle.number.specs.Answers.{ByteAt}
 use Rattle.number.proofs.Bits.{byte-got, byte-none}
+use Rattle.table.proofs.CodesBack.{val-code-small, field-code-small}
 use Rattle.valtypes.specs.declared.Coded.{Coded}
 use Rattle.valtypes.specs.declared.Coded
 use Rattle.valtypes.specs.Codes.{codedIs, heapCodeKept, valCodeKept, fieldCodeKept}
-use Rattle.valtypes.proofs.Vals.{coded-got, coded-refused, heap-code-bound}
+use Rattle.valtypes.proofs.Vals.{coded-got, coded-refused}
 
 -- flag_at
 
@@ -70,12 +71,8 @@ flag-most true = omega arith
 flag-most false = omega arith
 
 val-most : (v : Val) → valCodeKept v ≤ 16407
-unfolding valCodeKept heapCodeKept
-val-most (num i32) = omega arith
-val-most (num i64) = omega arith
-val-most (num f32) = omega arith
-val-most (num f64) = omega arith
-val-most (ref n h) = let m = heap-code-bound h in let k = flag-most n in omega arith
+unfolding valCodeKept
+val-most v = val-code-small v
 
 pub val-code-most : (o : Read Val) {c next : ℕ} {r : Coded} → r ≡ codedIs valCodeKept o → r ≡ Coded.the-variants.Is c next → c ≤ 16407
 val-code-most o p q = let (v, e, f) = coded-got valCodeKept o p q in let m = val-most v in omega arith
@@ -84,8 +81,8 @@ pub flag-code-most : (o : Read Bool) {c next : ℕ} {r : Coded} → r ≡ codedI
 flag-code-most o p q = let (v, e, f) = coded-got flag o p q in let m = flag-most v in omega arith
 
 field-most : (f : Field) → fieldCodeKept f ≤ 32815
-unfolding fieldCodeKept valCodeKept
-field-most f = let m = val-most (f .holds) in let k = flag-most (f .mutable) in omega arith
+unfolding fieldCodeKept
+field-most f = field-code-small f
 
 pub field-code-most : (o : Read Field) {c next : ℕ} {r : Coded} → r ≡ codedIs fieldCodeKept o → r ≡ Coded.the-variants.Is c next → c ≤ 32815
 field-code-most o p q = let (v, e, f) = coded-got fieldCodeKept o p q in let m = field-most v in omega arith

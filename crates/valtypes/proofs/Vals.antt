@@ -25,6 +25,7 @@ use Rattle.heaps.specs.declared.AbstractType.{AbstractType}
 use Rattle.heaps.specs.declared.AbstractType
 use Rattle.heaps.specs.Heaps.{abstractIs}
 use Rattle.heaps.proofs.Laws.{is-inv, not-one-inv, code-small}
+use Rattle.table.proofs.CodesBack.{heap-code-small}
 use Rattle.table.specs.Kept.{kept, keptHeap, keptVal}
 use Rattle.valtypes.specs.declared.Coded.{Coded}
 use Rattle.valtypes.specs.declared.Coded
@@ -66,9 +67,7 @@ pub ruleset number-of-exits = (number-i32, number-i64, number-f32, number-f64, n
 
 pub heap-code-bound : (h : Heap) → heapCodeKept h ≤ 8201
 unfolding heapCodeKept
-heap-code-bound (abstract a) = let h = code-small a in omega arith
-heap-code-bound (defined x) = omega arith
-heap-code-bound (exact x) = omega arith
+heap-code-bound h = heap-code-small h
 
 pub heap-code-most : (o : Read Heap) {c next : ℕ} {r : Coded} → r ≡ codedIs heapCodeKept o → r ≡ Coded.the-variants.Is c next → c ≤ 8201
 heap-code-most o p q = let (h, e, f) = coded-got heapCodeKept o p q in let m = heap-code-bound h in omega arith

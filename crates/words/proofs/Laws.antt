@@ -1,27 +1,21 @@
 -- Each way out of a function on words, as a law over plain variables. Past the end of a list a read gives the default and
 -- a store changes nothing; a loop that stores 0 at each place in turn leaves zeros.
-use Prim.Native.Nat.{ℕ, zero, suc, _+_, _≤_, _<_, _^_}
+use Prim.Native.Nat.{ℕ, _+_, _≤_, _<_, _^_}
 use mathlib.Core.Path.{_≡_, refl, sym, ap, _∙_}
-use mathlib.Core.List.{List, [], _∷_, _++_, append-nil}
+use mathlib.Core.List.{List, _++_, append-nil}
 use native.Mathlib.Omega.{arith}
-use native.Mathlib.Nat.{le-of-suc-le-suc, not-suc-le-zero}
 use borrow.Author.Fill.{fill-more}
-use lib.ListN.{length, getD, set, drop, replicate, length-set}
+use lib.ListN.{length, getD, set, drop, replicate, length-set, List·getD-eq-default}
 use lib.Seq.{set-out, drop-length}
 use Rattle.words.specs.Words.{WordAt}
 
 -- reading
 
-past-end : (m : List ℕ) (at : ℕ) → length m ≤ at → getD m at 0 ≡ 0
-past-end [] at h = refl
-past-end (x ∷ xs) zero h = absurd (not-suc-le-zero h)
-past-end (x ∷ xs) (suc at) h = past-end xs at (le-of-suc-le-suc h)
-
 pub word-there : {m : List ℕ} {at : ℕ} → at < length m → getD m at 0 < 2 ^ 16 → WordAt m at (getD m at 0)
 word-there h small = record { is = refl; small = small }
 
 pub word-past : {m : List ℕ} {at : ℕ} → length m ≤ at → WordAt m at 0
-word-past {m} {at} h = record { is = sym (past-end m at h); small = omega arith }
+word-past {m} {at} h = record { is = sym (List·getD-eq-default m 0 h); small = omega arith }
 
 pub ruleset word-exits = (word-past)
 
