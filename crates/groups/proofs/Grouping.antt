@@ -77,7 +77,7 @@ more-codes ds d =
     ∙ codes-append (keptAll ds) (keptDefinition d ∷ [])
     ∙ ap (λ cs. codesOf (keptAll ds) ++ cs) (one-codes d)
 
-rows-done : (used : ℕ) (ds : List Definition) → length (map low (rowsOf used (keptAll ds))) ≡ 12 * length ds
+pub rows-done : (used : ℕ) (ds : List Definition) → length (map low (rowsOf used (keptAll ds))) ≡ 12 * length ds
 rows-done used ds = length-map (rowsOf used (keptAll ds)) low ∙ rows-length used (keptAll ds) ∙ ap (λ (n : ℕ). 12 * n) (length-map ds keptDefinition)
 
 module _ {reach first n : ℕ} {s : List ℕ} {at : ℕ} {rows₀ rows codes₀ codes : List ℕ} {used next count taken : ℕ} (p : Grouped reach first n s at rows₀ rows codes₀ codes used next count taken) where

@@ -91,7 +91,7 @@ fn alone_at(
 }
 
 // A group: 4E and a list of definitions, or one definition alone.
-fn group_at(
+pub fn group_at(
     s: &[u8],
     at: usize,
     first: u64,
