@@ -1,3 +1,5 @@
 pub mod Feeding
 pub mod Walking
 pub mod Ending
+pub mod Modest
+pub mod LowTable
