@@ -1,9 +1,13 @@
 // The loader's public calls on sections: judge a section, and ask it for a type. No call trusts its caller to have looked
 // first: any bytes and any buffers may be handed in, and lent memory is all zero after every refusal.
 use judge::Judgement;
+use scope::Asked;
 use scope::Verdict;
 use sections::SectionRead;
-ghost use Rattle.scope.specs.Answers.{SectionJudged};
+ghost use Rattle.scope.specs.Answers.{SectionJudged, TypeAsked, TypeHanded};
+ghost use mathlib.Core.Path.{_≡_};
+ghost use Prim.Native.Nat.{_-_, min};
+ghost use lib.ListN.{take, drop};
 ghost use Rattle.loader.specs.Calls.{Cleared, Decided};
 
 // The elements that lent buffers have at least: document 01's one size of each, fixed in docs/LAYOUT.md.
@@ -51,5 +55,55 @@ pub fn judge_section(section: &[u8], rows: &mut [u16], codes: &mut [u16]) -> Ver
             Verdict::Refused(number, place as u64)
         }
         SectionRead::Got(count) => decide(rows, codes, count),
+    }
+}
+
+// Asks a section for a type by number: where the bytes of its definition lie; or the refusal's number and place.
+pub fn ask_type(section: &[u8], number: u64, rows: &mut [u16], codes: &mut [u16]) -> Asked
+    ensures { λ r. ⌜ TypeAsked (now (section .entry)) number (now (rows .entry)) (now (codes .entry)) (now (rows .exit)) (now (codes .exit)) r ⌝ }
+{
+    let judged = judge_section(section, rows, codes);
+    match judged {
+        Verdict::Refused(refusal, place) => Asked::Refused(refusal, place),
+        Verdict::Accepted(count) => {
+            if number < count {
+                let from = table::from_of(rows, codes, number);
+                let to = table::to_of(rows, codes, number);
+                return Asked::Bytes(from, to);
+            }
+            clear(rows, codes);
+            Asked::Refused(6, number)
+        }
+    }
+}
+
+fn least(a: u64, b: u64) -> u64
+    ensures { λ r. ⌜ r ≡ min a b ⌝ }
+{
+    if a < b { a } else { b }
+}
+
+// The part of a slice between two places, as much of it as there is.
+fn part(s: &[u8], from: u64, to: u64) -> &[u8]
+    ensures { λ r. ⌜ now r ≡ take (to - from) (drop from (now (s .entry))) ⌝ }
+{
+    let end = least(to, s.len() as u64) as usize;
+    let start = least(from, end as u64) as usize;
+    &s[start..end]
+}
+
+// Hands back the very bytes of a type's definition, as a part of the section; an empty part with every refusal.
+pub fn type_bytes<'a>(
+    section: &'a [u8],
+    number: u64,
+    rows: &mut [u16],
+    codes: &mut [u16],
+) -> &'a [u8]
+    ensures { λ r. ⌜ TypeHanded (now (section .entry)) number (now (rows .entry)) (now (codes .entry)) (now (rows .exit)) (now (codes .exit)) (now r) ⌝ }
+{
+    let asked = ask_type(section, number, rows, codes);
+    match asked {
+        Asked::Refused(_, _) => part(section, 0, 0),
+        Asked::Bytes(from, to) => part(section, from, to),
     }
 }

@@ -28,3 +28,4 @@ pub mod Starting
 pub mod SoundnessHolds
 pub mod Programs
 pub mod ShortCuts
+pub mod OneAnswer
