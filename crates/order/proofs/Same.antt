@@ -2,16 +2,16 @@
 -- when their codes are equal, since each type has one code.
 use Prim.Native.Nat.{ℕ}
 use mathlib.Core.Path.{_≡_, refl, sym, ap, _∙_}
-use mathlib.Core.Bool.{Bool, true, false, false≢true}
+use mathlib.Core.Bool.{Bool, true, false}
 use mathlib.Core.Logic.{_⊎_, inl, inr}
-use borrow.Author.Tests.{eq-eqb, ne-eqb, eqb-true, eqb-false}
+use borrow.Author.Tests.{ne-eqb, eqb-true, eqb-false}
 use lib.Dec.{eqb}
-use Rattle.scope.specs.Syntax.{Heap, abstract, defined, exact, Number, Val, num, ref, Types}
+use Rattle.scope.specs.Syntax.{Heap, Number, Val, num, ref, Types}
 use Rattle.scope.specs.Memory.{valCode}
-use Rattle.scope.specs.Order.{numberCode, heapBelow, valBelow, sameHeap, sameVal}
+use Rattle.scope.specs.Order.{numberCode, heapBelow, valBelow, sameVal}
 use Rattle.scope.proofs.Truths.{decided}
-use Rattle.scope.proofs.TenRows.{same-equal, equal-same}
-use Rattle.scope.proofs.Order.{same-number-equal, value-below-reflexive}
+use Rattle.scope.proofs.Order.{value-below-reflexive}
+use Rattle.scope.proofs.Identity.{same-value-equal, value-same}
 use Rattle.table.specs.View.{heapAtCode, valAtCode}
 use Rattle.table.specs.declared.ValKind.{ValKind}
 use Rattle.table.specs.declared.ValKind
@@ -68,44 +68,10 @@ pub ruleset val-exits = (val-itself, number-below-no-other, ref-below)
 
 -- identical types
 
-same-heap-equal : (h k : Heap) → sameHeap h k ≡ true → h ≡ k
-unfolding sameHeap
-same-heap-equal (abstract a) (abstract b) e = ap abstract (same-equal a b e)
-same-heap-equal (abstract a) (defined y) e = absurd (false≢true e)
-same-heap-equal (abstract a) (exact y) e = absurd (false≢true e)
-same-heap-equal (defined x) (abstract b) e = absurd (false≢true e)
-same-heap-equal (defined x) (defined y) e = ap defined (eqb-true x y e)
-same-heap-equal (defined x) (exact y) e = absurd (false≢true e)
-same-heap-equal (exact x) (abstract b) e = absurd (false≢true e)
-same-heap-equal (exact x) (defined y) e = absurd (false≢true e)
-same-heap-equal (exact x) (exact y) e = ap exact (eqb-true x y e)
-
-pub same-val-equal : (v w : Val) → sameVal v w ≡ true → v ≡ w
-unfolding sameVal
-same-val-equal (num n) (num m) e = ap num (same-number-equal n m e)
-same-val-equal (num n) (ref m k) e = absurd (false≢true e)
-same-val-equal (ref n h) (num m) e = absurd (false≢true e)
-same-val-equal (ref true h) (ref true k) e = ap (ref true) (same-heap-equal h k e)
-same-val-equal (ref true h) (ref false k) e = absurd (false≢true e)
-same-val-equal (ref false h) (ref true k) e = absurd (false≢true e)
-same-val-equal (ref false h) (ref false k) e = ap (ref false) (same-heap-equal h k e)
-
-heap-same-as-itself : (h : Heap) → sameHeap h h ≡ true
-unfolding sameHeap
-heap-same-as-itself (abstract a) = equal-same a a refl
-heap-same-as-itself (defined x) = eq-eqb x x refl
-heap-same-as-itself (exact x) = eq-eqb x x refl
-
-pub same-as-itself : (v : Val) → sameVal v v ≡ true
-unfolding sameVal
-same-as-itself (num n) = eq-eqb (numberCode n) (numberCode n) refl
-same-as-itself (ref true h) = heap-same-as-itself h
-same-as-itself (ref false h) = heap-same-as-itself h
-
 pub same-by-code : (a b : ℕ) → eqb a b ≡ sameVal (valAtCode a) (valAtCode b)
 same-by-code a b = go (decided (eqb a b)) (decided (sameVal (valAtCode a) (valAtCode b)))
   where
     go : (eqb a b ≡ true) ⊎ (eqb a b ≡ false) → (sameVal (valAtCode a) (valAtCode b) ≡ true) ⊎ (sameVal (valAtCode a) (valAtCode b) ≡ false) → eqb a b ≡ sameVal (valAtCode a) (valAtCode b)
-    go (inl p) other = p ∙ rw (eqb-true a b p) (sym (same-as-itself (valAtCode b)))
-    go (inr p) (inl q) = absurd (eqb-false a b p (sym (val-code-at a) ∙ ap valCode (same-val-equal _ _ q) ∙ val-code-at b))
+    go (inl p) other = p ∙ rw (eqb-true a b p) (sym (value-same (valAtCode b)))
+    go (inr p) (inl q) = absurd (eqb-false a b p (sym (val-code-at a) ∙ ap valCode (same-value-equal _ _ q) ∙ val-code-at b))
     go (inr p) (inr q) = p ∙ sym q

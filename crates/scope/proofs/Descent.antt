@@ -3,7 +3,7 @@
 -- Rule 5: above a descriptor of t stands a descriptor of a type above t. With rule 3, a descriptor says whose it is: an
 -- object whose descriptor's type is below the descriptor of x is itself of a type below x, and of x itself if exactly that.
 use Prim.Native.Nat.{ℕ, zero, suc}
-use mathlib.Core.Path.{_≡_, refl, sym, ap, ap₂, _∙_, subst}
+use mathlib.Core.Path.{_≡_, refl, sym, ap, _∙_, subst}
 use mathlib.Core.Bool.{Bool, true, false, cond, Bool·beq, false≢true}
 use mathlib.Core.Option.{Option, none, some}
 use mathlib.Core.List.{List, [], _∷_}
@@ -11,45 +11,16 @@ use lib.ListN.{getElem?}
 use borrow.Author.Tests.{eqb-true}
 use Rattle.scope.specs.Reading.{given}
 use Rattle.scope.specs.Lists.{prefixwise}
-use Rattle.scope.specs.Syntax.{Heap, abstract, defined, exact, Val, num, ref, Field, Form, struct, func, Definition, Types, typesOf, superOf}
-use Rattle.scope.specs.Order.{sameHeap, sameVal, valBelow}
+use Rattle.scope.specs.Syntax.{Field, Form, struct, func, Definition, Types, typesOf, superOf}
+use Rattle.scope.specs.Order.{sameVal, valBelow}
 use Rattle.scope.specs.TypeRules.{fieldMatches, formMatches, isThe, clausesAgree, descriptorFollows, describedFollow, describesFollows}
 use Rattle.scope.specs.BodyRules.{fieldsOf}
 use Rattle.scope.proofs.Truths.{none-is-not-some, from-both}
-use Rattle.scope.proofs.TenRows.{same-equal}
 use Rattle.scope.proofs.Accepted.{Kept, Passes, kept-passes, super-matches}
 use Rattle.scope.proofs.Chains.{Chain, here, above}
-use Rattle.scope.proofs.Order.{value-below-reflexive, value-below-transitive, same-number-equal}
+use Rattle.scope.proofs.Order.{value-below-reflexive, value-below-transitive}
+use Rattle.scope.proofs.Identity.{same-value-equal}
 use Rattle.scope.proofs.Pairs.{some-is-one}
-
--- identical types are equal
-
-same-heap-equal : (h k : Heap) → sameHeap h k ≡ true → h ≡ k
-unfolding sameHeap
-same-heap-equal (abstract a) (abstract b) e = ap abstract (same-equal a b e)
-same-heap-equal (abstract a) (defined y) e = absurd (false≢true e)
-same-heap-equal (abstract a) (exact y) e = absurd (false≢true e)
-same-heap-equal (defined x) (abstract b) e = absurd (false≢true e)
-same-heap-equal (defined x) (defined y) e = ap defined (eqb-true x y e)
-same-heap-equal (defined x) (exact y) e = absurd (false≢true e)
-same-heap-equal (exact x) (abstract b) e = absurd (false≢true e)
-same-heap-equal (exact x) (defined y) e = absurd (false≢true e)
-same-heap-equal (exact x) (exact y) e = ap exact (eqb-true x y e)
-
-equal-flags : (a b : Bool) → Bool·beq a b ≡ true → a ≡ b
-equal-flags true true e = refl
-equal-flags true false e = absurd (false≢true e)
-equal-flags false true e = absurd (false≢true e)
-equal-flags false false e = refl
-
-same-value-equal : (v w : Val) → sameVal v w ≡ true → v ≡ w
-unfolding sameVal
-same-value-equal (num a) (num b) e = ap num (same-number-equal a b e)
-same-value-equal (num a) (ref m k) e = absurd (false≢true e)
-same-value-equal (ref n h) (num b) e = absurd (false≢true e)
-same-value-equal (ref n h) (ref m k) e =
-    let (flags, heaps) = from-both (Bool·beq n m) (sameHeap h k) e in
-    ap₂ ref (equal-flags n m flags) (same-heap-equal h k heaps)
 
 -- fields
 

@@ -7,6 +7,7 @@ pub mod Accepted
 pub mod Chains
 pub mod Order
 pub mod OrderExamples
+pub mod Identity
 pub mod Soundness
 pub mod Pairs
 pub mod HeapLaws

@@ -3,21 +3,21 @@
 -- for something: that the order's relation is tested, which holds in a table that passes.
 use Prim.Native.Nat.{ℕ, zero, suc, _≤_}
 use native.Mathlib.Omega.{arith}
-use mathlib.Core.Path.{_≡_, refl, ap}
+use mathlib.Core.Path.{_≡_, refl}
 use mathlib.Core.Bool.{Bool, true, false, _&&_, _||_, false≢true}
 use mathlib.Core.Option.{Option, none, some}
 use mathlib.Core.List.{List, [], _∷_}
 use lib.Dec.{ltb}
-use borrow.Author.Tests.{ltb-true, lt-ltb, eqb-true, eq-eqb}
+use borrow.Author.Tests.{ltb-true, lt-ltb}
 use Rattle.scope.specs.Sizes.{mostSteps}
 use Rattle.scope.specs.Reading.{given}
 use Rattle.scope.specs.Lists.{isNone}
-use Rattle.scope.specs.Syntax.{Heap, abstract, defined, exact, Val, num, ref, Field, Form, struct, func, Types, superOf}
-use Rattle.scope.specs.Order.{ValOrder, numberCode, valBelow, sameHeap, sameVal}
+use Rattle.scope.specs.Syntax.{Val, Field, Form, struct, func, Types, superOf}
+use Rattle.scope.specs.Order.{ValOrder, valBelow}
 use Rattle.scope.specs.TypeRules.{oneSuper, superEarlierAndOpen, shortChain, fieldMatches, formMatches, isStruct, isThe, matchesSuper, clausesOnStruct, describesEarlier, clausesAgree, descriptorFollows, describedFollow, describesFollows}
 use Rattle.scope.proofs.Truths.{both, from-both}
-use Rattle.scope.proofs.TenRows.{same-equal, equal-same}
-use Rattle.scope.proofs.Order.{same-number-equal, tested-value-order}
+use Rattle.scope.proofs.Order.{tested-value-order}
+use Rattle.scope.proofs.Identity.{same-value-equal, value-same}
 use Rattle.section_rules.specs.TypeRelations.{SupertypesOf, no-supertype, one-supertype, FieldMatches, fixed-subtype, mutable-identical, Against, against, FormMatches, structs, functions, Matches, IsStruct, a-struct, OnStruct, DescribesEarlier, ClausesAgree, DescriptorBelow, descriptor-below, Descriptors, DescribeAlike, neither-describes, both-describe, Described}
 use Rattle.section_rules.specs.WithinSizes.{Steps, stay, step, ShortChain}
 use Rattle.section_rules.proofs.Tests.{given-says, says-given, is-the, the-is, prefix-at-least, pairwise-as-many, at-least-prefix, as-many-pairwise}
@@ -65,42 +65,6 @@ module _ (ts : Types) (x : ℕ) where
 
   pub chain-tested : ShortChain ts x → shortChain mostSteps ts x ≡ true
   chain-tested c = short-steps mostSteps ts x (λ n y. c .short)
-
--- Rule 2: "identical" is equal
-
-same-heap-equal : (h k : Heap) → sameHeap h k ≡ true → h ≡ k
-unfolding sameHeap
-same-heap-equal (abstract a) (abstract b) e = ap abstract (same-equal a b e)
-same-heap-equal (abstract a) (defined y) e = absurd (false≢true e)
-same-heap-equal (abstract a) (exact y) e = absurd (false≢true e)
-same-heap-equal (defined x) (abstract b) e = absurd (false≢true e)
-same-heap-equal (defined x) (defined y) e = ap defined (eqb-true x y e)
-same-heap-equal (defined x) (exact y) e = absurd (false≢true e)
-same-heap-equal (exact x) (abstract b) e = absurd (false≢true e)
-same-heap-equal (exact x) (defined y) e = absurd (false≢true e)
-same-heap-equal (exact x) (exact y) e = ap exact (eqb-true x y e)
-
-heap-same : (h : Heap) → sameHeap h h ≡ true
-unfolding sameHeap
-heap-same (abstract a) = equal-same a a refl
-heap-same (defined x) = eq-eqb x x refl
-heap-same (exact x) = eq-eqb x x refl
-
-same-value-equal : (v w : Val) → sameVal v w ≡ true → v ≡ w
-unfolding sameVal
-same-value-equal (num a) (num b) e = ap num (same-number-equal a b e)
-same-value-equal (num a) (ref m k) e = absurd (false≢true e)
-same-value-equal (ref n h) (num b) e = absurd (false≢true e)
-same-value-equal (ref true h) (ref true k) e = ap (ref true) (same-heap-equal h k e)
-same-value-equal (ref true h) (ref false k) e = absurd (false≢true e)
-same-value-equal (ref false h) (ref true k) e = absurd (false≢true e)
-same-value-equal (ref false h) (ref false k) e = ap (ref false) (same-heap-equal h k e)
-
-value-same : (v : Val) → sameVal v v ≡ true
-unfolding sameVal
-value-same (num a) = eq-eqb (numberCode a) (numberCode a) refl
-value-same (ref true h) = heap-same h
-value-same (ref false h) = heap-same h
 
 -- Rule 2: fields and forms
 

@@ -1,4 +1,4 @@
-//! Requests and answers in lines, as LINES.md has them.
+//! Requests and answers in lines, as docs/LAYOUT.md has them.
 
 use crate::body::judge_body;
 use crate::machine::{trial_run, Outcome, Run};
