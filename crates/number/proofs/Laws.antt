@@ -6,7 +6,7 @@ use mathlib.Core.List.{List}
 use native.Mathlib.Omega.{arith}
 use lib.ListN.{length}
 use lib.Dec.{ltb, leb}
-use borrow.Author.Tests.{ltb-true}
+use borrow.Author.Tests.{ltb-true, leb-true}
 use Rattle.scope.specs.Reading.{Read, got, refused}
 use Rattle.scope.specs.Numbers.{Bits, bits, cut, long, bitsAt, greatestLength, inRange, Whole, plus, minus, signed-of, within, unsigned, signed, u32, s33}
 use Rattle.scope.proofs.Forward.{unsigned-takes, signed-takes, never-back}
@@ -59,6 +59,10 @@ unsigned-small width s at {v} e = ltb-true v (2 ^ width) (range-kept at (bitsAt 
 pub signed-small : (width : ℕ) (s : List ℕ) (at : ℕ) {v next : ℕ} → signed width s at ≡ got (plus v) next → v < 2 ^ (width - 1)
 unfolding signed
 signed-small width s at {v} e = ltb-true v (2 ^ (width - 1)) (range-kept at (bitsAt (greatestLength width) s at) signed-of (within width) e)
+
+pub signed-least : (width : ℕ) (s : List ℕ) (at : ℕ) {v next : ℕ} → signed width s at ≡ got (minus v) next → v ≤ 2 ^ (width - 1)
+unfolding signed
+signed-least width s at {v} e = leb-true v (2 ^ (width - 1)) (range-kept at (bitsAt (greatestLength width) s at) signed-of (within width) e)
 
 -- a number read by `u32_at`, and a type number read by `s33_at`
 

@@ -13,7 +13,7 @@ ghost use Rattle.table.specs.View.{heapAtCode, valAtCode, view};
 ghost use Rattle.reach.specs.Names.{allBelow, linkBelow, codeNames, codesNames};
 
 // The number in the heap type with the code h, if there is one.
-fn heap_in_reach(h: u64, reach: u64) -> bool
+pub fn heap_in_reach(h: u64, reach: u64) -> bool
     ensures { λ r. ⌜ r ≡ allBelow reach (heapNames (heapAtCode h)) ⌝ }
 {
     let heap = table::heap_of(h);
@@ -24,7 +24,7 @@ fn heap_in_reach(h: u64, reach: u64) -> bool
     }
 }
 
-fn val_in_reach(c: u64, reach: u64) -> bool
+pub fn val_in_reach(c: u64, reach: u64) -> bool
     ensures { λ r. ⌜ r ≡ allBelow reach (valNames (valAtCode c)) ⌝ }
 {
     let val = table::val_of(c);

@@ -87,14 +87,14 @@ module _ {r : ℕ} (h : r ≤ beyond) where
   option-keeps : Keeps r asList keptOption
   option-keeps = record { reach = elim [ none ↦ refl | some x ↦ number-keeps .reach x ]; same = elim [ none ↦ λ e. refl | some x ↦ λ e. ap some (number-keeps .same x e) ] }
 
-  heap-keeps : Keeps r heapNames keptHeap
+  pub heap-keeps : Keeps r heapNames keptHeap
   heap-keeps =
       record {
         reach = elim [ abstract a ↦ refl | defined x ↦ number-keeps .reach x | exact x ↦ number-keeps .reach x ];
         same = elim [ abstract a ↦ λ e. refl | defined x ↦ λ e. ap defined (number-keeps .same x e) | exact x ↦ λ e. ap exact (number-keeps .same x e) ];
       }
 
-  val-keeps : Keeps r valNames keptVal
+  pub val-keeps : Keeps r valNames keptVal
   val-keeps =
       record {
         reach = elim [ num n ↦ refl | ref n k ↦ heap-keeps .reach k ];

@@ -1,0 +1,4 @@
+pub mod Counting
+pub mod Typing
+pub mod Branching
+pub mod Laws
