@@ -26,6 +26,9 @@ impl Request {
 }
 
 fn number(text: &str) -> Result<u64, String> {
+    if !text.bytes().all(|c| c.is_ascii_digit()) {
+        return Err(format!("not a number: {text}"));
+    }
     text.parse().map_err(|_| format!("not a number: {text}"))
 }
 
