@@ -1,0 +1,5 @@
+pub mod Laws
+pub mod Fitting
+pub mod OneTaken
+pub mod Several
+pub mod OnTop
