@@ -28,7 +28,7 @@ const REFERENCES: u64 = 6;
 
 // The operand's word, and how many operands are left in the frame.
 pub enum Take {
-    Took(u64, u32),
+    Took(u32, u32),
     Missing,
 }
 
@@ -74,7 +74,7 @@ pub fn take_one(
 {
     if height == 0 {
         if dead {
-            return Take::Took(UNKNOWN, 0);
+            return Take::Took(UNKNOWN as u32, 0);
         }
         return Take::Missing;
     }
@@ -82,7 +82,7 @@ pub fn take_one(
     let o = standing::operand_word(work, base, left);
     let below = fits_word(rows, codes, o, w);
     if below {
-        return Take::Took(o, left);
+        return Take::Took(o as u32, left);
     }
     Take::Missing
 }

@@ -29,11 +29,14 @@ word-alike a m k h g = a .frames (8 * m + k) (omega arith)
 
 -- operands
 
-pub stack-same : (work work′ : List ℕ) (base h : ℕ) → ((i : ℕ) → i < 768 + (base + h) → getD work′ i 0 ≡ getD work i 0) → stack work′ base h ≡ stack work base h
+pub stack-alike : (work work′ : List ℕ) (base h : ℕ) → ((i : ℕ) → i < base + h → getD work′ (768 + i) 0 ≡ getD work (768 + i) 0) → stack work′ base h ≡ stack work base h
 unfolding stack
-stack-same work work′ base zero same = refl
-stack-same work work′ base (suc h) same =
-    ap₂ (λ (w : ℕ) (os : List Operand). operandAtCode w ∷ os) (same (768 + (base + h)) (omega arith)) (stack-same work work′ base h (λ i l. same i (omega arith)))
+stack-alike work work′ base zero same = refl
+stack-alike work work′ base (suc h) same =
+    ap₂ (λ (w : ℕ) (os : List Operand). operandAtCode w ∷ os) (same (base + h) (omega arith)) (stack-alike work work′ base h (λ i l. same i (omega arith)))
+
+pub stack-same : (work work′ : List ℕ) (base h : ℕ) → ((i : ℕ) → i < 768 + (base + h) → getD work′ i 0 ≡ getD work i 0) → stack work′ base h ≡ stack work base h
+stack-same work work′ base h same = stack-alike work work′ base h (λ i l. same (768 + i) (omega arith))
 
 pub stack-length : (work : List ℕ) (base h : ℕ) → length (stack work base h) ≡ h
 unfolding stack
@@ -66,30 +69,52 @@ module _ {work work′ : List ℕ} {base d : ℕ} (a : Alike work work′ base d
 
 -- frames
 
-pub rests-alike : {work work′ : List ℕ} (d : ℕ) {base : ℕ} → Alike work work′ base d → Rests work d base → Rests work′ d base
-rests-alike zero a floor = floor
-rests-alike {work} {work′} (suc d) {base} a (above r e) =
-    let b : frameWord work′ (d + 2) 2 ≡ frameWord work (d + 2) 2 = word-alike a (d + 2) 2 (omega arith) (omega arith) in
-    let h : frameWord work′ (d + 2) 3 ≡ frameWord work (d + 2) 3 = word-alike a (d + 2) 3 (omega arith) (omega arith) in
-    let below : Rests work′ d (frameWord work (d + 2) 2) = rests-alike d (alike-less a (omega arith) (omega arith)) r in
+-- what the frames around the innermost look at: the operands below it, the words of the frames up to it, and what was set
+-- in those around it
+pub record Around (work work′ : List ℕ) (count base d : ℕ) : Type 0 where
+  pub operands : (i : ℕ) → i < base → getD work′ (768 + i) 0 ≡ getD work (768 + i) 0
+  pub frames : (i : ℕ) → i < 8 * (d + 2) → getD work′ (1_280 + i) 0 ≡ getD work (1_280 + i) 0
+  pub sets : (m : ℕ) → m ≤ d → setsAt work′ m 0 count ≡ setsAt work m 0 count
+
+pub around-alike : {work work′ : List ℕ} {count base d : ℕ} → count ≤ 256 → Alike work work′ base d → Around work work′ count base d
+around-alike few a = record { operands = λ i h. a .low (768 + i) (omega arith); frames = a .frames; sets = λ m h. sets-alike a few m (omega arith) }
+
+around-less : {work work′ : List ℕ} {count base d base′ d′ : ℕ} → Around work work′ count base d → base′ ≤ base → d′ ≤ d → Around work work′ count base′ d′
+around-less a h g = record { operands = λ i l. a .operands i (omega arith); frames = λ i l. a .frames i (omega arith); sets = λ m l. a .sets m (omega arith) }
+
+module _ {work work′ : List ℕ} {count base d : ℕ} (a : Around work work′ count base d) where
+  word-around : (m k : ℕ) → m ≤ d + 1 → k < 8 → frameWord work′ m k ≡ frameWord work m k
+  word-around m k h g = a .frames (8 * m + k) (omega arith)
+
+  frame-around : (m : ℕ) → m ≤ d + 1 → frameWord work m 2 + frameWord work m 3 ≤ base → frameAt work′ count m ≡ frameAt work count m
+  unfolding frameAt
+  frame-around m h low =
+      let b = word-around m 2 h (omega arith) in
+      let n = word-around m 3 h (omega arith) in
+      let os : stack work′ (frameWord work m 2) (frameWord work m 3) ≡ stack work (frameWord work m 2) (frameWord work m 3) = stack-alike work work′ (frameWord work m 2) (frameWord work m 3) (λ i l. a .operands i (omega arith)) in
+      rw (word-around m 0 h (omega arith), word-around m 1 h (omega arith), b, n, word-around m 4 h (omega arith), os, a .sets (m - 1) (omega arith))
+
+pub rests-around : {work work′ : List ℕ} {count : ℕ} (d : ℕ) {base : ℕ} → Around work work′ count base d → Rests work d base → Rests work′ d base
+rests-around zero a floor = floor
+rests-around {work} {work′} (suc d) {base} a (above r e) =
+    let b : frameWord work′ (d + 2) 2 ≡ frameWord work (d + 2) 2 = word-around a (d + 2) 2 (omega arith) (omega arith) in
+    let h : frameWord work′ (d + 2) 3 ≡ frameWord work (d + 2) 3 = word-around a (d + 2) 3 (omega arith) (omega arith) in
+    let below : Rests work′ d (frameWord work (d + 2) 2) = rests-around d (around-less a (omega arith) (omega arith)) r in
     let sum : base ≡ frameWord work′ (d + 2) 2 + frameWord work′ (d + 2) 3 = rw (b, h) e in
     let rest : Rests work′ d (frameWord work′ (d + 2) 2) = rw b below in
     above rest sum
 
-module _ {work work′ : List ℕ} {base d : ℕ} (a : Alike work work′ base d) where
-  frame-alike : {count : ℕ} → count ≤ 256 → (m : ℕ) → m ≤ d + 1 → frameWord work m 2 + frameWord work m 3 ≤ base → frameAt work′ count m ≡ frameAt work count m
-  unfolding frameAt
-  frame-alike {count} few m h low =
-      let b = word-alike a m 2 h (omega arith) in
-      let n = word-alike a m 3 h (omega arith) in
-      let os : stack work′ (frameWord work m 2) (frameWord work m 3) ≡ stack work (frameWord work m 2) (frameWord work m 3) = stack-same work work′ (frameWord work m 2) (frameWord work m 3) (λ i l. a .low i (omega arith)) in
-      rw (word-alike a m 0 h (omega arith), word-alike a m 1 h (omega arith), b, n, word-alike a m 4 h (omega arith), os, sets-alike a few (m - 1) (omega arith))
+pub frames-around : {work work′ : List ℕ} {count : ℕ} (d : ℕ) {base : ℕ} → Around work work′ count base d → Rests work d base → framesAt work′ count d ≡ framesAt work count d
+unfolding framesAt
+frames-around zero a floor = refl
+frames-around {work} {work′} (suc d) {base} a (above r e) =
+    ap₂ _∷_ (frame-around a (d + 2) (omega arith) (omega arith)) (frames-around d (around-less a (omega arith) (omega arith)) r)
+
+pub rests-alike : {work work′ : List ℕ} (d : ℕ) {base : ℕ} → Alike work work′ base d → Rests work d base → Rests work′ d base
+rests-alike d a r = rests-around {count = 0} d (around-alike (omega arith) a) r
 
 pub frames-alike : {work work′ : List ℕ} (d : ℕ) {base count : ℕ} → count ≤ 256 → Alike work work′ base d → Rests work d base → framesAt work′ count d ≡ framesAt work count d
-unfolding framesAt
-frames-alike zero few a floor = refl
-frames-alike {work} {work′} (suc d) {base} few a (above r e) =
-    ap₂ _∷_ (frame-alike a few (d + 2) (omega arith) (omega arith)) (frames-alike d few (alike-less a (omega arith) (omega arith)) r)
+frames-alike d few a r = frames-around d (around-alike few a) r
 
 -- the operands in all frames
 

@@ -4,6 +4,9 @@ use Rattle.operands.proofs.OneTaken.{one-exits}
 use Rattle.operands.proofs.take_one.Statement.{statement}
 use Rattle.operands.proofs.take_one.Tie as tie
 
+cast-t13 : tie.Need-cast-t13
+cast-t13 c = search (one-exits, needs)
+
 returns : tie.Need-returns
 returns c = search (one-exits, needs)
 
@@ -19,6 +22,9 @@ operand-word-requires c κs = search (one-exits, needs)
 fits-word-requires : tie.Need-fits-word-requires
 fits-word-requires c κs = search (one-exits, needs)
 
+cast-t14 : tie.Need-cast-t14
+cast-t14 c = search (one-exits, needs)
+
 returns-3 : tie.Need-returns-3
 returns-3 c = search (one-exits, needs)
 
@@ -29,10 +35,12 @@ pub take-one-spec : {M : Type 1} → statement M
 take-one-spec =
     tie.close
     (tie.spec
+    cast-t13
     returns
     returns-2
     sub-left
     operand-word-requires
     fits-word-requires
+    cast-t14
     returns-3
     returns-4)
