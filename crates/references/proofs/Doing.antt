@@ -19,7 +19,7 @@ use Rattle.standing.specs.declared.Step.{Step}
 use Rattle.standing.specs.declared.Step
 use Rattle.standing.specs.Standing.{operandAtCode, wantedAtCode, stack, setsAt, contextAt, stateAt, Upright, Stepped}
 use Rattle.standing.proofs.Alike.{stack-length}
-use Rattle.standing.proofs.Stepping.{stepped-on, stepped-fault, within-on, within-full}
+use Rattle.standing.proofs.Stepping.{stepped-on, stepped-fault, stepped-as, within-on, within-full}
 use Rattle.operands.specs.declared.Take.{Take}
 use Rattle.operands.specs.declared.Take
 use Rattle.operands.specs.Taking.{Room, Pushed, tookOf}
@@ -52,13 +52,9 @@ module _ {work : List ℕ} {count : ℕ} {st : Stand} (u : Upright work count st
         let low : o % 4_294_967_296 ≡ o = mod-eq-of-lt (omega arith) in
         let q : Pushed work work′ (st .base) left (left + 1) (operandAtCode o ∷ []) = rw low at p in
         let fine = within-on count (st .depth) (u .rests) (operandAtCode o ∷ stack work (st .base) left) (st .dead) (setsAt work (st .depth + 1) 0 count) (omega (arith, high)) in
-        stepped-on _ (ap (λ (s : State). allowed (goesOn s)) (pushed-state u q (st .dead)) ∙ sym fine) (pushed-upright u q (st .dead) h) (pushed-stamped u q) (pushed-types u q) (q .size)
+        stepped-on _ (ap (λ (s : State). allowed (goesOn s)) (pushed-state q (u .few) (u .rests) (st .dead)) ∙ sym fine) (pushed-upright q (u .few) (u .rests) (u .room) (u .deep) h (st .dead)) (λ at. pushed-stamped q (u .few) (omega arith)) (pushed-types q) (q .size)
 
 -- what was taken, and what comes of it
-
--- what a step is to come to may be written in another way
-pub stepped-as : {work work′ : List ℕ} {count depth : ℕ} {want want′ : Ruled Next} {r : Step} → want ≡ want′ → Stepped work work′ count depth want r → Stepped work work′ count depth want′ r
-stepped-as {work} {work′} {count} {depth} {want} {want′} {r} e s = rw (← e) s
 
 -- (ref null x), as a word of what is wanted
 wanted-x : (x : ℕ) → wantedAtCode (2 + (5 + 2 * (10 + 2 * x))) ≡ value (nullable (defined x))

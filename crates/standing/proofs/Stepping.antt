@@ -26,15 +26,23 @@ stepped-on {work} {work′} {count} st e u s t l =
       size = l;
     }
 
-pub stepped-fault : {work work′ : List ℕ} (count depth : ℕ) {want : Ruled Next} {n : ℕ} → work′ ≡ work → fault n ≡ want → Stepped work work′ count depth want (Step.the-variants.Fault n)
-stepped-fault count depth e want =
+-- nothing is written, and the check does not go on
+pub stepped-stop : {work work′ : List ℕ} (count depth : ℕ) {want : Ruled Next} (r : Step) → ((st : Stand) → r ≡ Step.the-variants.On st → ⊥) → work′ ≡ work → stepOf work count r ≡ want → Stepped work work′ count depth want r
+stepped-stop count depth r never e want =
     record {
-      answer = want;
-      upright = λ st f. absurd (let z : _≡_ {A = ℕ} 0 1 = cc in omega arith);
-      stamped = λ st f. absurd (let z : _≡_ {A = ℕ} 0 1 = cc in omega arith);
+      answer = rw e want;
+      upright = λ st f. absurd (never st f);
+      stamped = λ st f. absurd (never st f);
       types = λ i h. rw e;
       size = rw e;
     }
+
+pub stepped-fault : {work work′ : List ℕ} (count depth : ℕ) {want : Ruled Next} {n : ℕ} → work′ ≡ work → fault n ≡ want → Stepped work work′ count depth want (Step.the-variants.Fault n)
+stepped-fault count depth {n = n} e want = stepped-stop count depth (Step.the-variants.Fault n) (λ st f. let z : _≡_ {A = ℕ} 0 1 = cc in omega arith) e want
+
+-- what a step is to come to may be written in another way
+pub stepped-as : {work work′ : List ℕ} {count depth : ℕ} {want want′ : Ruled Next} {r : Step} → want ≡ want′ → Stepped work work′ count depth want r → Stepped work work′ count depth want′ r
+stepped-as {work} {work′} {count} {depth} {want} {want′} {r} e s = rw (← e) s
 
 -- 4: the operands in all frames
 
