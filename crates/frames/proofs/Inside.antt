@@ -22,6 +22,7 @@ use Rattle.scope.specs.Bodies.{State, goesOn}
 use Rattle.scope.proofs.Truths.{decided}
 use Rattle.table.specs.View.{valAtCode}
 use Rattle.reach.specs.Names.{allBelow}
+use Rattle.decoded.specs.Decoded.{blockResults}
 use Rattle.reach.proofs.Small.{val-small}
 use Rattle.standing.specs.declared.Stand.{Stand}
 use Rattle.standing.specs.declared.Scene.{Scene}
@@ -29,15 +30,15 @@ use Rattle.standing.specs.declared.Step.{Step}
 use Rattle.standing.specs.declared.Step
 use Rattle.standing.specs.Standing.{valAtWord, resultsAt, frameWord, stack, isSetAt, setsAt, frameOf, frameAt, framesAt, stateAt, Rests, above, Upright, Stamped, stepOf}
 use Rattle.standing.proofs.Alike.{Alike, alike-less, stack-same, is-set-same, sets-same, sets-alike, rests-alike, frames-alike, frames-length, frames-more}
-use Rattle.frames.specs.Frames.{FrameRoom, ThreePut, resultOf, Entering, Entered, Opening, opens, Opened}
+use Rattle.frames.specs.Frames.{FrameRoom, ThreePut, Entering, Entered, Opening, opens, Opened}
 
 -- the block's result
 
-pub no-result : (types : ℕ) {result : ℕ} → result ≡ 0 → true ≡ allBelow types (joined (map valNames (resultOf result)))
+pub no-result : (types : ℕ) {result : ℕ} → result ≡ 0 → true ≡ allBelow types (joined (map valNames (blockResults result)))
 unfolding allBelow
 no-result types e = rw e refl
 
-pub one-result : (types result : ℕ) {r : Bool} → r ≡ allBelow types (valNames (valAtCode (result - 1))) → (result ≡ 0 → ⊥) → r ≡ allBelow types (joined (map valNames (resultOf result)))
+pub one-result : (types result : ℕ) {r : Bool} → r ≡ allBelow types (valNames (valAtCode (result - 1))) → (result ≡ 0 → ⊥) → r ≡ allBelow types (joined (map valNames (blockResults result)))
 unfolding allBelow
 one-result types result a g = rw (ne-eqb result 0 g, append-nil (valNames (valAtCode (result - 1)))) a
 
@@ -105,14 +106,14 @@ module _ {work : List ℕ} (work′ : List ℕ) {count d at : ℕ} (same : (i : 
 -- the check stands in the new frame
 
 -- a code of a block's result is small
-code-small : (types result : ℕ) → types < 2 ^ 16 → (result ≡ 0 → ⊥) → allBelow types (joined (map valNames (resultOf result))) ≡ true → result < 1_048_576
+code-small : (types result : ℕ) → types < 2 ^ 16 → (result ≡ 0 → ⊥) → allBelow types (joined (map valNames (blockResults result))) ≡ true → result < 1_048_576
 unfolding allBelow
 code-small types result few some′ reached =
     let one : allBelow types (valNames (valAtCode (result - 1))) ≡ true = rw (ne-eqb result 0 some′, append-nil (valNames (valAtCode (result - 1)))) at reached in
     let l : result - 1 < 28 + 4 * types = val-small types (result - 1) one in
     omega arith
 
-result-is : (result : ℕ) → result < 1_048_576 → resultsAt result ≡ resultOf result
+result-is : (result : ℕ) → result < 1_048_576 → resultsAt result ≡ blockResults result
 unfolding resultsAt valAtWord
 result-is result small = let low : (result - 1) % 1_048_576 ≡ result - 1 = mod-eq-of-lt (omega arith) in rw low
 
@@ -130,7 +131,7 @@ module _ {work work′ : List ℕ} {count at : ℕ} {st : Stand} (o : Opening wo
   around : framesAt work′ count (st .depth) ≡ framesAt work count (st .depth)
   around = frames-alike (st .depth) (o .upright .few) below (o .upright .rests)
 
-  frame : frameAt work′ count (st .depth + 2) ≡ frameOf isLoop (resultOf result) (stack work (st .base) (st .height)) (st .dead) (setsAt work (st .depth + 1) 0 count)
+  frame : frameAt work′ count (st .depth + 2) ≡ frameOf isLoop (blockResults result) (stack work (st .base) (st .height)) (st .dead) (setsAt work (st .depth + 1) 0 count)
   unfolding frameAt
   frame =
       let os : stack work′ (st .base) (st .height) ≡ stack work (st .base) (st .height) = stack-same work work′ (st .base) (st .height) (alike .low) in
@@ -138,7 +139,7 @@ module _ {work work′ : List ℕ} {count at : ℕ} {st : Stand} (o : Opening wo
       rw
       (e .isLoop′, e .result′, e .base′, e .height′, e .dead′, flag-back isLoop, flag-back (st .dead), result-is result small, os, outer, sets-alike alike (o .upright .few) (st .depth + 1) (omega arith))
 
-  opened : stateAt work′ count r ≡ record { frames = frameOf isLoop (resultOf result) (stack work (st .base) (st .height)) (st .dead) (setsAt work (st .depth + 1) 0 count) ∷ framesAt work count (st .depth); operands = []; dead = false; isSet = setsAt work (st .depth + 1) 0 count }
+  opened : stateAt work′ count r ≡ record { frames = frameOf isLoop (blockResults result) (stack work (st .base) (st .height)) (st .dead) (setsAt work (st .depth + 1) 0 count) ∷ framesAt work count (st .depth); operands = []; dead = false; isSet = setsAt work (st .depth + 1) 0 count }
   unfolding stateAt framesAt stack
   opened =
       let deeper : st .depth + 1 + 1 ≡ st .depth + 2 = omega arith in
@@ -182,9 +183,9 @@ module _ {work work′ : List ℕ} {count at : ℕ} {st : Stand} (o : Opening wo
 
 -- each way out of `open`
 
-module _ {work : List ℕ} {st : Stand} {at : ℕ} (k : Scene) (o : Opening work (k .locals) st at) (isLoop : Bool) (result : ℕ) {reached : Bool} (a : reached ≡ allBelow (k .types) (joined (map valNames (resultOf result)))) where
+module _ {work : List ℕ} {st : Stand} {at : ℕ} (k : Scene) (o : Opening work (k .locals) st at) (isLoop : Bool) (result : ℕ) {reached : Bool} (a : reached ≡ allBelow (k .types) (joined (map valNames (blockResults result)))) where
   -- a refusal writes nothing
-  refused : {n : ℕ} {work′ : List ℕ} → work′ ≡ work → fault n ≡ opens (k .types) (stateAt work (k .locals) st) isLoop (resultOf result) → Opened work work′ k st isLoop result at (Step.the-variants.Fault n)
+  refused : {n : ℕ} {work′ : List ℕ} → work′ ≡ work → fault n ≡ opens (k .types) (stateAt work (k .locals) st) isLoop (blockResults result) → Opened work work′ k st isLoop result at (Step.the-variants.Fault n)
   refused e want =
       record {
         answer = want;

@@ -5,7 +5,7 @@ use mathlib.Core.Bool.{Bool, true, false, cond}
 use mathlib.Core.Option.{Option}
 use mathlib.Core.List.{List, [], _∷_, map}
 use lib.ListN.{getD, length}
-use lib.Dec.{eqb, ltb}
+use lib.Dec.{ltb}
 use Rattle.scope.specs.Refusals.{outOfReach}
 use Rattle.scope.specs.Lists.{every, joined}
 use Rattle.scope.specs.TypeRules.{valNames}
@@ -13,7 +13,7 @@ use Rattle.scope.specs.Syntax.{Val}
 use Rattle.scope.specs.Memory.{flag}
 use Rattle.scope.specs.BodyRules.{Ruled, test}
 use Rattle.scope.specs.Bodies.{marked, State, Next, entered}
-use Rattle.table.specs.View.{valAtCode}
+use Rattle.decoded.specs.Decoded.{blockResults}
 use Rattle.standing.specs.declared.Stand.{Stand}
 use Rattle.standing.specs.declared.Scene.{Scene}
 use Rattle.standing.specs.declared.Step.{Step}
@@ -47,10 +47,6 @@ pub record ThreePut (work work′ : List ℕ) (m j k l x y z : ℕ) : Type 0 whe
   pub others : (i : ℕ) → (i ≡ 1_280 + (8 * m + j) → ⊥) → (i ≡ 1_280 + (8 * m + k) → ⊥) → (i ≡ 1_280 + (8 * m + l) → ⊥) → getD work′ i 0 ≡ getD work i 0
   pub size : length work′ ≡ length work
 
--- 0 no result, else one more than its code
-abbrev pub resultOf : ℕ → List Val
-resultOf w = cond (eqb w 0) [] (valAtCode (w - 1) ∷ [])
-
 -- one more frame has its words
 pub record Entering (work : List ℕ) (st : Stand) : Type 0 where
   pub room : 1_800 ≤ length work
@@ -82,7 +78,7 @@ opens types st isLoop rs =
     (entered st (frameOf isLoop rs (st .operands) (st .dead) (st .isSet)))
 
 pub record Opened (work work′ : List ℕ) (k : Scene) (st : Stand) (isLoop : Bool) (result at : ℕ) (r : Step) : Type 0 where
-  pub answer : stepOf work′ (k .locals) r ≡ opens (k .types) (stateAt work (k .locals) st) isLoop (resultOf result)
+  pub answer : stepOf work′ (k .locals) r ≡ opens (k .types) (stateAt work (k .locals) st) isLoop (blockResults result)
   pub upright : (st′ : Stand) → r ≡ Step.the-variants.On st′ → Upright work′ (k .locals) st′
   pub stamped : (st′ : Stand) → r ≡ Step.the-variants.On st′ → Stamped work′ (k .locals) (st′ .depth) (at + 1)
   pub types : (i : ℕ) → i < 256 → getD work′ i 0 ≡ getD work i 0

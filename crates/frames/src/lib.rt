@@ -9,7 +9,8 @@ ghost use Rattle.scope.specs.TypeRules.{valNames};
 ghost use Rattle.scope.specs.Memory.{flag};
 ghost use Rattle.table.specs.View.{linkAt};
 ghost use Rattle.reach.specs.Names.{allBelow};
-ghost use Rattle.frames.specs.Frames.{Ready, Marked, FrameRoom, ThreePut, resultOf, Entering, Entered, Opening, Opened};
+ghost use Rattle.decoded.specs.Decoded.{blockResults};
+ghost use Rattle.frames.specs.Frames.{Ready, Marked, FrameRoom, ThreePut, Entering, Entered, Opening, Opened};
 
 // By which number each rule is refused.
 const OVERSIZE: u64 = 4;
@@ -73,7 +74,7 @@ fn put_around(work: &mut [u32], m: u32, base: u32, height: u32, dead: bool)
 
 // Whether a block's result names types of the section only: 0 is none, else one more than its code.
 fn result_reached(types: u16, result: u64) -> bool
-    ensures { λ r. ⌜ r ≡ allBelow types (joined (map valNames (resultOf result))) ⌝ }
+    ensures { λ r. ⌜ r ≡ allBelow types (joined (map valNames (blockResults result))) ⌝ }
 {
     if result == 0 {
         return true;
