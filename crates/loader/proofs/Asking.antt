@@ -38,16 +38,16 @@ ask-is s x rows codes = go (tableLent rows codes)
 
 -- the verdict, taken apart
 
-verdict-refused : (o : Judged (List Definition)) {v : Verdict} {k p : ℕ} → v ≡ verdictOf length o → v ≡ Verdict.the-variants.Refused k p → o ≡ rejected k p
+pub verdict-refused : (o : Judged (List Definition)) {v : Verdict} {k p : ℕ} → v ≡ verdictOf length o → v ≡ Verdict.the-variants.Refused k p → o ≡ rejected k p
 verdict-refused (accepted ds) x y = absurd (let z : _≡_ {A = ℕ} 0 1 = cc in omega arith)
 verdict-refused (rejected k p) x y = cc
 
-verdict-accepted : (o : Judged (List Definition)) {v : Verdict} {n : ℕ} → v ≡ verdictOf length o → v ≡ Verdict.the-variants.Accepted n → (ds : List Definition) × (o ≡ accepted ds) × (n ≡ length ds)
+pub verdict-accepted : (o : Judged (List Definition)) {v : Verdict} {n : ℕ} → v ≡ verdictOf length o → v ≡ Verdict.the-variants.Accepted n → (ds : List Definition) × (o ≡ accepted ds) × (n ≡ length ds)
 verdict-accepted (accepted ds) x y = (ds, refl, cc)
 verdict-accepted (rejected k p) x y = absurd (let z : _≡_ {A = ℕ} 0 1 = cc in omega arith)
 
 -- a call that is accepted judged the section
-call-accepted : (s rows codes : List ℕ) {ds : List Definition} → sectionCall s rows codes ≡ accepted ds → judgeSection s ≡ accepted ds
+pub call-accepted : (s rows codes : List ℕ) {ds : List Definition} → sectionCall s rows codes ≡ accepted ds → judgeSection s ≡ accepted ds
 call-accepted s rows codes {ds} e = go (tableLent rows codes) e
   where
     go : (t : Bool) → lentEnough t (judgeSection s) ≡ accepted ds → judgeSection s ≡ accepted ds
@@ -71,7 +71,7 @@ module _ {s rows codes rows₁ codes₁ : List ℕ} {v : Verdict} (a : SectionJu
 
   module _ (ds : List Definition) (yes-section : sectionCall s rows codes ≡ accepted ds) where
     -- what the table says
-    viewed : view rows₁ codes₁ ≡ typesOf ds
+    pub viewed : view rows₁ codes₁ ≡ typesOf ds
     viewed =
         let (n, judged) = accepted-judged s (call-accepted s rows codes yes-section) in
         let r : rows₁ ≡ rowsOf 0 ds ++ replicate (length rows - length (tableRows ds)) 0 = a .rowsAfter ∙ ap (after tableRows rows) yes-section ∙ ap (λ ws. ws ++ replicate (length rows - length (tableRows ds)) 0) (sym (accepted-rows ds judged)) in
