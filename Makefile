@@ -1,8 +1,15 @@
-# demo: answer the requests of examples/requests.txt by computing the definitions. check: run the gate.
-# Both need the Rattle toolchain's rt and cargo on PATH, on x86-64 or Arm.
-.PHONY: demo check
+# all: the program at build/chelbugan. demo: answer the requests of examples/requests.txt by computing the definitions.
+# check: run the gate. compare: the library against the plain checker on COUNT requests. bench: times, to docs/BENCH.md.
+# All need the Rattle toolchain's rt and cargo on PATH, on x86-64 or Arm.
+.PHONY: all demo check compare bench
 
 REQUESTS := examples/requests.txt
+SEED := 1
+COUNT := 1000000
+
+all:
+	@cargo build --release --quiet --manifest-path host/Cargo.toml
+	@cp host/target/release/chelbugan build/chelbugan
 
 demo:
 	@answers=$$(cargo run --release --quiet --manifest-path tests/definitions/Cargo.toml -- . < $(REQUESTS)) && \
@@ -10,3 +17,9 @@ demo:
 
 check:
 	.ci/run
+
+compare:
+	@cargo run --release --quiet --manifest-path tests/host/Cargo.toml -- compare $(SEED) $(COUNT)
+
+bench:
+	@cd bench && cargo run --release --quiet
