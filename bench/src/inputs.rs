@@ -124,7 +124,7 @@ fn list(count: usize, entry: impl Fn(usize) -> Vec<u8>) -> Vec<u8> {
 
 /// Numbers and references in turn; some may be written.
 fn field(first: usize, index: usize) -> Vec<u8> {
-    let mutable = (index % 3 == 0) as u8;
+    let mutable = index.is_multiple_of(3) as u8;
     [value(first, index), vec![mutable]].concat()
 }
 

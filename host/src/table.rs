@@ -139,7 +139,7 @@ fn value_of(code: u16) -> ValueType {
 fn heap_of(code: u16) -> Heap {
     match ABSTRACT.get(code as usize) {
         Some(name) => Heap::Abstract(name),
-        None if code % 2 == 0 => Heap::Defined((code - 10) / 2),
+        None if code.is_multiple_of(2) => Heap::Defined((code - 10) / 2),
         None => Heap::Exact((code - 11) / 2),
     }
 }

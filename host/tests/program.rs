@@ -235,6 +235,19 @@ fn a_body_is_listed_with_offsets() {
     }
 }
 
+/// The page's command, after its prompt, and what stands below it up to the next line that is not indented.
+#[test]
+fn the_readme_shows_what_is_printed() {
+    let readme = std::path::Path::new(env!("CARGO_MANIFEST_DIR")).join("../README.md");
+    let readme = std::fs::read_to_string(readme).expect("the README");
+    let (_, shown) = readme.split_once("    $ build/chelbugan check '").expect("an example");
+    let (section, rest) = shown.split_once("'\n").expect("the example's section");
+    let printed: Vec<&str> =
+        rest.lines().take_while(|line| line.is_empty() || line.starts_with("    ")).collect();
+    let printed: Vec<&str> = printed.iter().map(|line| line.get(4..).unwrap_or("")).collect();
+    assert_eq!(no(&["check", section]).trim_end(), printed.join("\n").trim_end());
+}
+
 #[test]
 fn bad_usage_is_told() {
     assert!(misused(&[]).contains("no command was given"));

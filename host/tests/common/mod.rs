@@ -1,4 +1,5 @@
 //! Runs the program `chelbugan`.
+#![allow(dead_code)] // each test file uses its own part
 
 use std::io::Write;
 use std::process::{Command, Stdio};
@@ -9,7 +10,6 @@ pub struct Said {
     pub err: String,
 }
 
-#[allow(dead_code)]
 pub fn chelbugan(arguments: &[&str]) -> Said {
     chelbugan_fed(arguments, b"")
 }
