@@ -18,7 +18,7 @@ pub fn section_refusal(section: &[u8], refusal: Refusal) -> String {
     let listing = dump::section(section);
     let place = place_of(section, &listing, refusal);
     let mut text = format!("no: refusal {} at {}\n", refusal.number, named(&place));
-    text += &format!("  {}\n", words(refusal.number, &place));
+    text += &wrapped(words(refusal.number, &place));
     match place {
         Place::Byte(at) => text + &around(section, at..at + 1),
         Place::Type(number) => text + &around_type(section, &listing, number),
@@ -76,6 +76,23 @@ fn words(number: u64, place: &Place) -> &'static str {
         }
         _ => "a refusal that this program has no words for",
     }
+}
+
+const WIDTH: usize = 100;
+
+/// Words in lines of a width that a terminal has, a little to the right.
+fn wrapped(words: &str) -> String {
+    let mut lines = vec![String::new()];
+    for word in words.split(' ') {
+        let line = lines.last_mut().expect("there is always a line");
+        if line.len() + word.len() < WIDTH {
+            line.push(' ');
+            line.push_str(word);
+        } else {
+            lines.push(format!(" {word}"));
+        }
+    }
+    lines.iter().map(|line| format!(" {line}\n")).collect()
 }
 
 /// A type's bytes and its lines of the listing; or that there is no such type.
