@@ -1,0 +1,75 @@
+//! docs/bench.svg: nanoseconds for each byte, a panel for each kind of input, two bars for each size.
+
+use crate::inputs::KINDS;
+use crate::measure::Row;
+
+const PANEL_WIDTH: f64 = 270.0;
+const PANEL_HEIGHT: f64 = 200.0;
+const LEFT: f64 = 60.0;
+const TOP: f64 = 50.0;
+const BAR: f64 = 22.0;
+const GROUP: f64 = 62.0;
+
+const LIBRARY: &str = "#1b6ca8";
+const PLAIN: &str = "#c9a227";
+
+pub fn plot(rows: &[Row]) -> String {
+    let width = LEFT + PANEL_WIDTH * KINDS.len() as f64;
+    let height = TOP + PANEL_HEIGHT + 60.0;
+    let mut svg = format!(
+        "<svg xmlns=\"http://www.w3.org/2000/svg\" viewBox=\"0 0 {width} {height}\" font-family=\"sans-serif\" font-size=\"12\">\n\
+         <rect width=\"{width}\" height=\"{height}\" fill=\"white\"/>\n"
+    );
+    svg += &legend();
+    let panels = KINDS.iter().enumerate();
+    svg += &panels.map(|(index, kind)| panel(index, kind, rows)).collect::<String>();
+    svg + "</svg>\n"
+}
+
+fn text(x: f64, y: f64, anchor: &str, words: &str) -> String {
+    format!("<text x=\"{x:.1}\" y=\"{y:.1}\" text-anchor=\"{anchor}\">{words}</text>\n")
+}
+
+fn rectangle(x: f64, y: f64, width: f64, height: f64, colour: &str) -> String {
+    format!("<rect x=\"{x:.1}\" y=\"{y:.1}\" width=\"{width:.1}\" height=\"{height:.1}\" fill=\"{colour}\"/>\n")
+}
+
+fn legend() -> String {
+    [
+        rectangle(LEFT, 10.0, 12.0, 12.0, LIBRARY),
+        text(LEFT + 18.0, 20.0, "start", "proved library"),
+        rectangle(LEFT + 130.0, 10.0, 12.0, 12.0, PLAIN),
+        text(LEFT + 148.0, 20.0, "start", "plain checker"),
+        text(LEFT + 260.0, 20.0, "start", "nanoseconds for each byte; a scale for each panel"),
+    ]
+    .concat()
+}
+
+fn panel(index: usize, kind: &str, rows: &[Row]) -> String {
+    let own: Vec<&Row> = rows.iter().filter(|row| row.kind == kind).collect();
+    let values =
+        own.iter().flat_map(|row| [row.library, row.plain].map(|time| row.for_each_byte(time)));
+    let greatest = values.fold(0.0, f64::max);
+    let left = LEFT + PANEL_WIDTH * index as f64;
+    let bottom = TOP + PANEL_HEIGHT;
+    let mut svg = rectangle(left, bottom, PANEL_WIDTH - 22.0, 1.0, "black");
+    svg += &text(left + PANEL_WIDTH / 2.0 - 11.0, bottom + 40.0, "middle", kind);
+    for (number, row) in own.iter().enumerate() {
+        let x = left + 6.0 + GROUP * number as f64;
+        svg += &bar(x, row.for_each_byte(row.library), greatest, LIBRARY);
+        svg += &bar(x + BAR + 2.0, row.for_each_byte(row.plain), greatest, PLAIN);
+        svg += &text(x + BAR + 1.0, bottom + 18.0, "middle", &format!("{} KB", row.kilobytes));
+    }
+    svg
+}
+
+fn bar(x: f64, value: f64, greatest: f64, colour: &str) -> String {
+    let height = PANEL_HEIGHT * value / greatest;
+    let top = TOP + PANEL_HEIGHT - height;
+    rectangle(x, top, BAR, height, colour)
+        + &format!(
+            "<text x=\"{:.1}\" y=\"{:.1}\" text-anchor=\"middle\" font-size=\"9\">{value:.1}</text>\n",
+            x + BAR / 2.0,
+            top - 3.0
+        )
+}

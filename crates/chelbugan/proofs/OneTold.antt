@@ -1,0 +1,12 @@
+-- One statement, one answer: each part of what a host is told, and of the lent memory, is an equation with a value that the
+-- input fixes.
+use Prim.Native.Nat.{ℕ}
+use mathlib.Core.Path.{_≡_, sym, _∙_}
+use mathlib.Core.List.{List}
+use Rattle.chelbugan.specs.Told.{SectionTold, TypeTold}
+
+pub one-section-told : {s rows codes rows₁ codes₁ rows₂ codes₂ answer₁ answer₂ : List ℕ} {r q : ℕ} → SectionTold s rows codes rows₁ codes₁ r answer₁ → SectionTold s rows codes rows₂ codes₂ q answer₂ → (r ≡ q) × (answer₁ ≡ answer₂) × (rows₁ ≡ rows₂) × (codes₁ ≡ codes₂)
+one-section-told a b = (a .kind ∙ sym (b .kind), a .values ∙ sym (b .values), a .rowsAfter ∙ sym (b .rowsAfter), a .codesAfter ∙ sym (b .codesAfter))
+
+pub one-type-told : {s rows codes rows₁ codes₁ rows₂ codes₂ answer₁ answer₂ : List ℕ} {x r q : ℕ} → TypeTold s x rows codes rows₁ codes₁ r answer₁ → TypeTold s x rows codes rows₂ codes₂ q answer₂ → (r ≡ q) × (answer₁ ≡ answer₂) × (rows₁ ≡ rows₂) × (codes₁ ≡ codes₂)
+one-type-told a b = (a .kind ∙ sym (b .kind), a .values ∙ sym (b .values), a .rowsAfter ∙ sym (b .rowsAfter), a .codesAfter ∙ sym (b .codesAfter))

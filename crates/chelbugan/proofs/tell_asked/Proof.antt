@@ -1,0 +1,20 @@
+-- `chelbugan::tell_asked` meets its contract: what is told is read off the answer's case.
+use borrow.Author.Needs.{needs}
+use Rattle.chelbugan.proofs.Telling.{asked-exits}
+use Rattle.chelbugan.proofs.tell_asked.Statement.{statement}
+use Rattle.chelbugan.proofs.tell_asked.Tie as tie
+
+enum-known-asked : tie.Need-enum-known-asked
+enum-known-asked c = search needs
+
+enum-known-asked-2 : tie.Need-enum-known-asked-2
+enum-known-asked-2 c = search needs
+
+returns : tie.Need-returns
+returns c = search (asked-exits, needs)
+
+returns-2 : tie.Need-returns-2
+returns-2 c = search (asked-exits, needs)
+
+pub tell-asked-spec : {M : Type 1} → statement M
+tell-asked-spec = tie.close (tie.spec enum-known-asked enum-known-asked-2 returns returns-2)

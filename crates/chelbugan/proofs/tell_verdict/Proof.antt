@@ -1,0 +1,20 @@
+-- `chelbugan::tell_verdict` meets its contract: what is told is read off the verdict's case.
+use borrow.Author.Needs.{needs}
+use Rattle.chelbugan.proofs.Telling.{verdict-exits}
+use Rattle.chelbugan.proofs.tell_verdict.Statement.{statement}
+use Rattle.chelbugan.proofs.tell_verdict.Tie as tie
+
+enum-known-verdict : tie.Need-enum-known-verdict
+enum-known-verdict c = search needs
+
+enum-known-verdict-2 : tie.Need-enum-known-verdict-2
+enum-known-verdict-2 c = search needs
+
+returns : tie.Need-returns
+returns c = search (verdict-exits, needs)
+
+returns-2 : tie.Need-returns-2
+returns-2 c = search (verdict-exits, needs)
+
+pub tell-verdict-spec : {M : Type 1} → statement M
+tell-verdict-spec = tie.close (tie.spec enum-known-verdict enum-known-verdict-2 returns returns-2)

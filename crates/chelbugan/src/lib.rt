@@ -1,0 +1,72 @@
+// The public calls for a host in C or Rust: each returns what the answer is and writes the answer's values to three lent
+// words. include/chelbugan.h documents them. A host is trusted with no more than pointers and lengths: any bytes, numbers
+// and buffers may be handed in.
+use scope::Asked;
+use scope::Verdict;
+ghost use Rattle.chelbugan.specs.Told.{VerdictTold, AskedTold, SectionTold, TypeTold};
+
+// What an answer is: the number that each call returns.
+const NO: u64 = 0;
+
+const YES: u64 = 1;
+
+// A verdict: yes with a count, or no with the refusal's number and place.
+fn tell_verdict(verdict: Verdict, answer: &mut [u64; 3]) -> u64
+    ensures { λ r. ⌜ VerdictTold verdict r (now (answer .exit)) ⌝ }
+{
+    match verdict {
+        Verdict::Accepted(count) => {
+            *answer = [count, 0, 0];
+            YES
+        }
+        Verdict::Refused(number, place) => {
+            *answer = [number, place, 0];
+            NO
+        }
+    }
+}
+
+// Where bytes lie: yes with the two places, or no with the refusal's number and place.
+fn tell_asked(asked: Asked, answer: &mut [u64; 3]) -> u64
+    ensures { λ r. ⌜ AskedTold asked r (now (answer .exit)) ⌝ }
+{
+    match asked {
+        Asked::Bytes(from, to) => {
+            *answer = [from, to, 0];
+            YES
+        }
+        Asked::Refused(number, place) => {
+            *answer = [number, place, 0];
+            NO
+        }
+    }
+}
+
+// Judges a section.
+#[no_mangle]
+pub extern "C" fn chelbugan_judge_section(
+    section: &[u8],
+    rows: &mut [u16],
+    codes: &mut [u16],
+    answer: &mut [u64; 3],
+) -> u64
+    ensures { λ r. ⌜ SectionTold (now (section .entry)) (now (rows .entry)) (now (codes .entry)) (now (rows .exit)) (now (codes .exit)) r (now (answer .exit)) ⌝ }
+{
+    let verdict = loader::judge_section(section, rows, codes);
+    tell_verdict(verdict, answer)
+}
+
+// Asks a section for a type by number.
+#[no_mangle]
+pub extern "C" fn chelbugan_ask_type(
+    section: &[u8],
+    number: u64,
+    rows: &mut [u16],
+    codes: &mut [u16],
+    answer: &mut [u64; 3],
+) -> u64
+    ensures { λ r. ⌜ TypeTold (now (section .entry)) number (now (rows .entry)) (now (codes .entry)) (now (rows .exit)) (now (codes .exit)) r (now (answer .exit)) ⌝ }
+{
+    let asked = loader::ask_type(section, number, rows, codes);
+    tell_asked(asked, answer)
+}

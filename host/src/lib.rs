@@ -1,0 +1,13 @@
+//! The proved loader, called from Rust.
+//!
+//! [`Loader`] owns the memory that the loader is lent and gives answers as Rust values. [`calls`] has the calls
+//! themselves, for a host that lends memory of its own. Everything is safe: any bytes, numbers and lengths may be handed
+//! in.
+
+pub mod calls;
+mod loader;
+pub mod table;
+
+pub use calls::Refusal;
+pub use loader::Loader;
+pub use table::Table;
