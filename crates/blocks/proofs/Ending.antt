@@ -7,7 +7,7 @@ use mathlib.Core.List.{List, _∷_}
 use native.Mathlib.Omega.{arith}
 use lib.Dec.{eqb}
 use Rattle.scope.specs.Syntax.{Val}
-use Rattle.scope.specs.BodyRules.{Context, Ruled, allowed, fault, andRuled, fromTop}
+use Rattle.scope.specs.BodyRules.{Context, Ruled, allowed, andRuled, fromTop}
 use Rattle.scope.specs.Bodies.{Operand, Frame, State, Taken, Next, goesOn, finished, onTop, takeAll, noneLeft, within, leave, close, judgeInstr}
 use Rattle.scope.specs.Instructions.{end}
 use Rattle.table.specs.View.{view}

@@ -9,15 +9,15 @@ use mir.Syntax.{w64}
 use mir.Val.{Fits}
 use Rattle.scope.specs.Reading.{Read, got, refused, then}
 use Rattle.scope.specs.Instructions.{Instr, instrAt}
-use Rattle.scope.specs.BodyRules.{Context, Ruled, allowed, fault}
-use Rattle.scope.specs.Bodies.{State, Next, goesOn, finished, Code, onRuled, onNext, judgeInstr, judgeFrom}
+use Rattle.scope.specs.BodyRules.{Context, Ruled}
+use Rattle.scope.specs.Bodies.{State, Next, Code, onRuled, onNext, judgeInstr, judgeFrom}
 use Rattle.table.specs.View.{valAtCode, codesAt, view}
 use Rattle.immediates.specs.declared.Instruction.{Instruction}
 use Rattle.immediates.specs.declared.InstructionRead.{InstructionRead}
 use Rattle.immediates.specs.declared.InstructionRead
 use Rattle.immediates.specs.Coding.{instructionOf, instructionIs}
 use Rattle.immediates.proofs.Laws.{instruction-got, instruction-refused}
-use Rattle.instructions.proofs.Laws.{Ahead, instruction-ahead}
+use Rattle.instructions.proofs.Laws.{instruction-ahead}
 use Rattle.decoded.specs.Decoded.{instrOf}
 use Rattle.decoded.proofs.Short.{read-short}
 use Rattle.decoded.proofs.Kept.{instr-kept}
@@ -25,7 +25,7 @@ use Rattle.standing.specs.declared.Stand.{Stand}
 use Rattle.standing.specs.declared.Scene.{Scene}
 use Rattle.standing.specs.declared.Step.{Step}
 use Rattle.standing.specs.declared.Step
-use Rattle.standing.specs.Standing.{valAtWord, frameWord, contextAt, stateAt, Upright, Stamped, stepOf}
+use Rattle.standing.specs.Standing.{valAtWord, contextAt, stateAt, Upright, Stamped, stepOf}
 use Rattle.frames.specs.Frames.{Opening}
 use Rattle.bodies.specs.declared.Ended.{Ended}
 use Rattle.bodies.specs.declared.Ended

@@ -1,10 +1,10 @@
 -- Each way out of one instruction: it opens a frame, it closes one, or its plan is done.
-use Prim.Native.Nat.{ℕ, _+_, _<_, _≤_}
-use mathlib.Core.Path.{_≡_, refl, sym, ap, _∙_}
+use Prim.Native.Nat.{ℕ}
+use mathlib.Core.Path.{_≡_, refl, _∙_}
 use mathlib.Core.Bool.{Bool, true, false, cond}
 use mathlib.Core.List.{List}
 use native.Mathlib.Omega.{arith}
-use Rattle.scope.specs.Instructions.{Instr, block, loop, end}
+use Rattle.scope.specs.Instructions.{block, loop, end}
 use Rattle.scope.specs.BodyRules.{Context, Ruled, andRuled}
 use Rattle.scope.specs.Bodies.{State, Next, doPlan, judgeInstr}
 use Rattle.immediates.specs.declared.Instruction.{Instruction}
@@ -14,7 +14,7 @@ use Rattle.standing.specs.declared.Scene.{Scene}
 use Rattle.standing.specs.declared.Planned.{Planned}
 use Rattle.standing.specs.declared.Step.{Step}
 use Rattle.standing.specs.declared.Step
-use Rattle.standing.specs.Standing.{plannedOf, contextAt, stateAt, Upright, Stamped, Stepped}
+use Rattle.standing.specs.Standing.{plannedOf, contextAt, stateAt, Upright, Stepped}
 use Rattle.plans.specs.declared.Act.{Act}
 use Rattle.plans.specs.declared.Act
 use Rattle.plans.specs.Acts.{actOf}

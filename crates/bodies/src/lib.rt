@@ -5,7 +5,6 @@ use plans::Act;
 use standing::Scene;
 use standing::Stand;
 use standing::Step;
-ghost use mathlib.Core.Path.{_≡_};
 ghost use Rattle.scope.specs.Bodies.{judgeInstr};
 ghost use Rattle.decoded.specs.Decoded.{instrOf};
 ghost use Rattle.standing.specs.Standing.{contextAt, stateAt};

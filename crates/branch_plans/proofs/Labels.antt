@@ -18,7 +18,7 @@ use Rattle.standing.specs.declared.Values.{Values}
 use Rattle.standing.specs.declared.Values
 use Rattle.standing.specs.declared.Planned.{Planned}
 use Rattle.standing.specs.declared.Planned
-use Rattle.standing.specs.Standing.{resultsAt, valuesOf, plainOf, plannedOf, frameAt, framesAt}
+use Rattle.standing.specs.Standing.{valuesOf, plainOf, plannedOf, frameAt, framesAt, ResultsOf}
 use Rattle.planning.specs.Planning.{Stops}
 use Rattle.planning.proofs.Words.{wants-none, wants-i32, gives-none}
 use Rattle.branch_plans.specs.declared.Label.{Label}
@@ -32,14 +32,9 @@ module _ {work : List ℕ} (m : ℕ) {w : ℕ} (a : Word32At work (1_280 + (8 * 
   unfolding frameAt valuesOf codesAt
   loop-label e = record { is = λ codes count. rw (← a .is, eq-eqb w 1 e) }
 
-  module _ (b : w ≡ 1 → ⊥) {v : ℕ} (d : Word32At work (1_280 + (8 * m + 1)) v) where
-    pub block-without : v ≡ 0 → BlockLabel work m (Values.the-variants.Types 0 0)
-    unfolding frameAt valuesOf codesAt resultsAt
-    block-without e = record { is = λ codes count. rw (← a .is, ne-eqb w 1 b, ← d .is, eq-eqb v 0 e) }
-
-    pub block-with : (v ≡ 0 → ⊥) → BlockLabel work m (Values.the-variants.One (v - 1))
-    unfolding frameAt valuesOf resultsAt
-    block-with e = record { is = λ codes count. rw (← a .is, ne-eqb w 1 b, ← d .is, ne-eqb v 0 e) }
+  pub block-results : (w ≡ 1 → ⊥) → {r : Values} → ResultsOf work m r → BlockLabel work m r
+  unfolding frameAt
+  block-results b d = record { is = λ codes count. rw (← a .is, ne-eqb w 1 b) (d .is codes) }
 
 -- label_of: the frames, then the function's own results
 
@@ -107,4 +102,4 @@ module _ {work : List ℕ} {k : Scene} {depth l : ℕ} {r : Label} (a : LabelOf 
     br-if-planned =
         record { is = λ codes c isSet. rw (label-some codes, wants-i32, wants-none, gives-none, append-nil (valuesOf codes v)) }
 
-pub ruleset label-exits = (loop-label, block-without, block-with, label-absent, label-own, label-block, br-absent, br-planned, br-if-absent, br-if-planned)
+pub ruleset label-exits = (loop-label, block-results, label-absent, label-own, label-block, br-absent, br-planned, br-if-absent, br-if-planned)

@@ -11,7 +11,6 @@ use standing::LOOP;
 use standing::MOST;
 use standing::Plain;
 use standing::Planned;
-use standing::RESULT;
 use standing::Scene;
 use standing::Values;
 use table::Link;
@@ -55,12 +54,7 @@ fn block_label(work: &[u32], m: u32) -> Values
     if loops == 1 {
         return Values::Types(0, 0);
     }
-    let result = standing::frame_word(work, m, RESULT);
-    if result == 0 {
-        return Values::Types(0, 0);
-    }
-    let code = (result - 1) as u32;
-    Values::One(code)
+    standing::results_of(work, m)
 }
 
 // Label l from within so many blocks: the innermost is label 0, the function's own the last.

@@ -1,46 +1,38 @@
 -- A target in reach has a small code; each way out of what is asked of a target: the top of its hierarchy, its descriptor.
 use Prim.Native.Nat.{ℕ, _+_, _*_, _<_}
 use mathlib.Core.Path.{_≡_, sym, ap, _∙_}
-use mathlib.Core.Bool.{Bool, true, false, not}
+use mathlib.Core.Bool.{Bool, false, not}
 use mathlib.Core.Option.{Option}
 use native.Mathlib.Omega.{arith}
-use borrow.Author.Tests.{ltb-true, not-false}
-use lib.Dec.{ltb}
+use borrow.Author.Tests.{not-false}
 use mir.Syntax.{w16, w64}
 use mir.Val.{Fits}
 use Rattle.scope.specs.Abstract.{Abstract, row}
-use Rattle.scope.specs.Syntax.{Heap, abstract, defined, exact, Types}
-use Rattle.scope.specs.Memory.{abstractCode, heapCode}
+use Rattle.scope.specs.Syntax.{Heap, defined, exact, Types}
+use Rattle.scope.specs.Memory.{abstractCode}
 use Rattle.scope.specs.Order.{kindOf}
 use Rattle.scope.specs.TypeRules.{heapNames}
 use Rattle.scope.specs.BodyRules.{topOf, descriptorFor}
-use Rattle.scope.proofs.Truths.{from-both}
 use Rattle.heaps.specs.Heaps.{abstractAt}
-use Rattle.heaps.proofs.Laws.{code-small, at-code}
+use Rattle.heaps.proofs.Laws.{at-code}
 use Rattle.table.specs.View.{heapAtCode}
 use Rattle.table.specs.declared.HeapKind.{HeapKind}
 use Rattle.table.specs.declared.HeapKind
 use Rattle.table.specs.declared.Link.{Link}
 use Rattle.table.specs.declared.Link
 use Rattle.table.specs.Answers.{heapIs}
-use Rattle.table.proofs.Codes.{heap-code-at, heap-at-code}
+use Rattle.table.proofs.Codes.{heap-at-code}
 use Rattle.table.proofs.Laws.{is-abstract, is-defined, is-exact}
 use Rattle.reach.specs.Names.{allBelow}
+use Rattle.reach.proofs.Small.{heap-small}
 use Rattle.planning.specs.Planning.{DescriptorOf}
 use Rattle.cast_plans.specs.Casts.{DescriptorFor}
 
 -- in reach
 
-names-low : (types : ℕ) (h : Heap) → allBelow types (heapNames h) ≡ true → heapCode h < 12 + 2 * types
-unfolding allBelow
-names-low types (abstract a) e = omega (arith, code-small a)
-names-low types (defined x) e = omega (arith, ltb-true x types (from-both (ltb x types) true e .0))
-names-low types (exact x) e = omega (arith, ltb-true x types (from-both (ltb x types) true e .0))
-
 pub reach-small : (types heap : ℕ) {r : Bool} → r ≡ allBelow types (heapNames (heapAtCode heap)) → not r ≡ false → Fits w16 types → heap < 500_000
 reach-small types heap {r} e t f =
-    let low = names-low types (heapAtCode heap) (sym e ∙ not-false r t) in
-    let low′ = rw (heap-code-at heap) at low in
+    let low : heap < 12 + 2 * types = heap-small types heap (sym e ∙ not-false r t) in
     let few : types < 65_536 = f .fits in
     omega arith
 

@@ -1,22 +1,21 @@
 -- Each way out of the public call: the sizes of what is lent, the section, the body's size, the body; and zero afterwards.
 use Prim.Native.Nat.{ℕ, zero, suc, _^_, _≤_, _<_}
-use mathlib.Core.Path.{_≡_, refl, sym, ap, ap₂, _∙_}
-use mathlib.Core.Bool.{Bool, true, false, cond, _&&_, and-true}
-use mathlib.Core.List.{List, [], _∷_}
+use mathlib.Core.Path.{_≡_, refl, sym, ap, _∙_}
+use mathlib.Core.Bool.{Bool, true, false, and-true}
+use mathlib.Core.List.{List}
 use native.Mathlib.Omega.{arith}
 use lib.ListN.{length, replicate, length-replicate}
-use lib.Dec.{leb, ltb}
+use lib.Dec.{leb}
 use borrow.Author.Tests.{lt-ltb, le-ltb, lt-leb, le-leb}
 use Rattle.scope.specs.Reading.{Read, got, refused}
 use Rattle.scope.specs.Lists.{joined}
-use Rattle.scope.specs.Syntax.{Val, Form, struct, func, Definition, Group, typesOf}
+use Rattle.scope.specs.Syntax.{Val, Form, func, Definition, Group, typesOf}
 use Rattle.scope.specs.Sections.{readSection}
 use Rattle.scope.specs.Judging.{Judged, accepted, rejected, andThen, judgeTypes, judgeRead, judgeSection}
-use Rattle.scope.specs.Bodies.{Body, instructions, judgeBody}
-use Rattle.scope.specs.Answers.{tableLent, lentEnough, holds, verdictOf, sectionCall, SectionJudged, bodyCall, BodyJudged}
+use Rattle.scope.specs.Bodies.{instructions, judgeBody}
+use Rattle.scope.specs.Answers.{tableLent, lentEnough, verdictOf, sectionCall, SectionJudged, BodyJudged}
 use Rattle.scope.specs.declared.Verdict.{Verdict}
 use Rattle.scope.specs.declared.Verdict
-use Rattle.table.specs.View.{view}
 use Rattle.sections.proofs.Modest.{Each, no-more, one-more, Few, few-fields, few-values, Modest, read-fits}
 use Rattle.standing.proofs.Alike.{both-false}
 use Rattle.loader.proofs.Asking.{verdict-refused, verdict-accepted, call-accepted, viewed}

@@ -1,22 +1,21 @@
 -- Each way out of judging a body against the types of an accepted section: the table says what the definition reads from
 -- the section, so the locals, the context and the state that the check begins with are the definition's.
-use Prim.Native.Nat.{ℕ, _+_, _-_, _*_, _^_, _≤_, _<_}
+use Prim.Native.Nat.{ℕ, _+_, _-_, _*_, _≤_}
 use mathlib.Core.Path.{_≡_, refl, sym, ap, ap₂, _∙_}
 use mathlib.Core.Bool.{Bool, true, false, cond}
-use mathlib.Core.Option.{none, some}
-use mathlib.Core.List.{List, [], _∷_, _++_, map}
+use mathlib.Core.List.{List, []}
 use native.Mathlib.Omega.{arith}
 use native.Mathlib.Nat.{zero-add}
-use lib.ListN.{length, getD, replicate}
-use lib.Dec.{eqb, ltb}
-use borrow.Author.Tests.{eq-eqb, ne-eqb, lt-ltb, le-ltb}
-use Rattle.scope.specs.Reading.{Read, got, refused, given, then}
+use lib.ListN.{length}
+use lib.Dec.{eqb}
+use borrow.Author.Tests.{eq-eqb, ne-eqb}
+use Rattle.scope.specs.Reading.{Read, got, refused, then}
 use Rattle.scope.specs.Numbers.{u32}
-use Rattle.scope.specs.Syntax.{Val, Form, struct, func, Definition, typesOf}
+use Rattle.scope.specs.Syntax.{Val, func, Definition, typesOf}
 use Rattle.scope.specs.Sections.{ended}
-use Rattle.scope.specs.Judging.{Judged, accepted, rejected}
-use Rattle.scope.specs.BodyRules.{Context, hasDefault}
-use Rattle.scope.specs.Bodies.{State, Function, functionOf, Code, Body, instructions, setAtFirst, startState, contextOf, localsAt, judgeFrom, bodyAt, judgedOf}
+use Rattle.scope.specs.Judging.{accepted}
+use Rattle.scope.specs.BodyRules.{Context}
+use Rattle.scope.specs.Bodies.{State, Function, Code, Body, instructions, startState, contextOf, localsAt, judgeFrom, bodyAt, judgedOf}
 use Rattle.scope.specs.Answers.{verdictOf}
 use Rattle.scope.specs.declared.Verdict.{Verdict}
 use Rattle.scope.specs.declared.Verdict
@@ -24,8 +23,7 @@ use Rattle.table.specs.declared.Shape.{Shape}
 use Rattle.table.specs.declared.Shape
 use Rattle.table.specs.Answers.{shapeForm}
 use Rattle.table.specs.View.{valAtCode, codesAt, view}
-use Rattle.standing.specs.declared.Scene.{Scene}
-use Rattle.standing.specs.Standing.{frameWord, stack, setsAt, framesAt, contextAt, stateAt, floor, Upright, Stamped}
+use Rattle.standing.specs.Standing.{stack, setsAt, framesAt, contextAt, stateAt, floor}
 use Rattle.standing.proofs.Answers.{codes-length}
 use Rattle.starting.specs.declared.Started.{Started}
 use Rattle.starting.specs.declared.Started
@@ -34,7 +32,7 @@ use Rattle.starting.specs.Beginning.{localsFirst, startedIs, Starting, StartedA
 use Rattle.bodies.specs.declared.Ended.{Ended}
 use Rattle.bodies.specs.declared.Ended
 use Rattle.bodies.specs.Loop.{begin, Begun, endedIs, JudgedFrom}
-use Rattle.checker.specs.Typed.{endedAs, Fresh, Sized, Typing, typedOn, TypedJudged}
+use Rattle.checker.specs.Typed.{endedAs, Typing, typedOn, TypedJudged}
 
 -- last, 5
 

@@ -129,12 +129,12 @@ fn judge_enough(
 }
 
 // Zero in every word that was lent.
-fn clear(rows: &mut [u16], codes: &mut [u16], work: &mut [u32])
-    ensures { λ r. ⌜ Cleared (now (rows .entry)) (now (codes .entry)) (now (work .entry)) (now (rows .exit)) (now (codes .exit)) (now (work .exit)) ⌝ }
+fn clear(rows: &mut [u16], codes: &mut [u16], used: &mut [u32])
+    ensures { λ r. ⌜ Cleared (now (rows .entry)) (now (codes .entry)) (now (used .entry)) (now (rows .exit)) (now (codes .exit)) (now (used .exit)) ⌝ }
 {
     words::wipe(rows);
     words::wipe(codes);
-    scratch::wipe32(work);
+    scratch::wipe32(used);
 }
 
 // Judges a body against a function type's number: its count of instructions; or the refusal's number and place.

@@ -1,14 +1,11 @@
 -- Each way out of doing a plan that gives values.
-use Prim.Native.Nat.{ℕ, _+_, _*_, _≤_, _<_}
-use mathlib.Core.Path.{_≡_, refl, sym, ap, ap₂, _∙_}
-use mathlib.Core.Bool.{Bool, true, false, cond}
-use mathlib.Core.Option.{Option}
-use mathlib.Core.List.{List, [], _∷_, _++_, map, reverse}
+use Prim.Native.Nat.{ℕ, _+_}
+use mathlib.Core.Path.{_≡_, refl, sym, ap, _∙_}
+use mathlib.Core.Bool.{true, false}
+use mathlib.Core.List.{List, [], _++_}
 use native.Mathlib.Omega.{arith}
-use lib.ListN.{getD, length, length-append, length-map, length-reverse}
-use Rattle.scope.specs.Syntax.{Val, Types}
-use Rattle.scope.specs.BodyRules.{Context, Wanted, Ruled, allowed, fault, andRuled, fromTop}
-use Rattle.scope.specs.Bodies.{Operand, known, Taken, takeAll, onTop, put, marked, doPlan, State, Next, goesOn, within}
+use Rattle.scope.specs.BodyRules.{Context, Ruled, allowed, fault, andRuled, fromTop}
+use Rattle.scope.specs.Bodies.{Operand, Taken, takeAll, put, marked, doPlan, State, Next, goesOn, within}
 use Rattle.table.specs.View.{linkAt, view}
 use Rattle.standing.specs.declared.Stand.{Stand}
 use Rattle.standing.specs.declared.Scene.{Scene}
@@ -17,19 +14,18 @@ use Rattle.standing.specs.declared.Planned.{Planned}
 use Rattle.standing.specs.declared.Planned
 use Rattle.standing.specs.declared.Step.{Step}
 use Rattle.standing.specs.declared.Step
-use Rattle.standing.specs.Standing.{valuesOf, resultsAt, wantsAt, plainOf, plannedOf, stack, setsAt, framesAt, contextAt, stateAt, Upright, Stamped, Stepped}
-use Rattle.standing.proofs.Alike.{stack-length}
-use Rattle.standing.proofs.Stepping.{stepped-on, stepped-fault, stepped-as, within-on, within-full}
+use Rattle.standing.specs.Standing.{valuesOf, wantsAt, plainOf, plannedOf, stack, setsAt, contextAt, stateAt, Upright, Stepped}
+use Rattle.standing.proofs.Stepping.{stepped-on, stepped-fault, stepped-as, within-on}
 use Rattle.operands.specs.declared.Left.{Left}
 use Rattle.operands.specs.declared.Left
-use Rattle.operands.specs.Taking.{Pushed, leftIn, leftOf}
+use Rattle.operands.specs.Taking.{leftIn, leftOf}
 use Rattle.operands.proofs.Standing.{pushed-state, pushed-upright, pushed-stamped, pushed-types}
 use Rattle.frames.specs.Frames.{Ready, Marked}
 use Rattle.frames.proofs.Standing.{may-mark, marked-state, marked-upright, marked-stamped}
 use Rattle.gives.specs.declared.Given.{Given}
 use Rattle.gives.specs.declared.Given
-use Rattle.gives.specs.Gives.{Long, backOf, givenOf, Gave, TooMany, GivenTo}
-use Rattle.gives.proofs.Laws.{onThose, within-sizes, beyond-sizes}
+use Rattle.gives.specs.Gives.{Long, backOf, givenOf, Gave, GivenTo}
+use Rattle.gives.proofs.Laws.{within-sizes, beyond-sizes}
 use Rattle.references.specs.OneMore.{nonNullDone, descriptorDone}
 use Rattle.effects.specs.Effects.{afterPlain}
 

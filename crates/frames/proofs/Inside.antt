@@ -1,23 +1,22 @@
 -- A block is opened: its frame is written above the others, which stay as they are. Its stamp is the place of this
 -- instruction, which no local has yet, so the locals that are set inside it are those that were set around it.
-use Prim.Native.Nat.{ℕ, zero, suc, _+_, _-_, _*_, _%_, _^_, _≤_, _<_}
+use Prim.Native.Nat.{ℕ, suc, _+_, _-_, _*_, _%_, _^_, _≤_, _<_}
 use mathlib.Core.Path.{_≡_, refl, sym, ap, ap₂, _∙_}
 use mathlib.Core.Logic.{_⊎_, inl, inr}
-use mathlib.Core.Bool.{Bool, true, false, not, cond, _&&_}
-use mathlib.Core.List.{List, [], _∷_, _++_, map, append-nil}
+use mathlib.Core.Bool.{Bool, true, false, not, _&&_}
+use mathlib.Core.List.{List, [], _∷_, map, append-nil}
 use native.Mathlib.Omega.{arith}
 use native.Mathlib.Nat.{mod-eq-of-lt}
 use native.Mathlib.Numerals.{add-one}
 use lib.ListN.{length, getD}
 use lib.Dec.{eqb, ltb, leb}
-use borrow.Author.Tests.{not-true, not-false, eq-eqb, ne-eqb, lt-ltb, le-ltb, lt-leb, le-leb, leb-true, leb-false, eqb-true, eqb-false}
+use borrow.Author.Tests.{not-true, not-false, ne-eqb, lt-ltb, le-ltb, leb-true, leb-false, eqb-true, eqb-false}
 use mir.Syntax.{w16, w32}
 use mir.Val.{Fits}
-use Rattle.scope.specs.Lists.{every, joined}
-use Rattle.scope.specs.Syntax.{Val}
+use Rattle.scope.specs.Lists.{joined}
 use Rattle.scope.specs.Memory.{flag}
 use Rattle.scope.specs.TypeRules.{valNames}
-use Rattle.scope.specs.BodyRules.{Ruled, allowed, fault}
+use Rattle.scope.specs.BodyRules.{allowed, fault}
 use Rattle.scope.specs.Bodies.{State, goesOn}
 use Rattle.scope.proofs.Truths.{decided}
 use Rattle.table.specs.View.{valAtCode}
@@ -28,8 +27,8 @@ use Rattle.standing.specs.declared.Stand.{Stand}
 use Rattle.standing.specs.declared.Scene.{Scene}
 use Rattle.standing.specs.declared.Step.{Step}
 use Rattle.standing.specs.declared.Step
-use Rattle.standing.specs.Standing.{valAtWord, resultsAt, frameWord, stack, isSetAt, setsAt, frameOf, frameAt, framesAt, stateAt, Rests, above, Upright, Stamped, stepOf}
-use Rattle.standing.proofs.Alike.{Alike, alike-less, stack-same, is-set-same, sets-same, sets-alike, rests-alike, frames-alike, frames-length, frames-more}
+use Rattle.standing.specs.Standing.{valAtWord, resultsAt, frameWord, stack, isSetAt, setsAt, frameOf, frameAt, framesAt, stateAt, Rests, above, Upright, Stamped}
+use Rattle.standing.proofs.Alike.{Alike, alike-less, stack-same, sets-same, sets-alike, rests-alike, frames-alike, frames-length, frames-more}
 use Rattle.frames.specs.Frames.{FrameRoom, ThreePut, Entering, Entered, Opening, opens, Opened}
 
 -- the block's result

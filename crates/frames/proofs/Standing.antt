@@ -1,13 +1,12 @@
 -- The state with a local set: only which locals are set is another.
-use Prim.Native.Nat.{ℕ, _+_, _*_, _≤_, _<_}
-use mathlib.Core.Path.{_≡_, refl, sym, ap, _∙_}
+use Prim.Native.Nat.{ℕ, _+_, _*_}
+use mathlib.Core.Path.{_≡_}
 use mathlib.Core.Option.{Option}
 use mathlib.Core.List.{List}
 use native.Mathlib.Omega.{arith}
-use lib.ListN.{getD, length}
-use Rattle.scope.specs.Bodies.{State, marked}
+use Rattle.scope.specs.Bodies.{marked}
 use Rattle.standing.specs.declared.Stand.{Stand}
-use Rattle.standing.specs.Standing.{frameWord, stack, setsAt, framesAt, stateAt, Upright, Stamped}
+use Rattle.standing.specs.Standing.{stack, setsAt, framesAt, stateAt, Upright, Stamped}
 use Rattle.standing.proofs.Alike.{Around, stack-alike, rests-around, frames-around}
 use Rattle.frames.specs.Frames.{Ready, Marked}
 

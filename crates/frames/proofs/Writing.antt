@@ -1,6 +1,6 @@
 -- Three words of a frame, one store after the other.
-use Prim.Native.Nat.{ℕ, _+_, _*_, _%_, _^_, _≤_, _<_}
-use mathlib.Core.Path.{_≡_, refl, sym, ap, _∙_}
+use Prim.Native.Nat.{ℕ, _+_, _*_, _%_, _^_, _<_}
+use mathlib.Core.Path.{_≡_, _∙_}
 use mathlib.Core.Bool.{Bool, true, false}
 use mathlib.Core.List.{List}
 use native.Mathlib.Omega.{arith}
@@ -8,7 +8,6 @@ use native.Mathlib.Nat.{mod-eq-of-lt}
 use lib.ListN.{length, set, getD, length-set}
 use lib.Seq.{getD-set-same, getD-set-other}
 use Rattle.scope.specs.Memory.{flag}
-use Rattle.standing.specs.Standing.{frameWord}
 use Rattle.frames.specs.Frames.{FrameRoom, ThreePut}
 
 -- one store: the word is there, and every other is as it was

@@ -1,9 +1,9 @@
 -- What opening a block and setting a local leave in the scratch, by what its words then say.
 use Prim.Native.Nat.{ℕ, _+_, _-_, _*_, _<_, _≤_}
 use mathlib.Core.Path.{_≡_}
-use mathlib.Core.Bool.{Bool, true, false, cond}
+use mathlib.Core.Bool.{Bool, false}
 use mathlib.Core.Option.{Option}
-use mathlib.Core.List.{List, [], _∷_, map}
+use mathlib.Core.List.{List, map}
 use lib.ListN.{getD, length}
 use lib.Dec.{ltb}
 use Rattle.scope.specs.Refusals.{outOfReach}

@@ -1,13 +1,13 @@
 -- Words read as operands and as what is wanted; the stack that the words say; what is left of it when operands are taken,
 -- and what stands there when some are put.
 use Prim.Native.Nat.{ℕ, zero, suc, _+_, _-_, _%_, _≤_, _<_}
-use mathlib.Core.Path.{_≡_, refl, sym, ap, ap₂, _∙_}
+use mathlib.Core.Path.{_≡_, refl, sym, ap, _∙_}
 use mathlib.Core.Bool.{Bool, true, false, cond}
 use mathlib.Core.Option.{some}
 use mathlib.Core.List.{List, [], _∷_, _++_, map, reverse, append-assoc, map-append, reverse-append}
 use native.Mathlib.Omega.{arith}
 use native.Mathlib.Nat.{mod-eq-of-lt}
-use lib.ListN.{length, getD, getElem?, take}
+use lib.ListN.{getD, getElem?, take}
 use borrow.Author.Tests.{ne-eqb}
 use Rattle.scope.specs.Refusals.{badOperand}
 use Rattle.scope.specs.Syntax.{Types, Val}

@@ -6,7 +6,7 @@ use mathlib.Core.Bool.{Bool}
 use mathlib.Core.List.{List, _++_}
 use native.Mathlib.Omega.{arith}
 use lib.ListN.{getD, length}
-use Rattle.scope.specs.Bodies.{Operand, State}
+use Rattle.scope.specs.Bodies.{Operand}
 use Rattle.standing.specs.Standing.{stack, setsAt, framesAt, stateAt, Rests, Upright, Stamped}
 use Rattle.standing.proofs.Alike.{Alike, alike-less, sets-alike, rests-alike, frames-alike}
 use Rattle.operands.specs.Taking.{Pushed}

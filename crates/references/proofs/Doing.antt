@@ -1,16 +1,16 @@
 -- Each way out of the two instructions: an operand is taken, and one is put on top of what is left.
 use Prim.Native.Nat.{ℕ, _+_, _*_, _%_, _^_, _≤_, _<_}
-use mathlib.Core.Path.{_≡_, refl, sym, ap, _∙_}
-use mathlib.Core.Bool.{Bool, true, false, cond}
+use mathlib.Core.Path.{_≡_, sym, ap, _∙_}
+use mathlib.Core.Bool.{cond}
 use mathlib.Core.List.{List, [], _∷_}
 use native.Mathlib.Omega.{arith}
 use native.Mathlib.Nat.{mod-eq-of-lt}
 use lib.ListN.{length}
 use mir.Syntax.{w32}
 use mir.Val.{Fits}
-use Rattle.scope.specs.Syntax.{Types, nullable, nonNull, defined, exact}
-use Rattle.scope.specs.BodyRules.{Wanted, value, anyReference, Ruled, allowed, fault}
-use Rattle.scope.specs.Bodies.{Operand, known, fits, nonNullOf, Taken, takeAll, put, doPlan, State, Next, goesOn, within}
+use Rattle.scope.specs.Syntax.{nullable, nonNull, defined, exact}
+use Rattle.scope.specs.BodyRules.{value, allowed}
+use Rattle.scope.specs.Bodies.{known, fits, nonNullOf, takeAll, put, doPlan, State, goesOn, within}
 use Rattle.scope.specs.Memory.{valCode}
 use Rattle.table.specs.View.{view}
 use Rattle.standing.specs.declared.Stand.{Stand}

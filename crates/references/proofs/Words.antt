@@ -1,13 +1,13 @@
 -- The words of the two results: a reference that is not null, and a descriptor's.
-use Prim.Native.Nat.{ℕ, _+_, _-_, _*_, _/_, _%_, _^_, _≤_, _<_}
-use mathlib.Core.Path.{_≡_, refl, sym, ap, _∙_}
+use Prim.Native.Nat.{ℕ, _+_, _-_, _*_, _/_, _%_, _≤_, _<_}
+use mathlib.Core.Path.{_≡_, refl, ap, _∙_}
 use mathlib.Core.Bool.{Bool, true, false, cond}
 use native.Mathlib.Omega.{arith}
 use lib.Dec.{eqb}
-use borrow.Author.Tests.{lt-ltb, eq-eqb, ne-eqb, eqb-true, eqb-false}
+use borrow.Author.Tests.{ne-eqb, eqb-true, eqb-false}
 use Rattle.scope.specs.Syntax.{defined, exact, Val, num, ref, nullable, nonNull, Types}
 use Rattle.scope.specs.BodyRules.{value}
-use Rattle.scope.specs.Bodies.{Operand, known, unknown, unknownReference, nonNullOf, fits}
+use Rattle.scope.specs.Bodies.{known, nonNullOf, fits}
 use Rattle.scope.specs.Memory.{valCode}
 use Rattle.table.specs.View.{isOdd, numberAt, heapAtCode, valAtCode}
 use Rattle.table.proofs.Codes.{val-number, val-ref}

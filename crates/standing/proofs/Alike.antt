@@ -1,18 +1,18 @@
 -- What of the scratch a reading looks at: memories that are alike there say the same. The operands of a frame lie below
 -- `base`, and the frames up to depth d have the numbers up to d + 1.
 use Prim.Native.Nat.{ℕ, zero, suc, _+_, _-_, _*_, _≤_, _<_}
-use mathlib.Core.Path.{_≡_, refl, sym, ap, ap₂, _∙_}
+use mathlib.Core.Path.{_≡_, refl, ap, ap₂, _∙_}
 use mathlib.Core.Logic.{_⊎_, inl, inr}
-use mathlib.Core.Bool.{Bool, true, false, cond, _&&_}
-use mathlib.Core.List.{List, [], _∷_, _++_, map}
+use mathlib.Core.Bool.{Bool, true, false, _&&_}
+use mathlib.Core.List.{List, _∷_, map}
 use native.Mathlib.Omega.{arith}
 use native.Mathlib.Numerals.{add-one}
 use lib.ListN.{getD, length}
 use lib.Dec.{eqb, ltb, leb}
-use borrow.Author.Tests.{leb-true, leb-false, lt-leb, le-leb}
+use borrow.Author.Tests.{leb-true, leb-false}
 use Rattle.scope.specs.Lists.{sum}
 use Rattle.scope.specs.Syntax.{Val}
-use Rattle.scope.specs.Bodies.{Operand, Frame, ofBlock, ofLoop, outerOf}
+use Rattle.scope.specs.Bodies.{Operand, outerOf}
 use Rattle.scope.proofs.Truths.{decided}
 use Rattle.standing.specs.Standing.{operandAtCode, resultsAt, frameWord, stack, isSetAt, setsAt, frameOf, frameAt, framesAt, Rests, floor, above}
 

@@ -1,14 +1,14 @@
 -- Each way out of the questions that are asked of the scratch.
 use Prim.Native.Nat.{ℕ, zero, suc, _+_, _-_, _*_, _/_, _%_, _≤_, _<_}
 use mathlib.Core.Path.{_≡_, refl, sym, ap, _∙_}
-use mathlib.Core.Bool.{Bool, true, false, cond, _&&_}
-use mathlib.Core.Option.{Option, none, some}
+use mathlib.Core.Bool.{false}
+use mathlib.Core.Option.{none, some}
 use mathlib.Core.List.{List, [], _∷_, map}
 use native.Mathlib.Omega.{arith}
-use native.Mathlib.Nat.{add-zero, add-assoc, zero-add}
+use native.Mathlib.Nat.{add-zero, zero-add}
 use lib.ListN.{getD, getElem?, length, length-map}
-use lib.Dec.{eqb, ltb, leb}
-use borrow.Author.Tests.{ne-eqb, lt-ltb, le-ltb, lt-leb, le-leb}
+use lib.Dec.{eqb}
+use borrow.Author.Tests.{ne-eqb, lt-ltb, lt-leb, le-leb}
 use Rattle.scope.specs.Syntax.{Val}
 use Rattle.scope.specs.BodyRules.{holdsOf}
 use Rattle.table.specs.View.{valAtCode, fieldAtCode, codesAt}

@@ -1,15 +1,14 @@
 -- What comes of an instruction, made of its parts: the check goes on, or it is refused and nothing was written.
 use Prim.Native.Nat.{ℕ, _+_, _≤_, _<_}
-use mathlib.Core.Path.{_≡_, refl, sym, ap, _∙_}
-use mathlib.Core.Bool.{Bool, true, false}
+use mathlib.Core.Path.{_≡_, ap}
+use mathlib.Core.Bool.{Bool}
 use mathlib.Core.List.{List, map}
 use native.Mathlib.Omega.{arith}
 use lib.ListN.{getD, length}
-use lib.Dec.{leb}
 use borrow.Author.Tests.{lt-leb, le-leb}
 use Rattle.scope.specs.Lists.{sum}
 use Rattle.scope.specs.BodyRules.{Ruled, allowed, fault}
-use Rattle.scope.specs.Bodies.{Operand, outerOf, State, Next, goesOn, operandsIn, within}
+use Rattle.scope.specs.Bodies.{Operand, outerOf, Next, goesOn, within}
 use Rattle.standing.specs.declared.Stand.{Stand}
 use Rattle.standing.specs.declared.Step.{Step}
 use Rattle.standing.specs.declared.Step

@@ -10,29 +10,11 @@ frame-word-requires c κs = search (label-exits, needs)
 returns : tie.Need-returns
 returns c = search (label-exits, needs)
 
-frame-word-requires-2 : tie.Need-frame-word-requires-2
-frame-word-requires-2 c κs = search (label-exits, needs)
+results-of-requires : tie.Need-results-of-requires
+results-of-requires c κs = search (label-exits, needs)
 
 returns-2 : tie.Need-returns-2
 returns-2 c = search (label-exits, needs)
 
-sub-code : tie.Need-sub-code
-sub-code c = search (label-exits, needs)
-
-cast-code : tie.Need-cast-code
-cast-code c = search (label-exits, needs)
-
-returns-3 : tie.Need-returns-3
-returns-3 c = search (label-exits, needs)
-
 pub block-label-spec : {M : Type 1} → statement M
-block-label-spec =
-    tie.close
-    (tie.spec
-    frame-word-requires
-    returns
-    frame-word-requires-2
-    returns-2
-    sub-code
-    cast-code
-    returns-3)
+block-label-spec = tie.close (tie.spec frame-word-requires returns results-of-requires returns-2)
