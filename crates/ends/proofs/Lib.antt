@@ -1,0 +1,5 @@
+pub mod Codes
+pub mod Notes
+pub mod Balance
+pub mod Chain
+pub mod Filling

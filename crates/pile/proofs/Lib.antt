@@ -1,0 +1,5 @@
+pub mod Laws
+pub mod OnTop
+pub mod GoingDown
+pub mod Held
+pub mod Starts

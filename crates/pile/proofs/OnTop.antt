@@ -1,0 +1,79 @@
+-- The operand on top, read and put.
+use Prim.Native.Nat.{ℕ, _+_, _-_, _*_, _<_}
+use mathlib.Core.Path.{_≡_, refl, sym, ap, ap₂, _∙_}
+use mathlib.Core.Option.{none, some}
+use mathlib.Core.List.{List, [], _∷_}
+use native.Mathlib.Omega.{arith}
+use lib.ListN.{length, getD}
+use mir.Syntax.{w32}
+use mir.Val.{Fits}
+use Rattle.scope.specs.Machine.{Value}
+use Rattle.cells.specs.Values.{Word64At, valueAt, valueIn, setValue}
+use Rattle.cells.proofs.Laws.{put-long, put-beside, put-here, put-canon-more}
+use Rattle.pile.specs.declared.Topmost.{Topmost}
+use Rattle.pile.specs.declared.Topmost
+use Rattle.pile.specs.Pile.{pile, Room, headOf, TopIs, Pushed}
+use Rattle.pile.proofs.Laws.{pile-none, pile-more, pile-some, pile-same}
+
+-- read
+
+pub top-nothing : (m : List ℕ) (base : ℕ) {h : ℕ} → h ≡ 0 → TopIs m base h Topmost.the-variants.Nothing
+top-nothing m base e =
+    record { is = ap headOf (sym (pile-none m base e)); canon = λ k n z. absurd (let y : _≡_ {A = ℕ} 0 1 = cc in omega arith) }
+
+pub top-there : {m : List ℕ} {base h k n : ℕ} → (h ≡ 0 → ⊥) → Word64At m (2 * (base + (h - 1))) k → Word64At m (2 * (base + (h - 1)) + 1) n → TopIs m base h (Topmost.the-variants.Is k n)
+unfolding valueIn
+top-there {m} {base} {h} {k} {n} d a b =
+    record {
+      is = ap₂ (λ (x y : ℕ). some (valueAt x y)) (a .is) (b .is) ∙ ap headOf (sym (pile-some m base d));
+      canon = λ x y z c.
+          let left : k ≡ x = cc in
+          let right : n ≡ y = cc in
+          rw (← left, ← right, a .is, b .is) (c .each (base + (h - 1)) (omega (arith, d)));
+    }
+
+-- what the answer tells
+
+module _ {m : List ℕ} {base h : ℕ} {r : Topmost} where
+  pub top-missed : r ≡ Topmost.the-variants.Nothing → TopIs m base h r → pile m base h ≡ []
+  top-missed e a = go (pile m base h) (rw e at (a .is))
+    where
+      go : (vs : List Value) → none ≡ headOf vs → vs ≡ []
+      go [] z = refl
+      go (v ∷ vs) z = absurd (let y : _≡_ {A = ℕ} 0 1 = cc in omega arith)
+
+  module _ {k n : ℕ} (e : r ≡ Topmost.the-variants.Is k n) (a : TopIs m base h r) where
+    is-some : some (valueAt k n) ≡ headOf (pile m base h)
+    is-some = rw e at (a .is)
+
+    pub top-high : h ≡ 0 → ⊥
+    top-high z =
+        let none′ : some (valueAt k n) ≡ none = is-some ∙ ap headOf (pile-none m base z) in
+        absurd (let y : _≡_ {A = ℕ} 0 1 = cc in omega arith)
+
+    pub top-got : pile m base h ≡ valueAt k n ∷ pile m base (h - 1)
+    top-got =
+        let parts : pile m base h ≡ valueIn m (base + (h - 1)) ∷ pile m base (h - 1) = pile-some m base top-high in
+        let same : some (valueAt k n) ≡ some (valueIn m (base + (h - 1))) = is-some ∙ ap headOf parts in
+        let value : valueIn m (base + (h - 1)) ≡ valueAt k n = cc in
+        parts ∙ ap (λ (v : Value). v ∷ pile m base (h - 1)) value
+
+-- put
+
+pub pushed-one : {m m′ : List ℕ} {base h : ℕ} (k n : ℕ) → m′ ≡ setValue m (base + h) k n → Room m base h 1 → Pushed m m′ base h k n
+pushed-one {m} {m′} {base} {h} k n e room =
+    let here : 2 * (base + h) + 1 < length m = omega (arith, room .room, room .few) in
+    let below : (i : ℕ) → i < 2 * (base + h) → getD m′ i 0 ≡ getD m i 0 = λ i l. rw e (put-beside m (base + h) k n i (λ q. omega arith) (λ q. omega arith)) in
+    let value : valueIn m′ (base + h) ≡ valueAt k n = rw e (put-here m (base + h) k n here) in
+    let next : base + (h + 1) ≡ base + h + 1 = omega arith in
+    record {
+      top = pile-more m′ base h ∙ ap₂ _∷_ value (pile-same m m′ base h below);
+      below = below;
+      canon = λ c all. rw (e, next) (put-canon-more m (base + h) k n here c all);
+      size = rw e (put-long m (base + h) k n);
+    }
+
+pub push-fits : {m : List ℕ} {base h : ℕ} → Room m base h 1 → Fits w32 (base + h)
+push-fits room = record { fits = omega (arith, room .few) }
+
+pub ruleset top-exits = (top-nothing, top-there, pushed-one, push-fits)
