@@ -1,6 +1,6 @@
 -- The open blocks, linked inside the memory: at each one's place stands the word of the one around it. Each began at an
--- earlier place than those inside it, so a store at a later place leaves the links outwards as they are. And as many ends
--- as there are blocks from it inwards lie between here and what comes after its own.
+-- earlier place than those inside it, so a store at a later place leaves the links outwards as they are. And as many
+-- ends as there are blocks from it inwards lie between here and what comes after its own.
 use Prim.Native.Nat.{ℕ, suc, _+_, _≤_, _<_, _%_, zero-le}
 use mathlib.Core.Path.{_≡_, refl, sym, ap, _∙_}
 use mathlib.Core.List.{List, [], _∷_}
@@ -14,8 +14,8 @@ use Rattle.scope.specs.Bodies.{Code}
 use Rattle.scope.specs.Machine.{past}
 use Rattle.ends.specs.Matching.{codeAt, Opener}
 
--- the blocks open where `code` begins, by the word of the innermost: their places, each below `bound`; `count` ends close
--- the innermost one
+-- the blocks open where `code` begins, by the word of the innermost: their places, each below `bound`; `count` ends
+-- close the innermost one
 pub data Open (s ends : List ℕ) (code : Code) : ℕ → ℕ → ℕ → List ℕ → Type 0 where
   none-open : {bound count : ℕ} → Open s ends code bound count 0 []
   one-open : {bound count at next : ℕ} {places : List ℕ} → at < bound → Opener s at next → past 1 (codeAt s next) ≡ past count code → Open s ends code at (suc count) (getD ends at 0) places → Open s ends code bound count (suc at) (at ∷ places)

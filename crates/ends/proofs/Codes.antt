@@ -1,5 +1,5 @@
--- Code by its place. An instruction takes a byte at least and lies inside the input, so that as many instructions as there
--- are bytes are enough from any place.
+-- Code by its place. An instruction takes a byte at least and lies inside the input, so that as many instructions as
+-- there are bytes are enough from any place.
 use Prim.Native.Nat.{ℕ, zero, suc, _+_, _-_, _≤_}
 use mathlib.Core.Path.{_≡_, refl, sym, ap, _∙_}
 use mathlib.Core.List.{List, [], _∷_}

@@ -1,5 +1,5 @@
--- One instruction after the other: every block that was passed is closed, with the place after its end at its own place, or
--- is one of the open blocks.
+-- One instruction after the other: every block that was passed is closed, with the place after its end at its own place,
+-- or is one of the open blocks.
 use Prim.Native.Nat.{ℕ, zero, suc, _+_, _-_, _≤_, _<_, _%_}
 use mathlib.Core.Path.{_≡_, refl, sym, ap, _∙_, subst}
 use mathlib.Core.Logic.{_⊎_, inl, inr}

@@ -1,5 +1,5 @@
-// Where a branch out of a block goes: the place after the matching `end`, for each block and loop of a body, found in one
-// pass and kept in a lent word for each byte. The open blocks are a linked list inside that same memory.
+// Where a branch out of a block goes: the place after the matching `end`, for each block and loop of a body, found in
+// one pass and kept in a lent word for each byte. The open blocks are a linked list inside that same memory.
 use immediates::Instruction;
 use immediates::InstructionRead;
 ghost use mathlib.Core.Path.{_≡_};
@@ -26,14 +26,14 @@ fn kind_of(i: Instruction) -> Kind
     }
 }
 
-// The word of the innermost open block, 0 for none and else one more than its place; or the function's own end was read.
+// The word of the innermost open block, 0 for none, else one more than its place; or the function's own end was read.
 pub enum Noted {
     Open(u64),
     Last,
 }
 
-// An instruction of that kind at `at`, with `after` the place after it. At a block's place stands, while it is open, the
-// word of the one around it, and then the place after its end.
+// An instruction of that kind at `at`, with `after` the place after it. At a block's place stands, while it is open,
+// the word of the one around it, and then the place after its end.
 fn note(ends: &mut [u16], innermost: u64, at: u64, after: u64, kind: Kind) -> Noted
     requires { ⌜ at < 32_768 ⌝ }
     ensures { λ r. ⌜ NotedAt (now (ends .entry)) (now (ends .exit)) innermost at after kind r ⌝ }
@@ -66,8 +66,8 @@ fn none_at(s: &[u8], at: usize) -> bool
     }
 }
 
-// At the place of each block and loop from `first` on, the place after its matching end. The answer: the ends close what is
-// open, and no instruction follows the last. There are no more instructions than bytes: `left` of them at most.
+// At the place of each block and loop from `first` on, the place after its matching end. The answer: the ends close
+// what is open, and no instruction follows the last. There are no more instructions than bytes: `left` of them at most.
 pub fn fill_ends(s: &[u8], first: usize, ends: &mut [u16]) -> bool
     requires { ⌜ Fillable (now s) (now ends) first ⌝ }
     ensures { λ r. ⌜ Filled (now (s .entry)) (now (ends .entry)) (now (ends .exit)) first r ⌝ }

@@ -1,4 +1,4 @@
--- `ends::kind_of` meets its contract. The last arm is told which codes it is for: those of a block, a loop and an end are not among them.
+-- `ends::kind_of` meets its contract. The last arm is told the codes that it is for.
 use borrow.Author.Needs.{needs}
 use Rattle.ends.proofs.Notes.{kind-exits}
 use Rattle.ends.proofs.kind_of.Statement.{statement}

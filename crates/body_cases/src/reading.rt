@@ -1,0 +1,117 @@
+// Bytes that are written as text: words of hexadecimal digits, with a space between two. `512*4100` is 512 times 41 00.
+// Nothing here fails: what does not fit is left out, and a sign that is no digit counts as 0.
+ghost use Prim.Native.Nat.{_≤_};
+
+const SPACE: u8 = b' ';
+
+const STAR: u8 = b'*';
+
+// The first place from a place on where a mark stands; the text's end where there is none.
+pub fn find(text: &[u8], from: usize, mark: u8) -> usize
+    ensures { λ r. ⌜ from ≤ r ⌝ }
+{
+    let mut at = from;
+    while at < text.len() {
+        if text[at] == mark {
+            return at;
+        }
+        at += 1;
+    }
+    at
+}
+
+// The text between two places, or all of it where they are none of its places.
+pub fn part(text: &[u8], from: usize, to: usize) -> &[u8] {
+    if from <= to {
+        if to <= text.len() {
+            return &text[from..to];
+        }
+    }
+    text
+}
+
+// A decimal or hexadecimal digit.
+fn digit(sign: u8) -> u64 {
+    match sign {
+        48..=57 => (sign - 48) as u64,
+        65..=70 => (sign - 55) as u64,
+        _ => 0,
+    }
+}
+
+// The number that a word's decimal digits say, below 10 * 2^32.
+pub fn decimal(word: &[u8]) -> u64 {
+    let mut n: u64 = 0;
+    let mut i: usize = 0;
+    while i < word.len() {
+        let sign = word[i];
+        n = (n % 4294967296) * 10 + digit(sign) % 10;
+        i += 1;
+    }
+    n
+}
+
+// The byte of two hexadecimal digits.
+fn byte(high: u8, low: u8) -> u8 {
+    let value = 16 * (digit(high) % 16) + digit(low) % 16;
+    (value % 256) as u8
+}
+
+// One byte, and the place after it.
+fn store(out: &mut [u8], at: usize, byte: u8) -> usize {
+    if at < out.len() {
+        out[at] = byte;
+        return at + 1;
+    }
+    at
+}
+
+// The bytes of a word from a place of `out` on; the place after them.
+fn put(out: &mut [u8], at: usize, word: &[u8]) -> usize {
+    let mut end = at;
+    let mut low: usize = 1;
+    while low < word.len() {
+        let value = byte(word[low - 1], word[low]);
+        end = store(out, end, value);
+        low += 2;
+    }
+    end
+}
+
+// The same so many times.
+fn repeat(out: &mut [u8], at: usize, word: &[u8], times: u64) -> usize {
+    let mut end = at;
+    let mut left = times;
+    while 0 < left {
+        end = put(out, end, word);
+        left -= 1;
+    }
+    end
+}
+
+// A word's bytes, repeated where a star stands in it.
+fn put_word(out: &mut [u8], at: usize, word: &[u8]) -> usize {
+    let star = find(word, 0, STAR);
+    if star < word.len() {
+        let times = decimal(part(word, 0, star));
+        let piece = part(word, star + 1, word.len());
+        return repeat(out, at, piece, times);
+    }
+    put(out, at, word)
+}
+
+// The bytes of all words of a line from a place on, laid at the start of `out`; how many they are.
+pub fn bytes(out: &mut [u8], line: &[u8], start: usize) -> usize {
+    let mut end: usize = 0;
+    let mut from = start;
+    while from < line.len() {
+        let to = find(line, from, SPACE);
+        let word = part(line, from, to);
+        end = put_word(out, end, word);
+        if line.len() <= to {
+            return end;
+        }
+        from = to + 1;
+    }
+    end
+}
