@@ -109,12 +109,7 @@ fn type_of(types: &[Type], number: u32, lengths: Lengths) -> Result<Left, Refusa
 
 fn zeroed(request: &Request, answer: Answer, lengths: Lengths) -> Left {
     let work = if let Request::Body(..) = request { lengths.work } else { 0 };
-    Left {
-        answer,
-        rows: vec![0; lengths.rows],
-        codes: vec![0; lengths.codes],
-        work: vec![0; work],
-    }
+    Left { answer, rows: vec![0; lengths.rows], codes: vec![0; lengths.codes], work: vec![0; work] }
 }
 
 /// Where the two differ, in words.
@@ -127,7 +122,11 @@ pub fn difference(library: &Left, plain: &Left) -> Option<String> {
         .or_else(|| differing_word("work", &library.work, &plain.work))
 }
 
-fn differing_word<T: PartialEq + fmt::Display>(name: &str, is: &[T], wanted: &[T]) -> Option<String> {
+fn differing_word<T: PartialEq + fmt::Display>(
+    name: &str,
+    is: &[T],
+    wanted: &[T],
+) -> Option<String> {
     if is.len() != wanted.len() {
         return Some(format!("{name} has {} words and should have {}", is.len(), wanted.len()));
     }
@@ -202,7 +201,8 @@ impl fmt::Display for Tally<'_> {
     fn fmt(&self, to: &mut fmt::Formatter) -> fmt::Result {
         for judged in ["sections", "types", "bodies"] {
             let own = self.0.iter().filter(|((kind, _), _)| *kind == judged);
-            let answers: Vec<String> = own.map(|((_, refusal), count)| told(*refusal, *count)).collect();
+            let answers: Vec<String> =
+                own.map(|((_, refusal), count)| told(*refusal, *count)).collect();
             writeln!(to, "{judged}: {}", answers.join(", "))?;
         }
         Ok(())
