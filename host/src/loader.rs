@@ -27,12 +27,7 @@ impl Loader {
     }
 
     /// A body's count of instructions, against the function type of a number.
-    pub fn judge_body(
-        &mut self,
-        section: &[u8],
-        number: u64,
-        body: &[u8],
-    ) -> Result<u64, Refusal> {
+    pub fn judge_body(&mut self, section: &[u8], number: u64, body: &[u8]) -> Result<u64, Refusal> {
         let Loader { rows, codes, work } = self;
         calls::judge_body(section, body, number, rows, codes, work)
     }
