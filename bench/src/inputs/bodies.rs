@@ -248,7 +248,7 @@ fn values_kept(room: usize) -> Judged {
 /// Each br_if looks for the label furthest out.
 fn far_out(room: usize) -> Judged {
     let mut body = Body::new(&[0x00]);
-    body.push(&[&[0x02, 0x40]; 63]);
-    let ends: [&[u8]; 63] = [&[0x0B]; 63];
+    let (opens, ends): ([&[u8]; 63], [&[u8]; 63]) = ([&[0x02, 0x40]; 63], [&[0x0B]; 63]);
+    body.push(&opens);
     body.filled(&[&[0x41, 0x00], &[0x0D, 63]], &ends, room)
 }
