@@ -182,6 +182,49 @@ fn what_an_instruction_takes_is_told() {
     }
 }
 
+/// What stands on the stack behind each instruction that gives something: seen by a local that is not there.
+#[test]
+fn what_stands_on_the_stack_is_told() {
+    // Type 0: a struct of i32 and (mut (ref 0)), with descriptor 1; type 2: a function that gives an f64.
+    let section = "02 4E 02 50 00 4D 01 5F 02 7F 00 64 00 01 50 00 4C 00 5F 00 60 00 01 7C";
+    let cases = [
+        ("01", "nothing"),
+        ("41 05", "i32"),
+        ("20 00", "i64"),
+        ("20 00 22 00", "i64"),
+        ("D0 6E", "(ref null any)"),
+        ("D0 6E D1", "i32"),
+        ("D0 6D D0 71 D3", "i32"),
+        ("D0 62 01 D4", "(ref (exact 1))"),
+        ("00", "unknowns (unreachable)"),
+        ("00 D4 41 00", "unknowns (unreachable), (ref unknown), i32"),
+        ("FB 00 01", "(ref (exact 1))"),
+        ("D0 00 FB 02 00 00", "i32"),
+        ("D0 00 FB 02 00 01", "(ref 0)"),
+        ("D0 00 FB 22 00", "(ref 1)"),
+        ("D0 62 00 FB 22 00", "(ref (exact 1))"),
+        ("D0 71 FB 22 00", "(ref (exact 1))"),
+        ("D0 6E FB 14 00", "i32"),
+        ("D0 6E FB 16 00", "(ref 0)"),
+        ("D0 6E FB 17 62 00", "(ref null (exact 0))"),
+        ("D0 6E D0 01 FB 23 00", "(ref 0)"),
+        ("41 00 02 40", "nothing"),
+        ("41 00 02 7F 41 00 0B", "i32, i32"),
+        ("03 7E 20 00 0B", "i64"),
+        ("02 6E D0 00 41 00 0D 00", "(ref null any)"),
+        ("02 6E D0 00 FB 18 03 00 00 00", "(ref 0)"),
+        ("02 6E D0 00 FB 18 01 00 00 00", "(ref null 0)"),
+        ("02 6E D0 00 FB 19 03 00 00 62 00", "(ref null (exact 0))"),
+        (&"41 00 ".repeat(10), "2 more, i32, i32, i32, i32, i32, i32, i32, i32"),
+    ];
+    for (code, stack) in cases {
+        let said = no(&["check", section, &format!("01 01 7E {code} 20 63"), "2"]);
+        assert!(said.starts_with("no: refusal 21 at byte"), "{code}: {said}");
+        let told = said.split("its block has, the top last: ").nth(1).expect("the operands");
+        assert_eq!(told.lines().next(), Some(stack), "{code}: {said}");
+    }
+}
+
 #[test]
 fn places_of_a_body_are_told_apart() {
     let v = "01600000";
