@@ -1,4 +1,4 @@
-# all: the program at build/chelbugan. demo: judge the sections of examples/ by it, then answer the requests of
+# all: the program at build/chelbugan. demo: judge the sections and bodies of examples/ by it, then answer the requests of
 # examples/requests.txt by computing the definitions.
 # check: run the gate. compare: the library against the plain checker on COUNT requests. valgrind: the library under it.
 # bench: times, to docs/BENCH.md.

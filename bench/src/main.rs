@@ -1,4 +1,5 @@
-//! Times the proved library and the plain checker on the same inputs, side by side. Writes docs/BENCH.md and docs/bench.svg.
+//! Times the proved library and the plain checker on the same inputs, side by side. Writes docs/BENCH.md and
+//! its plots.
 
 mod inputs;
 mod machine;
@@ -6,15 +7,19 @@ mod measure;
 mod page;
 mod plot;
 
+use measure::Row;
 use std::io;
 use std::path::Path;
 
 fn main() -> io::Result<()> {
     let docs = Path::new(env!("CARGO_MANIFEST_DIR")).join("../docs");
-    let rows: Vec<measure::Row> = inputs::all().into_iter().map(measure::measure).collect();
-    let page = page::page(&machine::kind(), &rows);
+    let sections: Vec<Row> = inputs::of_sections().into_iter().map(measure::measure).collect();
+    let bodies: Vec<Row> = inputs::of_bodies().into_iter().map(measure::measure).collect();
+    let page = page::page(&machine::kind(), &sections, &bodies);
     std::fs::write(docs.join("BENCH.md"), &page)?;
-    std::fs::write(docs.join("bench.svg"), plot::plot(&rows))?;
-    print!("{}", page::table(&rows));
+    let kinds = (&inputs::sections::KINDS[..], &inputs::bodies::KINDS[..]);
+    std::fs::write(docs.join("bench-sections.svg"), plot::plot(kinds.0, &sections))?;
+    std::fs::write(docs.join("bench-bodies.svg"), plot::plot(kinds.1, &bodies))?;
+    print!("{}\n{}", page::table("Section", &sections), page::table("Body", &bodies));
     Ok(())
 }

@@ -2,6 +2,7 @@
 
 use crate::inputs::Input;
 use chelbugan::calls;
+use plain::refusal::Refusal;
 use std::hint::black_box;
 use std::time::{Duration, Instant};
 
@@ -27,31 +28,52 @@ impl Row {
     }
 }
 
-/// The buffers that the library is lent, cleared before the first call and by the library itself at the start of each.
+/// The buffers that the library is lent, cleared before the first call and by the library itself in each.
 struct Lent {
     rows: Vec<u16>,
     codes: Vec<u16>,
+    work: Vec<u32>,
 }
 
 impl Lent {
     fn new() -> Lent {
-        Lent { rows: vec![0; calls::ROWS], codes: vec![0; calls::CODES] }
+        Lent {
+            rows: vec![0; calls::ROWS],
+            codes: vec![0; calls::CODES],
+            work: vec![0; calls::WORK],
+        }
     }
 
-    fn judge(&mut self, section: &[u8]) -> Result<u64, calls::Refusal> {
-        calls::judge_section(section, &mut self.rows, &mut self.codes)
+    fn judge(&mut self, input: &Input) -> Result<u64, calls::Refusal> {
+        let Lent { rows, codes, work } = self;
+        match &input.body {
+            None => calls::judge_section(&input.section, rows, codes),
+            Some((number, body)) => {
+                let number = u64::from(*number);
+                calls::judge_body(&input.section, body, number, rows, codes, work)
+            }
+        }
+    }
+}
+
+/// The count of types, or of instructions.
+fn judge_plainly(input: &Input) -> Result<usize, Refusal> {
+    match &input.body {
+        None => plain::section::judge_section(&input.section).map(|types| types.len()),
+        Some((number, body)) => {
+            plain::body::judge_body(&input.section, *number, body).map(|body| body.code.len())
+        }
     }
 }
 
 pub fn measure(input: Input) -> Row {
     let mut lent = Lent::new();
     same_answer(&input, &mut lent);
-    let section = &input.section;
     let mut library = || {
-        let _ = black_box(lent.judge(black_box(section)));
+        let _ = black_box(lent.judge(black_box(&input)));
     };
     let mut plain = || {
-        let _ = black_box(plain::section::judge_section(black_box(section)));
+        let _ = black_box(judge_plainly(black_box(&input)));
     };
     let calls = (calls_for(&mut library), calls_for(&mut plain));
     let mut samples = (Vec::new(), Vec::new());
@@ -62,7 +84,7 @@ pub fn measure(input: Input) -> Row {
     Row {
         kind: input.kind,
         kilobytes: input.kilobytes,
-        bytes: input.section.len(),
+        bytes: input.bytes(),
         library: median(samples.0),
         plain: median(samples.1),
     }
@@ -70,10 +92,9 @@ pub fn measure(input: Input) -> Row {
 
 /// What is timed is the right answer, the same from both.
 fn same_answer(input: &Input, lent: &mut Lent) {
-    let library = lent.judge(&input.section).map(|count| count as usize);
+    let library = lent.judge(input).map(|count| count as usize);
     let library = library.map_err(|no| (no.number as usize, no.place as usize));
-    let plain = plain::section::judge_section(&input.section).map(|types| types.len());
-    let plain = plain.map_err(|no| (no.number as usize, no.place));
+    let plain = judge_plainly(input).map_err(|no| (no.number as usize, no.place));
     let wanted = input.answer.map_err(|no| (no.number as usize, no.place));
     assert_eq!(library, wanted, "the library on {} of {} KB", input.kind, input.kilobytes);
     assert_eq!(plain, wanted, "the plain checker on {} of {} KB", input.kind, input.kilobytes);

@@ -1,27 +1,31 @@
-//! docs/bench.svg: nanoseconds for each byte, a panel for each kind of input, two bars for each size.
+//! A plot: nanoseconds for each byte, a panel for each kind of input, two bars for each size.
 
-use crate::inputs::KINDS;
 use crate::measure::Row;
 
 const PANEL_WIDTH: f64 = 270.0;
 const PANEL_HEIGHT: f64 = 200.0;
 const LEFT: f64 = 60.0;
 const TOP: f64 = 50.0;
+/// Below a panel: its sizes and its kind.
+const GAP: f64 = 70.0;
 const BAR: f64 = 22.0;
 const GROUP: f64 = 62.0;
 
 const LIBRARY: &str = "#1b6ca8";
 const PLAIN: &str = "#c9a227";
 
-pub fn plot(rows: &[Row]) -> String {
-    let width = LEFT + PANEL_WIDTH * KINDS.len() as f64;
-    let height = TOP + PANEL_HEIGHT + 60.0;
+/// Panels beside one another.
+const ACROSS: usize = 3;
+
+pub fn plot(kinds: &[&str], rows: &[Row]) -> String {
+    let width = LEFT + PANEL_WIDTH * ACROSS as f64;
+    let height = TOP + (PANEL_HEIGHT + GAP) * kinds.len().div_ceil(ACROSS) as f64;
     let mut svg = format!(
         "<svg xmlns=\"http://www.w3.org/2000/svg\" viewBox=\"0 0 {width} {height}\" font-family=\"sans-serif\" font-size=\"12\">\n\
          <rect width=\"{width}\" height=\"{height}\" fill=\"white\"/>\n"
     );
     svg += &legend();
-    let panels = KINDS.iter().enumerate();
+    let panels = kinds.iter().enumerate();
     svg += &panels.map(|(index, kind)| panel(index, kind, rows)).collect::<String>();
     svg + "</svg>\n"
 }
@@ -50,22 +54,22 @@ fn panel(index: usize, kind: &str, rows: &[Row]) -> String {
     let values =
         own.iter().flat_map(|row| [row.library, row.plain].map(|time| row.for_each_byte(time)));
     let greatest = values.fold(0.0, f64::max);
-    let left = LEFT + PANEL_WIDTH * index as f64;
-    let bottom = TOP + PANEL_HEIGHT;
+    let left = LEFT + PANEL_WIDTH * (index % ACROSS) as f64;
+    let bottom = TOP + (PANEL_HEIGHT + GAP) * (index / ACROSS) as f64 + PANEL_HEIGHT;
     let mut svg = rectangle(left, bottom, PANEL_WIDTH - 22.0, 1.0, "black");
     svg += &text(left + PANEL_WIDTH / 2.0 - 11.0, bottom + 40.0, "middle", kind);
     for (number, row) in own.iter().enumerate() {
         let x = left + 6.0 + GROUP * number as f64;
-        svg += &bar(x, row.for_each_byte(row.library), greatest, LIBRARY);
-        svg += &bar(x + BAR + 2.0, row.for_each_byte(row.plain), greatest, PLAIN);
+        svg += &bar((x, bottom), row.for_each_byte(row.library), greatest, LIBRARY);
+        svg += &bar((x + BAR + 2.0, bottom), row.for_each_byte(row.plain), greatest, PLAIN);
         svg += &text(x + BAR + 1.0, bottom + 18.0, "middle", &format!("{} KB", row.kilobytes));
     }
     svg
 }
 
-fn bar(x: f64, value: f64, greatest: f64, colour: &str) -> String {
+fn bar((x, bottom): (f64, f64), value: f64, greatest: f64, colour: &str) -> String {
     let height = PANEL_HEIGHT * value / greatest;
-    let top = TOP + PANEL_HEIGHT - height;
+    let top = bottom - height;
     rectangle(x, top, BAR, height, colour)
         + &format!(
             "<text x=\"{:.1}\" y=\"{:.1}\" text-anchor=\"middle\" font-size=\"9\">{value:.1}</text>\n",

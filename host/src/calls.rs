@@ -4,6 +4,7 @@
 /// Elements that the lent buffers have at least, as docs/LAYOUT.md fixes them.
 pub const ROWS: usize = 3_072;
 pub const CODES: usize = 32_768;
+pub const WORK: usize = 4_096;
 
 /// The words of an answer.
 const ANSWER: usize = 3;
@@ -45,6 +46,21 @@ mod library {
             rows_len: usize,
             codes: *mut u16,
             codes_len: usize,
+            answer: *mut u64,
+        ) -> u64;
+
+        pub fn chelbugan_judge_body(
+            section: *const u8,
+            section_len: usize,
+            body: *const u8,
+            body_len: usize,
+            number: u64,
+            rows: *mut u16,
+            rows_len: usize,
+            codes: *mut u16,
+            codes_len: usize,
+            work: *mut u32,
+            work_len: usize,
             answer: *mut u64,
         ) -> u64;
     }
@@ -90,6 +106,37 @@ pub fn ask_type(
         )
     };
     told(kind, answer).map(|[from, to, _]| Bytes { from, to })
+}
+
+/// Judges a body against a function type's number: its count of instructions; or the refusal. All that is lent is scratch,
+/// and zero afterwards.
+pub fn judge_body(
+    section: &[u8],
+    body: &[u8],
+    number: u64,
+    rows: &mut [u16],
+    codes: &mut [u16],
+    work: &mut [u32],
+) -> Result<u64, Refusal> {
+    let mut answer = [0; ANSWER];
+    // SAFETY: as above.
+    let kind = unsafe {
+        library::chelbugan_judge_body(
+            section.as_ptr(),
+            section.len(),
+            body.as_ptr(),
+            body.len(),
+            number,
+            rows.as_mut_ptr(),
+            rows.len(),
+            codes.as_mut_ptr(),
+            codes.len(),
+            work.as_mut_ptr(),
+            work.len(),
+            answer.as_mut_ptr(),
+        )
+    };
+    told(kind, answer).map(|[instructions, ..]| instructions)
 }
 
 fn told(kind: u64, answer: [u64; ANSWER]) -> Result<[u64; ANSWER], Refusal> {

@@ -13,6 +13,30 @@ pub fn check(section: &str) -> Result<Outcome, Trouble> {
     }
 }
 
+/// The section's own refusal comes first; then every place is the body's.
+pub fn check_body(section: &str, body: &str, number: &str) -> Result<Outcome, Trouble> {
+    let section = input::bytes(section)?;
+    let body = input::bytes(body)?;
+    let number = lines::read_number(number).map_err(|why| format!("{number}: {why}"))?;
+    let mut loader = Loader::new();
+    let refusal = match loader.judge_body(&section, number, &body) {
+        Ok(1) => return say("yes: 1 instruction"),
+        Ok(count) => return say(&format!("yes: {count} instructions")),
+        Err(refusal) => refusal,
+    };
+    match loader.judge_section(&section) {
+        Ok(table) => {
+            say(&explain::body_refusal(&table, number, &body, refusal))?;
+            Ok(Outcome::No)
+        }
+        Err(of_section) => {
+            let why = explain::section_refusal(&section, of_section);
+            say(&format!("{why}  the section itself is refused; the body was not looked at"))?;
+            Ok(Outcome::No)
+        }
+    }
+}
+
 pub fn type_bytes(section: &str, number: &str) -> Result<Outcome, Trouble> {
     let section = input::bytes(section)?;
     let number = lines::read_number(number).map_err(|why| format!("{number}: {why}"))?;

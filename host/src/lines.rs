@@ -10,6 +10,7 @@ type Why = &'static str;
 enum Request {
     Section(Vec<u8>),
     Type(Vec<u8>, u64),
+    Body(Vec<u8>, u64, Vec<u8>),
 }
 
 pub fn answer(loader: &mut Loader, line: &[u8]) -> String {
@@ -25,7 +26,10 @@ fn read_request(line: &[u8]) -> Result<Request, Why> {
     match parts[..] {
         ["S", section] => Ok(Request::Section(read_bytes(section)?)),
         ["T", section, number] => Ok(Request::Type(read_bytes(section)?, read_number(number)?)),
-        ["B" | "R", ..] => Err("bodies and runs are not answered yet: S and T are"),
+        ["B", section, number, body] => {
+            Ok(Request::Body(read_bytes(section)?, read_number(number)?, read_bytes(body)?))
+        }
+        ["R", ..] => Err("runs are not answered yet: S, T and B are"),
         _ => Err("not a request"),
     }
 }
@@ -51,6 +55,9 @@ fn answer_request(loader: &mut Loader, request: &Request) -> String {
         Request::Section(section) => loader.judge_section(section).map(|table| accepted(&table)),
         Request::Type(section, number) => {
             loader.type_bytes(section, *number).map(|bytes| format!("yes {}", hex::plain(bytes)))
+        }
+        Request::Body(section, number, body) => {
+            loader.judge_body(section, *number, body).map(|count| format!("yes {count}"))
         }
     };
     answered.unwrap_or_else(|Refusal { number, place }| format!("no {number} {place}"))

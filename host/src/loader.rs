@@ -7,11 +7,12 @@ use crate::table::Table;
 pub struct Loader {
     rows: Box<[u16]>,
     codes: Box<[u16]>,
+    work: Box<[u32]>,
 }
 
 impl Loader {
     pub fn new() -> Loader {
-        Loader { rows: zeros(calls::ROWS), codes: zeros(calls::CODES) }
+        Loader { rows: zeros(calls::ROWS), codes: zeros(calls::CODES), work: zeros(calls::WORK) }
     }
 
     pub fn judge_section(&mut self, section: &[u8]) -> Result<Table<'_>, Refusal> {
@@ -24,6 +25,12 @@ impl Loader {
         let Bytes { from, to } = calls::ask_type(section, number, &mut self.rows, &mut self.codes)?;
         Ok(&section[from as usize..to as usize])
     }
+
+    /// A body's count of instructions, against the function type of a number.
+    pub fn judge_body(&mut self, section: &[u8], number: u64, body: &[u8]) -> Result<u64, Refusal> {
+        let Loader { rows, codes, work } = self;
+        calls::judge_body(section, body, number, rows, codes, work)
+    }
 }
 
 impl Default for Loader {
@@ -32,6 +39,6 @@ impl Default for Loader {
     }
 }
 
-fn zeros(count: usize) -> Box<[u16]> {
-    vec![0; count].into_boxed_slice()
+fn zeros<T: Clone + Default>(count: usize) -> Box<[T]> {
+    vec![T::default(); count].into_boxed_slice()
 }

@@ -1,4 +1,4 @@
-//! The program `chelbugan`: judges sections, hands out types' bytes, and shows bytes to people.
+//! The program `chelbugan`: judges sections and bodies, hands out types' bytes, and shows bytes to people.
 //!
 //! Exit status: 0 yes, 1 no, 2 bad usage or unreadable input.
 
@@ -8,11 +8,14 @@ mod explain;
 mod hex;
 mod input;
 mod lines;
+mod operands;
 
 use std::process::ExitCode;
 
 const USE: &str = "\
 use: chelbugan check SECTION           judge a section: its types, or why it is refused
+     chelbugan check SECTION BODY TYPE judge a body against the function type of a number: its count of instructions,
+                                       or why it is refused
      chelbugan type SECTION NUMBER     the bytes of a type's definition, in hex
      chelbugan lines                   answer requests, one a line, from standard input (docs/LAYOUT.md)
      chelbugan dump section SECTION    list a section's bytes with offsets; judges nothing
@@ -56,6 +59,7 @@ fn troubled(trouble: &str) -> ExitCode {
 fn obey(arguments: &[&str]) -> Result<Outcome, Trouble> {
     match arguments {
         ["check", section] => commands::check(section),
+        ["check", section, body, number] => commands::check_body(section, body, number),
         ["type", section, number] => commands::type_bytes(section, number),
         ["lines"] => commands::lines(),
         ["dump", "section", section] => commands::dump_section(section),

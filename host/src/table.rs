@@ -36,8 +36,8 @@ pub struct Row<'a> {
 #[derive(Clone, Copy, Debug, PartialEq, Eq)]
 pub enum Heap {
     Abstract(&'static str),
-    Defined(u16),
-    Exact(u16),
+    Defined(u32),
+    Exact(u32),
 }
 
 #[derive(Clone, Copy, Debug, PartialEq, Eq)]
@@ -64,6 +64,12 @@ impl<'a> Table<'a> {
     pub fn rows(&self) -> impl Iterator<Item = Row<'a>> + '_ {
         let rows = self.rows.chunks(ROW_WORDS).take(self.count);
         rows.map(|words| Row { words, codes: self.codes })
+    }
+
+    /// The type of a number, if there is one.
+    pub fn row(&self, number: u64) -> Option<Row<'a>> {
+        let number = usize::try_from(number).ok()?;
+        self.rows().nth(number)
     }
 }
 
@@ -139,8 +145,8 @@ fn value_of(code: u16) -> ValueType {
 fn heap_of(code: u16) -> Heap {
     match ABSTRACT.get(code as usize) {
         Some(name) => Heap::Abstract(name),
-        None if code.is_multiple_of(2) => Heap::Defined((code - 10) / 2),
-        None => Heap::Exact((code - 11) / 2),
+        None if code.is_multiple_of(2) => Heap::Defined(u32::from(code - 10) / 2),
+        None => Heap::Exact(u32::from(code - 11) / 2),
     }
 }
 

@@ -11,10 +11,10 @@ fn answers(requests: &str) -> Vec<String> {
     said.out.lines().map(str::to_string).collect()
 }
 
-/// The generator's requests about sections.
+/// The generator's requests, but for the runs.
 fn generated(seed: u64, count: usize) -> Vec<String> {
     let lines = generate::requests(seed, usize::MAX, false);
-    lines.filter(|line| line.starts_with("S ") || line.starts_with("T ")).take(count).collect()
+    lines.filter(|line| !line.starts_with("R ")).take(count).collect()
 }
 
 #[test]
@@ -48,6 +48,15 @@ fn document_01() {
         (&format!("T {f1} 3"), "no 6 3".to_string()),
         ("T 00 18446744073709551615", "no 6 18446744073709551615".to_string()),
         ("T - 0", "no 1 0".to_string()),
+        (&format!("B {f1} 2 00FB0001FB20000B"), "yes 3".to_string()),
+        (&format!("B {f1} 2 00fb00000b"), "no 23 1".to_string()),
+        (&format!("B {f1} 2 01016401fb000121002000fb20000b"), "no 20 11".to_string()),
+        (&format!("B {f1} 2 00d06201fb20000b"), "yes 3".to_string()),
+        (&format!("B {f1} 2 0003400c000b000b"), "yes 5".to_string()),
+        (&format!("B {f1} 0 -"), "no 27 0".to_string()),
+        (&format!("B {f1} 2 -"), "no 1 0".to_string()),
+        (&format!("B {f1} 18446744073709551615 000b"), "no 27 0".to_string()),
+        ("B - 0 000b", "no 1 0".to_string()),
     ];
     let requests: Vec<&str> = cases.iter().map(|(request, _)| *request).collect();
     let answered = answers(&requests.join("\n"));
@@ -60,7 +69,7 @@ fn document_01() {
 /// A line is never skipped: each of these has an answer, and the last request has its own.
 #[test]
 fn unreadable_lines_are_answered_as_such() {
-    let unreadable: [&[u8]; 20] = [
+    let unreadable: [&[u8]; 26] = [
         b"",
         b" ",
         b"S",
@@ -81,6 +90,12 @@ fn unreadable_lines_are_answered_as_such() {
         b"S \xC3\xA9\xC3\xA9",
         b"S \xFF\xFF",
         b"S 00\r",
+        b"B 00",
+        b"B 00 0",
+        b"B 00 0 ",
+        b"B 00 - 00",
+        b"B 00 0 0",
+        b"B 00 0 00 1",
     ];
     let input: Vec<u8> = [unreadable.join(&b'\n'), b"\nS 00\n".to_vec()].concat();
     let said = chelbugan_fed(&["lines"], &input);
@@ -95,10 +110,23 @@ fn unreadable_lines_are_answered_as_such() {
 
 /// What is not answered yet is not answered wrongly.
 #[test]
-fn bodies_and_runs_are_errors() {
-    let answered = answers("B 01600000 0 000b\nR 01600000 0 000b 1\nS 00\n");
-    assert!(answered[0].starts_with("error ") && answered[1].starts_with("error "), "{answered:?}");
-    assert_eq!(answered[2..], ["yes 0"]);
+fn runs_are_errors() {
+    let answered = answers("R 01600000 0 000b 1\nB 01600000 0 000b\n");
+    assert!(answered[0].starts_with("error "), "{answered:?}");
+    assert_eq!(answered[1..], ["yes 1"]);
+}
+
+/// The longest body and one byte more, each with the longest section: lines of some 131,000 characters.
+#[test]
+fn long_bodies() {
+    let section = format!("feff00600000{}", "4e00".repeat(16_381));
+    assert_eq!(section.len(), 2 * 32_768);
+    let body = format!("00{}0b", "01".repeat(32_766));
+    assert_eq!(body.len(), 2 * 32_768);
+    let answered = answers(&format!(
+        "B {section} 0 {body}\nB {section} 0 {body}00\nB {section}00 0 {body}\nB {section} 1 {body}00\n"
+    ));
+    assert_eq!(answered, ["yes 32767", "no 4 0", "no 4 0", "no 4 0"]);
 }
 
 /// The longest section and one byte more: lines of 65,536 characters and more.

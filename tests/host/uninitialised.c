@@ -1,4 +1,4 @@
-/* Judges sections with memory as malloc gives it, each block of the very size, so that valgrind sees a read of a word that
+/* Judges sections and bodies with memory as malloc gives it, each block of the very size, so that valgrind sees a read of a word that
  * nobody wrote and any byte touched beyond a block. What it prints is read from the lent memory. */
 #include <stdio.h>
 #include <stdlib.h>
@@ -34,6 +34,33 @@ static void judge(const uint8_t *bytes, size_t length, size_t rows_len, size_t c
     free(answer);
 }
 
+static void judge_body(const uint8_t *bytes, size_t length, const uint8_t *code, size_t code_length, uint64_t number,
+                       size_t rows_len, size_t codes_len, size_t work_len) {
+    uint8_t *section = malloc(length + (length == 0));
+    uint8_t *body = malloc(code_length + (code_length == 0));
+    uint16_t *rows = malloc(2 * rows_len + (rows_len == 0));
+    uint16_t *codes = malloc(2 * codes_len + (codes_len == 0));
+    uint32_t *work = malloc(4 * work_len + (work_len == 0));
+    uint64_t *answer = malloc(sizeof(uint64_t) * CHELBUGAN_ANSWER);
+    if (!section || !body || !rows || !codes || !work || !answer)
+        exit(2);
+    memcpy(section, bytes, length);
+    memcpy(body, code, code_length);
+    uint64_t kind = chelbugan_judge_body(section, length, body, code_length, number, rows, rows_len, codes, codes_len, work,
+                                         work_len, answer);
+    unsigned long long left = sum(rows, rows_len) + sum(codes, codes_len);
+    for (size_t i = 0; i < work_len; i++)
+        left += work[i];
+    printf("body %llu: %llu %llu %llu, left %llu\n", (unsigned long long)kind, (unsigned long long)answer[0],
+           (unsigned long long)answer[1], (unsigned long long)answer[2], left);
+    free(section);
+    free(body);
+    free(rows);
+    free(codes);
+    free(work);
+    free(answer);
+}
+
 int main(void) {
     static const uint8_t f1[] = {0x02, 0x4E, 0x02, 0x4D, 0x01, 0x5F, 0x00, 0x4C, 0x00,
                                  0x5F, 0x00, 0x60, 0x00, 0x01, 0x64, 0x62, 0x00};
@@ -47,5 +74,21 @@ int main(void) {
     judge(f1, sizeof f1, CHELBUGAN_ROWS, CHELBUGAN_CODES - 1);
     judge(f1, sizeof f1, 0, 0);
     judge(f1, sizeof f1, CHELBUGAN_ROWS + 5, CHELBUGAN_CODES + 5);
+
+    static const uint8_t body[] = {0x00, 0xFB, 0x00, 0x01, 0xFB, 0x20, 0x00, 0x0B};
+    static uint8_t nops[CHELBUGAN_BODY_BYTES + 1];
+    memset(nops + 1, 0x01, sizeof nops - 1);
+    nops[CHELBUGAN_BODY_BYTES - 1] = 0x0B;
+    for (size_t length = 0; length <= sizeof body; length++)
+        judge_body(f1, sizeof f1, body, length, 2, CHELBUGAN_ROWS, CHELBUGAN_CODES, CHELBUGAN_WORK);
+    judge_body(f1, sizeof f1, nops, sizeof nops - 1, 2, CHELBUGAN_ROWS, CHELBUGAN_CODES, CHELBUGAN_WORK);
+    judge_body(f1, sizeof f1, nops, sizeof nops, 2, CHELBUGAN_ROWS, CHELBUGAN_CODES, CHELBUGAN_WORK);
+    judge_body(f1, sizeof f1, body, sizeof body, 1, CHELBUGAN_ROWS, CHELBUGAN_CODES, CHELBUGAN_WORK);
+    judge_body(disagree, sizeof disagree, body, sizeof body, 2, CHELBUGAN_ROWS, CHELBUGAN_CODES, CHELBUGAN_WORK);
+    judge_body(f1, sizeof f1, body, sizeof body, 2, CHELBUGAN_ROWS - 1, CHELBUGAN_CODES, CHELBUGAN_WORK);
+    judge_body(f1, sizeof f1, body, sizeof body, 2, CHELBUGAN_ROWS, CHELBUGAN_CODES - 1, CHELBUGAN_WORK);
+    judge_body(f1, sizeof f1, body, sizeof body, 2, CHELBUGAN_ROWS, CHELBUGAN_CODES, CHELBUGAN_WORK - 1);
+    judge_body(f1, sizeof f1, body, sizeof body, 2, 0, 0, 0);
+    judge_body(f1, sizeof f1, body, sizeof body, 2, CHELBUGAN_ROWS + 5, CHELBUGAN_CODES + 5, CHELBUGAN_WORK + 5);
     return 0;
 }

@@ -3,10 +3,13 @@
 use Prim.Native.Nat.{ℕ}
 use mathlib.Core.Path.{_≡_, sym, _∙_}
 use mathlib.Core.List.{List}
-use Rattle.chelbugan.specs.Told.{SectionTold, TypeTold}
+use Rattle.chelbugan.specs.Told.{SectionTold, TypeTold, BodyTold}
 
 pub one-section-told : {s rows codes rows₁ codes₁ rows₂ codes₂ answer₁ answer₂ : List ℕ} {r q : ℕ} → SectionTold s rows codes rows₁ codes₁ r answer₁ → SectionTold s rows codes rows₂ codes₂ q answer₂ → (r ≡ q) × (answer₁ ≡ answer₂) × (rows₁ ≡ rows₂) × (codes₁ ≡ codes₂)
 one-section-told a b = (a .kind ∙ sym (b .kind), a .values ∙ sym (b .values), a .rowsAfter ∙ sym (b .rowsAfter), a .codesAfter ∙ sym (b .codesAfter))
 
 pub one-type-told : {s rows codes rows₁ codes₁ rows₂ codes₂ answer₁ answer₂ : List ℕ} {x r q : ℕ} → TypeTold s x rows codes rows₁ codes₁ r answer₁ → TypeTold s x rows codes rows₂ codes₂ q answer₂ → (r ≡ q) × (answer₁ ≡ answer₂) × (rows₁ ≡ rows₂) × (codes₁ ≡ codes₂)
 one-type-told a b = (a .kind ∙ sym (b .kind), a .values ∙ sym (b .values), a .rowsAfter ∙ sym (b .rowsAfter), a .codesAfter ∙ sym (b .codesAfter))
+
+pub one-body-told : {section s rows codes work rows₁ codes₁ work₁ rows₂ codes₂ work₂ answer₁ answer₂ : List ℕ} {x r q : ℕ} → BodyTold section s x rows codes work rows₁ codes₁ work₁ r answer₁ → BodyTold section s x rows codes work rows₂ codes₂ work₂ q answer₂ → (r ≡ q) × (answer₁ ≡ answer₂) × (rows₁ ≡ rows₂) × (codes₁ ≡ codes₂) × (work₁ ≡ work₂)
+one-body-told a b = (a .kind ∙ sym (b .kind), a .values ∙ sym (b .values), a .rowsAfter ∙ sym (b .rowsAfter), a .codesAfter ∙ sym (b .codesAfter), a .workAfter ∙ sym (b .workAfter))

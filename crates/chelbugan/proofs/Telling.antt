@@ -1,14 +1,14 @@
 -- What is told is what was answered: the kind and the values are read off the answer's case, and a call's answer is the
--- loader's.
+-- loader's or the checker's.
 use Prim.Native.Nat.{ℕ}
 use mathlib.Core.Path.{_≡_, refl, ap, _∙_}
 use mathlib.Core.List.{List, [], _∷_}
-use Rattle.scope.specs.Answers.{SectionJudged, TypeAsked}
+use Rattle.scope.specs.Answers.{SectionJudged, TypeAsked, BodyJudged}
 use Rattle.scope.specs.declared.Verdict.{Verdict}
 use Rattle.scope.specs.declared.Verdict
 use Rattle.scope.specs.declared.Asked.{Asked}
 use Rattle.scope.specs.declared.Asked
-use Rattle.chelbugan.specs.Told.{verdictKind, verdictValues, VerdictTold, askedKind, askedValues, AskedTold, SectionTold, TypeTold}
+use Rattle.chelbugan.specs.Told.{verdictKind, verdictValues, VerdictTold, askedKind, askedValues, AskedTold, SectionTold, TypeTold, BodyTold}
 
 pub accepted-told : {v : Verdict} {count : ℕ} → v ≡ Verdict.the-variants.Accepted count → VerdictTold v 1 (count ∷ 0 ∷ 0 ∷ [])
 accepted-told e = record { kind = rw e; values = rw e }
@@ -44,4 +44,14 @@ type-told a t =
       codesAfter = a .codesAfter;
     }
 
-pub ruleset call-exits = (section-told, type-told)
+pub body-told : {section s rows codes work rows′ codes′ work′ : List ℕ} {x : ℕ} {v : Verdict} {r : ℕ} {answer′ : List ℕ} → BodyJudged section s x rows codes work rows′ codes′ work′ v → VerdictTold v r answer′ → BodyTold section s x rows codes work rows′ codes′ work′ r answer′
+body-told a t =
+    record {
+      kind = t .kind ∙ ap verdictKind (a .answer);
+      values = t .values ∙ ap verdictValues (a .answer);
+      rowsAfter = a .rowsAfter;
+      codesAfter = a .codesAfter;
+      workAfter = a .workAfter;
+    }
+
+pub ruleset call-exits = (section-told, type-told, body-told)

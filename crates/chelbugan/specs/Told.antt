@@ -4,8 +4,9 @@ use Prim.Native.Nat.{ℕ}
 use mathlib.Core.Path.{_≡_}
 use mathlib.Core.List.{List, [], _∷_}
 use lib.ListN.{length}
-use Rattle.scope.specs.Memory.{tableRows, tableCodes}
-use Rattle.scope.specs.Answers.{verdictOf, after, sectionCall, askCall, askedOf, askTable}
+use Rattle.scope.specs.Memory.{wiped, tableRows, tableCodes}
+use Rattle.scope.specs.Bodies.{instructions}
+use Rattle.scope.specs.Answers.{verdictOf, after, sectionCall, askCall, askedOf, askTable, bodyCall}
 use Rattle.scope.specs.declared.Verdict.{Verdict}
 use Rattle.scope.specs.declared.Verdict
 use Rattle.scope.specs.declared.Asked.{Asked}
@@ -48,3 +49,11 @@ pub record TypeTold (s : List ℕ) (x : ℕ) (rows codes rows′ codes′ : List
   pub values : answer′ ≡ askedValues (askedOf (askCall s x rows codes))
   pub rowsAfter : rows′ ≡ after tableRows rows (askTable s x rows codes)
   pub codesAfter : codes′ ≡ after tableCodes codes (askTable s x rows codes)
+
+-- judging a body: the same, as `BodyJudged` has it
+pub record BodyTold (section s : List ℕ) (x : ℕ) (rows codes work rows′ codes′ work′ : List ℕ) (r : ℕ) (answer′ : List ℕ) : Type 0 where
+  pub kind : r ≡ verdictKind (verdictOf instructions (bodyCall section s x rows codes work))
+  pub values : answer′ ≡ verdictValues (verdictOf instructions (bodyCall section s x rows codes work))
+  pub rowsAfter : rows′ ≡ wiped rows
+  pub codesAfter : codes′ ≡ wiped codes
+  pub workAfter : work′ ≡ wiped work

@@ -3,7 +3,7 @@
 // and buffers may be handed in.
 use scope::Asked;
 use scope::Verdict;
-ghost use Rattle.chelbugan.specs.Told.{VerdictTold, AskedTold, SectionTold, TypeTold};
+ghost use Rattle.chelbugan.specs.Told.{VerdictTold, AskedTold, SectionTold, TypeTold, BodyTold};
 
 // What an answer is: the number that each call returns.
 const NO: u64 = 0;
@@ -69,4 +69,21 @@ pub extern "C" fn chelbugan_ask_type(
 {
     let asked = loader::ask_type(section, number, rows, codes);
     tell_asked(asked, answer)
+}
+
+// Judges a body against a function type's number.
+#[no_mangle]
+pub extern "C" fn chelbugan_judge_body(
+    section: &[u8],
+    body: &[u8],
+    number: u64,
+    rows: &mut [u16],
+    codes: &mut [u16],
+    work: &mut [u32],
+    answer: &mut [u64; 3],
+) -> u64
+    ensures { λ r. ⌜ BodyTold (now (section .entry)) (now (body .entry)) number (now (rows .entry)) (now (codes .entry)) (now (work .entry)) (now (rows .exit)) (now (codes .exit)) (now (work .exit)) r (now (answer .exit)) ⌝ }
+{
+    let verdict = checker::judge_body(section, body, number, rows, codes, work);
+    tell_verdict(verdict, answer)
 }

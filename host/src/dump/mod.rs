@@ -3,7 +3,8 @@
 //! It reads the bytes by itself and judges nothing: rules and most sizes are not looked at. It breaks off at the first byte
 //! that fits nowhere.
 
-mod body;
+pub mod body;
+pub mod instruction;
 mod reader;
 mod section;
 mod types;
@@ -17,8 +18,8 @@ use std::ops::Range;
 
 pub struct Line {
     pub bytes: Range<usize>,
-    indent: usize,
-    text: String,
+    pub indent: usize,
+    pub text: String,
 }
 
 pub struct Listing {

@@ -2,6 +2,7 @@
 
 use super::reader::{Fault, Reader};
 use super::{types, Line, Listing};
+use std::fmt::Display;
 
 /// The sizes that a section's reader looks at; with them a listing breaks off where the loader's reading does.
 const TYPES: usize = 256;
@@ -123,12 +124,12 @@ impl Lister<'_> {
         }
     }
 
-    fn entries(
+    fn entries<T: Display>(
         &mut self,
         from: usize,
         before: &str,
         word: &str,
-        read: fn(&mut Reader) -> Result<String, Fault>,
+        read: fn(&mut Reader) -> Result<T, Fault>,
     ) -> Listed {
         let count = self.reader.unsigned()?;
         self.line(from, format!("{before}{}", counted(count, word)));
@@ -138,8 +139,8 @@ impl Lister<'_> {
                 return Err(self.reader.fault("an entry beyond the 64 begins here"));
             }
             let from = self.reader.place;
-            let text = read(&mut self.reader)?;
-            self.line(from, format!("{word} {number}: {text}"));
+            let entry = read(&mut self.reader)?;
+            self.line(from, format!("{word} {number}: {entry}"));
         }
         self.indent -= 1;
         Ok(())

@@ -1,46 +1,46 @@
-//! Heap types, value types and fields, in the words of WebAssembly's text.
+//! Heap types, value types and fields, read from their bytes.
 
 use super::reader::{Fault, Reader};
+use chelbugan::table::{Field, Heap, ValueType};
 
-pub fn heap(reader: &mut Reader) -> Result<String, Fault> {
+pub fn heap(reader: &mut Reader) -> Result<Heap, Fault> {
     if reader.takes(0x62) {
-        return Ok(format!("(exact {})", reader.unsigned()?));
+        return Ok(Heap::Exact(reader.unsigned()?));
     }
     if let Some(name) = reader.peek().and_then(abstract_name) {
         reader.place += 1;
-        return Ok(name.to_string());
+        return Ok(Heap::Abstract(name));
     }
     let start = reader.place;
     let number = reader.signed(33)?;
-    match number < 0 {
-        true => Err(Fault { place: start, why: "a negative number where a type's number stands" }),
-        false => Ok(number.to_string()),
-    }
+    u32::try_from(number)
+        .map(Heap::Defined)
+        .map_err(|_| Fault { place: start, why: "a negative number where a type's number stands" })
 }
 
-pub fn value(reader: &mut Reader) -> Result<String, Fault> {
+pub fn value(reader: &mut Reader) -> Result<ValueType, Fault> {
     let unlisted = reader.fault("no value type begins with this byte");
     let byte = reader.byte()?;
     match byte {
-        0x7F => Ok("i32".to_string()),
-        0x7E => Ok("i64".to_string()),
-        0x7D => Ok("f32".to_string()),
-        0x7C => Ok("f64".to_string()),
-        0x63 => Ok(format!("(ref null {})", heap(reader)?)),
-        0x64 => Ok(format!("(ref {})", heap(reader)?)),
+        0x7F => Ok(ValueType::Number("i32")),
+        0x7E => Ok(ValueType::Number("i64")),
+        0x7D => Ok(ValueType::Number("f32")),
+        0x7C => Ok(ValueType::Number("f64")),
+        0x63 => Ok(ValueType::Reference { nullable: true, heap: heap(reader)? }),
+        0x64 => Ok(ValueType::Reference { nullable: false, heap: heap(reader)? }),
         _ => match abstract_name(byte) {
-            Some(name) => Ok(format!("(ref null {name})")),
+            Some(name) => Ok(ValueType::Reference { nullable: true, heap: Heap::Abstract(name) }),
             None => Err(unlisted),
         },
     }
 }
 
-pub fn field(reader: &mut Reader) -> Result<String, Fault> {
+pub fn field(reader: &mut Reader) -> Result<Field, Fault> {
     let value = value(reader)?;
     let unlisted = reader.fault("a field ends in 00, fixed, or 01, mutable");
     match reader.byte()? {
-        0x00 => Ok(value),
-        0x01 => Ok(format!("(mut {value})")),
+        0x00 => Ok(Field { mutable: false, value }),
+        0x01 => Ok(Field { mutable: true, value }),
         _ => Err(unlisted),
     }
 }

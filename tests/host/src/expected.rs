@@ -5,6 +5,7 @@ use plain::syntax::{Abstract, Definition, Field, Form, Heap, Reference, Type, Va
 /// The sizes of docs/LAYOUT.md, in elements.
 pub const ROWS: usize = 3_072;
 pub const CODES: usize = 32_768;
+pub const WORK: usize = 4_096;
 
 /// The table of an accepted section in buffers of these lengths, zero beyond.
 pub fn table(types: &[Type], rows_len: usize, codes_len: usize) -> (Vec<u16>, Vec<u16>) {

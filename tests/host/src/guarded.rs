@@ -37,6 +37,8 @@ pub struct Guarded<T> {
 pub trait Number: Copy {}
 impl Number for u8 {}
 impl Number for u16 {}
+impl Number for u32 {}
+impl Number for u64 {}
 
 impl<T: Number> Guarded<T> {
     /// Its last element lies before a guard page.

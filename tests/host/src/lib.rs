@@ -6,4 +6,5 @@
 pub mod compare;
 pub mod expected;
 pub mod guarded;
+pub mod raw;
 pub mod requests;

@@ -1,74 +1,125 @@
 //! Some thousands of comparisons; `host_tests compare SEED COUNT` makes as many as asked for.
 
-use host_tests::compare::{ask_plain, difference, Answer, Comparison, Left};
+use host_tests::compare::{ask_plain, difference, Answer, Comparison, Left, SIZES};
 use host_tests::expected;
 use host_tests::requests::{self, Request};
 
 const SEED: u64 = 20260101;
-const COUNT: usize = 6_000;
+const COUNT: usize = 12_000;
+
+/// What a section is refused by, and what a body is refused by besides; 14 is for tests/memory.rs.
+const OF_SECTIONS: [u64; 13] = [1, 2, 3, 4, 5, 6, 7, 8, 9, 10, 11, 12, 13];
+const OF_BODIES: [u64; 9] = [20, 21, 22, 23, 24, 25, 27, 28, 29];
 
 #[test]
 fn the_library_and_the_plain_checker_agree() {
     let mut comparison = Comparison::new(SEED);
-    for request in requests::of_sections(SEED).take(COUNT) {
-        if let Err(difference) = comparison.ask(&request) {
-            panic!("{request}\n{difference}");
-        }
+    for request in requests::generated(SEED).take(COUNT) {
+        agree(&mut comparison, &request);
     }
     let tally = comparison.tally();
-    for kind in ["yes", "no 1", "no 2", "no 3", "no 4", "no 5", "no 6", "no 7", "no 8", "no 9"] {
-        assert!(tally.of(kind) > 0, "no request was answered {kind}: {tally}");
+    for kind in ["sections", "types", "bodies"] {
+        assert!(tally.of(kind, None) > 0, "no request about {kind} was accepted:\n{tally}");
     }
-    for kind in ["no 10", "no 11", "no 12", "no 13"] {
-        assert!(tally.of(kind) > 0, "no request was answered {kind}: {tally}");
+    for number in OF_SECTIONS {
+        assert!(
+            tally.of("sections", Some(number)) > 0,
+            "no section is refused by {number}:\n{tally}"
+        );
+    }
+    for number in OF_SECTIONS.into_iter().chain(OF_BODIES) {
+        assert!(tally.of("bodies", Some(number)) > 0, "no body is refused by {number}:\n{tally}");
+    }
+}
+
+fn agree(comparison: &mut Comparison, request: &Request) {
+    if let Err(difference) = comparison.ask(request) {
+        panic!("{request}\n{difference}");
     }
 }
 
 /// Every cut and every flip of a bit of a section with all that a section can say.
 #[test]
-fn they_agree_on_every_cut_and_flip() {
-    let whole = hand_made();
-    let answer =
-        ask_plain(&Request::Section(whole.clone()), expected::ROWS, expected::CODES).answer;
+fn they_agree_on_every_cut_and_flip_of_a_section() {
+    let whole = section();
+    let answer = ask_plain(&Request::Section(whole.clone()), SIZES).answer;
     assert_eq!(answer, Answer::Count(6), "the section to spoil is itself accepted");
-    let cuts = (0..whole.len()).map(|length| whole[..length].to_vec());
-    let flips = (0..8 * whole.len()).map(|bit| flipped(&whole, bit));
     let mut comparison = Comparison::new(SEED);
-    for section in cuts.chain(flips) {
-        let request = Request::Section(section);
-        if let Err(difference) = comparison.ask(&request) {
-            panic!("{request}\n{difference}");
-        }
+    for section in cuts_and_flips(&whole) {
+        agree(&mut comparison, &Request::Section(section));
     }
+}
+
+/// The same of a body in which every instruction stands.
+#[test]
+fn they_agree_on_every_cut_and_flip_of_a_body() {
+    let (whole, instructions) = body();
+    let answer = ask_plain(&Request::Body(section(), 5, whole.clone()), SIZES).answer;
+    assert_eq!(answer, Answer::Count(instructions), "the body to spoil is itself accepted");
+    let mut comparison = Comparison::new(SEED);
+    for body in cuts_and_flips(&whole) {
+        agree(&mut comparison, &Request::Body(section(), 5, body));
+    }
+    for section in cuts_and_flips(&section()) {
+        agree(&mut comparison, &Request::Body(section, 5, whole.clone()));
+    }
+}
+
+/// A function type's number plus any power of two is another number.
+#[test]
+fn a_type_number_is_taken_whole() {
+    let (body, instructions) = body();
+    let mut comparison = Comparison::new(SEED);
+    for number in (3..64).map(|bit| 5 + (1 << bit)).chain([0, 4, 6, 255, 256, u64::MAX]) {
+        let request = Request::Body(section(), number, body.clone());
+        assert_eq!(ask_plain(&request, SIZES).answer, Answer::No(27, 0), "{request}");
+        agree(&mut comparison, &request);
+    }
+    let request = Request::Body(section(), 5, body);
+    assert_eq!(ask_plain(&request, SIZES).answer, Answer::Count(instructions));
+    agree(&mut comparison, &request);
 }
 
 /// The comparison itself: one word or one place that is off is a difference.
 #[test]
 fn a_word_that_is_off_is_found() {
-    let request = Request::Section(hand_made());
-    let plain = || ask_plain(&request, expected::ROWS, expected::CODES);
-    assert_eq!(difference(&plain(), &plain()), None);
-    let spoilt: [fn(&mut Left); 4] = [
+    let requests = [Request::Section(section()), Request::Body(section(), 5, body().0)];
+    let spoilt: [fn(&mut Left); 5] = [
         |left| left.rows[expected::ROWS - 1] = 1,
         |left| left.rows[9] += 1,
         |left| left.codes[0] ^= 1,
+        |left| left.work.push(0),
         |left| left.answer = Answer::Count(5),
     ];
-    for spoil in spoilt {
-        let mut left = plain();
-        spoil(&mut left);
-        assert!(difference(&left, &plain()).is_some());
+    for request in requests {
+        let plain = || ask_plain(&request, SIZES);
+        assert_eq!(difference(&plain(), &plain()), None);
+        for spoil in spoilt {
+            let mut left = plain();
+            spoil(&mut left);
+            assert!(difference(&left, &plain()).is_some());
+        }
     }
+    let mut left = ask_plain(&Request::Body(section(), 5, body().0), SIZES);
+    left.work[expected::WORK - 1] = 1;
+    let plain = ask_plain(&Request::Body(section(), 5, body().0), SIZES);
+    assert!(difference(&left, &plain).is_some());
 }
 
-fn flipped(section: &[u8], bit: usize) -> Vec<u8> {
-    let mut section = section.to_vec();
-    section[bit / 8] ^= 1 << (bit % 8);
-    section
+fn cuts_and_flips(whole: &[u8]) -> Vec<Vec<u8>> {
+    let cuts = (0..whole.len()).map(|length| whole[..length].to_vec());
+    let flips = (0..8 * whole.len()).map(|bit| flipped(whole, bit));
+    cuts.chain(flips).collect()
+}
+
+fn flipped(bytes: &[u8], bit: usize) -> Vec<u8> {
+    let mut bytes = bytes.to_vec();
+    bytes[bit / 8] ^= 1 << (bit % 8);
+    bytes
 }
 
 /// An open struct with its descriptor, a subtype of each, a struct of every kind of field, a function.
-fn hand_made() -> Vec<u8> {
+fn section() -> Vec<u8> {
     let mut section = vec![0x03, 0x4E, 0x04];
     section.extend([0x50, 0x00, 0x4D, 0x01, 0x5F, 0x01, 0x7F, 0x01]);
     section.extend([0x50, 0x00, 0x4C, 0x00, 0x5F, 0x00]);
@@ -79,4 +130,87 @@ fn hand_made() -> Vec<u8> {
     ]);
     section.extend([0x60, 0x02, 0x70, 0x64, 0x00, 0x01, 0x63, 0x62, 0x01]);
     section
+}
+
+/// A body of type 5 with every instruction, and how many it has.
+fn body() -> (Vec<u8>, u64) {
+    // Locals: 0 (ref null func) and 1 (ref 0) are parameters, 2 an i32, 3 a (ref 1) that has no default.
+    let locals: &[u8] = &[0x02, 0x01, 0x7F, 0x01, 0x64, 0x01];
+    let instructions: [&[u8]; 67] = [
+        // a descriptor, and an object with it
+        &[0xFB, 0x00, 0x01],
+        &[0x21, 0x03],
+        &[0x41, 0x7B],
+        &[0x22, 0x02],
+        &[0xFB, 0x01, 0x01],
+        &[0xFB, 0x20, 0x00],
+        &[0xFB, 0x02, 0x00, 0x00],
+        &[0x1A],
+        &[0xD0, 0x62, 0x01],
+        &[0xFB, 0x21, 0x00],
+        &[0x20, 0x02],
+        &[0xFB, 0x05, 0x00, 0x00],
+        // tests and casts
+        &[0x20, 0x01],
+        &[0xFB, 0x14, 0x02],
+        &[0x1A],
+        &[0x20, 0x00],
+        &[0xFB, 0x15, 0x70],
+        &[0x1A],
+        &[0x20, 0x01],
+        &[0xFB, 0x16, 0x62, 0x02],
+        &[0x1A],
+        &[0xD0, 0x6E],
+        &[0xFB, 0x17, 0x02],
+        &[0xD1],
+        &[0x1A],
+        &[0xD0, 0x6D],
+        &[0xD0, 0x71],
+        &[0xD3],
+        &[0x1A],
+        // descriptors: taken from an object, and cast by
+        &[0x20, 0x01],
+        &[0x20, 0x01],
+        &[0xFB, 0x22, 0x00],
+        &[0xFB, 0x23, 0x00],
+        &[0x1A],
+        &[0xD0, 0x6E],
+        &[0x20, 0x03],
+        &[0xFB, 0x24, 0x00],
+        &[0xD4],
+        &[0x1A],
+        // branching casts
+        &[0x02, 0x64, 0x02],
+        &[0x20, 0x01],
+        &[0xFB, 0x18, 0x00, 0x00, 0x00, 0x02],
+        &[0x1A],
+        &[0x00],
+        &[0x0B],
+        &[0x1A],
+        &[0x02, 0x6B],
+        &[0xD0, 0x6B],
+        &[0xFB, 0x19, 0x01, 0x00, 0x6B, 0x02],
+        &[0x1A],
+        &[0xD0, 0x6B],
+        &[0x20, 0x03],
+        &[0xFB, 0x25, 0x03, 0x00, 0x6B, 0x00],
+        &[0x20, 0x03],
+        &[0xFB, 0x26, 0x00, 0x00, 0x6B, 0x00],
+        &[0x0B],
+        &[0x1A],
+        // a loop that is left, and the function's end
+        &[0x03, 0x40],
+        &[0x01],
+        &[0x20, 0x02],
+        &[0x0D, 0x00],
+        &[0x0B],
+        &[0x02, 0x40],
+        &[0x0C, 0x00],
+        &[0x0B],
+        &[0xD0, 0x62, 0x01],
+        &[0x0F],
+    ];
+    let end: &[u8] = &[0x0B];
+    let bytes = [locals, &instructions.concat(), end].concat();
+    (bytes, instructions.len() as u64 + 1)
 }

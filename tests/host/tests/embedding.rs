@@ -1,8 +1,7 @@
 //! docs/EMBEDDING.md's hosts are compiled as they stand there, run, and held to what the page says.
 
-use std::io::Write;
 use std::path::{Path, PathBuf};
-use std::process::{Command, Output, Stdio};
+use std::process::{Command, Output};
 
 const F1: [u8; 17] = [
     0x02, 0x4E, 0x02, 0x4D, 0x01, 0x5F, 0x00, 0x4C, 0x00, 0x5F, 0x00, 0x60, 0x00, 0x01, 0x64, 0x62,
@@ -12,6 +11,12 @@ const F1: [u8; 17] = [
 /// Its clauses disagree: 11, type 1.
 const DISAGREE: [u8; 13] =
     [0x01, 0x4E, 0x03, 0x5F, 0x00, 0x4D, 0x02, 0x5F, 0x00, 0x4C, 0x00, 0x5F, 0x00];
+
+/// Of F1's type 2: 3 instructions.
+const BODY: [u8; 8] = [0x00, 0xFB, 0x00, 0x01, 0xFB, 0x20, 0x00, 0x0B];
+
+/// A struct with a descriptor made without one: 23 at 1.
+const WITHOUT: [u8; 5] = [0x00, 0xFB, 0x00, 0x00, 0x0B];
 
 fn root() -> PathBuf {
     Path::new(env!("CARGO_MANIFEST_DIR")).join("../..").canonicalize().expect("the repository")
@@ -31,31 +36,37 @@ fn folder(name: &str) -> PathBuf {
     folder
 }
 
-fn run(program: &Path, section: &[u8]) -> Output {
-    let mut running = Command::new(program)
-        .stdin(Stdio::piped())
-        .stdout(Stdio::piped())
-        .spawn()
-        .expect("the host starts");
-    running
-        .stdin
-        .take()
-        .expect("its input")
-        .write_all(section)
-        .expect("the section is handed over");
-    running.wait_with_output().expect("the host ends")
+/// The host with these inputs as files beside it.
+fn run(program: &Path, section: &[u8], body: &[u8], function: &str) -> Output {
+    let file = |name: &str, content: &[u8]| {
+        let path = program.with_extension(name);
+        std::fs::write(&path, content).expect("an input's file");
+        path
+    };
+    let mut host = Command::new(program);
+    host.arg(file("section", section)).arg(file("body", body)).arg(function);
+    host.output().expect("the host starts")
 }
 
 /// What the page says that a host prints, and its status.
 fn held_to_the_page(program: &Path) {
-    let accepted = run(program, &F1);
-    assert_eq!(String::from_utf8_lossy(&accepted.stdout), block("text"));
-    assert_eq!(accepted.status.code(), Some(0));
-    let refused = run(program, &DISAGREE);
-    assert_eq!(String::from_utf8_lossy(&refused.stdout), "refusal 11 at 1\n");
-    assert_eq!(refused.status.code(), Some(1));
-    let too_long = run(program, &[0; 40_000][..32_769]);
-    assert_eq!(String::from_utf8_lossy(&too_long.stdout), "refusal 4 at 0\n");
+    let said = |section: &[u8], body: &[u8], function: &str| {
+        let output = run(program, section, body, function);
+        (String::from_utf8_lossy(&output.stdout).to_string(), output.status.code())
+    };
+    let accepted = block("text");
+    let (types, count) = accepted.split_at(accepted.find("the body").expect("the body's line"));
+    assert_eq!(count, "the body has 3 instructions\n");
+    assert_eq!(said(&F1, &BODY, "2"), (accepted.clone(), Some(0)));
+    let below_the_types = |line: &str| (format!("{types}{line}\n"), Some(1));
+    assert_eq!(said(&F1, &WITHOUT, "2"), below_the_types("the body: refusal 23 at 1"));
+    assert_eq!(said(&F1, &BODY, "0"), below_the_types("the body: refusal 27 at 0"));
+    assert_eq!(said(&F1, &[0; 40_000], "2"), below_the_types("the body: refusal 4 at 0"));
+    let alone = |line: &str| (format!("{line}\n"), Some(1));
+    assert_eq!(said(&DISAGREE, &BODY, "2"), alone("the section: refusal 11 at 1"));
+    assert_eq!(said(&[0; 32_769], &BODY, "2"), alone("the section: refusal 4 at 0"));
+    let absent = Command::new(program).args(["no", "such", "2"]).output().expect("it starts");
+    assert_ne!(absent.status.code(), Some(0));
 }
 
 #[test]

@@ -30,8 +30,10 @@ fn elements_of(buffer: &str) -> usize {
 fn sizes_are_the_layouts() {
     assert_eq!(constant("CHELBUGAN_ROWS"), elements_of("rows"));
     assert_eq!(constant("CHELBUGAN_CODES"), elements_of("codes"));
+    assert_eq!(constant("CHELBUGAN_WORK"), elements_of("work"));
     assert_eq!(chelbugan::calls::ROWS, elements_of("rows"));
     assert_eq!(chelbugan::calls::CODES, elements_of("codes"));
+    assert_eq!(chelbugan::calls::WORK, elements_of("work"));
 }
 
 /// The words of a row, by the numbers in docs/LAYOUT.md's table of a row.

@@ -1,6 +1,6 @@
-//! Lent memory, seen from outside: between guard pages, too short, of length 0, longer than asked, full of rubbish.
+//! Memory lent with a section, seen from outside: between guard pages, too short, of length 0, longer than asked, full of rubbish.
 
-use host_tests::compare::{ask_library, ask_plain, difference, Answer, Left};
+use host_tests::compare::{ask_library, ask_plain, difference, Answer, Left, Lengths, Lent, SIZES};
 use host_tests::expected::{CODES, ROWS};
 use host_tests::guarded::Guarded;
 use host_tests::requests::Request;
@@ -76,10 +76,11 @@ fn requests(section: &[u8]) -> Vec<Request> {
 #[test]
 fn the_sections_of_these_tests_are_answered_as_worked_out_by_hand() {
     for (section, answer) in sections() {
-        let plain = ask_plain(&Request::Section(section.clone()), ROWS, CODES);
+        let request = Request::Section(section.clone());
+        let plain = ask_plain(&request, SIZES);
         assert_eq!(plain.answer, answer, "the plain checker on {section:02x?}");
-        let library =
-            ask_library(&Request::Section(section.clone()), &mut [1; ROWS], &mut [1; CODES]);
+        let lent = Lent { rows: &mut [1; ROWS], codes: &mut [1; CODES], work: &mut [] };
+        let library = ask_library(&request, lent);
         assert_eq!(library, answer, "the library on {section:02x?}");
     }
 }
@@ -95,8 +96,10 @@ fn ask_guarded(
     let mut codes = placing(codes_len);
     rows.as_mut_slice().fill(rubbish);
     codes.as_mut_slice().fill(rubbish);
-    let answer = ask_library(request, rows.as_mut_slice(), codes.as_mut_slice());
-    Left { answer, rows: rows.as_slice().to_vec(), codes: codes.as_slice().to_vec() }
+    let lent = Lent { rows: rows.as_mut_slice(), codes: codes.as_mut_slice(), work: &mut [] };
+    let answer = ask_library(request, lent);
+    let (rows, codes) = (rows.as_slice().to_vec(), codes.as_slice().to_vec());
+    Left { answer, rows, codes, work: Vec::new() }
 }
 
 const LENGTHS: [(usize, usize); 11] = [
@@ -119,7 +122,8 @@ fn buffers_of_every_length_between_guard_pages() {
     let mut asked = 0;
     for (section, _) in sections() {
         for (request, placing, lengths) in every(&requests(&section), &placings, &LENGTHS) {
-            let plain = ask_plain(&request, lengths.0, lengths.1);
+            let (rows, codes) = lengths;
+            let plain = ask_plain(&request, Lengths { rows, codes, work: 0 });
             let left = ask_guarded(&request, placing, lengths, 0xA5A5);
             if let Some(difference) = difference(&left, &plain) {
                 panic!("{request}\nrows and codes of {lengths:?}: {difference}");

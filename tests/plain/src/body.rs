@@ -48,6 +48,28 @@ pub fn judge_body(section: &[u8], number: u32, body: &[u8]) -> Result<Body, Refu
     Ok(Body { types, parameters, results, locals, code, length: body.len() })
 }
 
+/// The operands of the innermost frame before the instruction at a place, bottom first, and whether the frame is
+/// unreachable. None where no instruction begins there, or an earlier one is refused.
+pub fn operands_before(
+    section: &[u8],
+    number: u32,
+    body: &[u8],
+    place: usize,
+) -> Option<(Vec<Operand>, bool)> {
+    let types = judge_section(section).ok()?;
+    let (parameters, results) = function_of(&types, number).ok()?;
+    let mut reader = Reader::new(body);
+    let locals = read_locals(&mut reader, &types, &parameters).ok()?;
+    let mut checker = Checker::new(&types, &parameters, &results, locals);
+    while reader.place() < place {
+        let placed = read_instruction(&mut reader).ok()?;
+        checker.judge(&placed.instruction).ok()?;
+    }
+    let frame = checker.stack.frames.last()?;
+    let own = checker.stack.operands[frame.height..].to_vec();
+    (reader.place() == place).then_some((own, frame.unreachable))
+}
+
 fn function_of(types: &[Type], number: u32) -> Result<(Vec<ValueType>, Vec<ValueType>), Refusal> {
     match types.get(number as usize).map(|found| &found.definition.form) {
         Some(Form::Function { parameters, results }) => Ok((parameters.clone(), results.clone())),

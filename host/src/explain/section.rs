@@ -1,11 +1,9 @@
-//! A refusal told to a person: its number, its place, document 01's words for it, and the bytes around the place.
+//! The refusal of a section.
 
-use crate::{dump, hex};
+use super::around::{around, module_hint};
+use super::{wrapped, INPUT_BYTES, SIZE_EXCEEDED};
+use crate::dump;
 use chelbugan::Refusal;
-use std::ops::Range;
-
-const SECTION_BYTES: usize = 32_768;
-const SIZE_EXCEEDED: u64 = 4;
 
 /// What a refusal's place is.
 enum Place {
@@ -23,7 +21,7 @@ pub fn section_refusal(section: &[u8], refusal: Refusal) -> String {
         Place::Byte(at) => text + &around(section, at..at + 1),
         Place::Type(number) => text + &around_type(section, &listing, number),
         Place::WholeInput => {
-            text + &format!("  it has more than {SECTION_BYTES} bytes\n") + module_hint(section)
+            text + &format!("  it has more than {INPUT_BYTES} bytes\n") + module_hint(section)
         }
     }
 }
@@ -31,7 +29,7 @@ pub fn section_refusal(section: &[u8], refusal: Refusal) -> String {
 /// The sizes of a list or of the table are a byte's; the chain's is a type's, said once all bytes have been read.
 fn place_of(section: &[u8], listing: &dump::Listing, refusal: Refusal) -> Place {
     match refusal.number {
-        SIZE_EXCEEDED if section.len() > SECTION_BYTES => Place::WholeInput,
+        SIZE_EXCEEDED if section.len() > INPUT_BYTES => Place::WholeInput,
         SIZE_EXCEEDED if listing.fault.is_none() => Place::Type(refusal.place),
         1..=5 => Place::Byte(refusal.place as usize),
         _ => Place::Type(refusal.place),
@@ -78,23 +76,6 @@ fn words(number: u64, place: &Place) -> &'static str {
     }
 }
 
-const WIDTH: usize = 100;
-
-/// Words in lines of a width that a terminal has, a little to the right.
-fn wrapped(words: &str) -> String {
-    let mut lines = vec![String::new()];
-    for word in words.split(' ') {
-        let line = lines.last_mut().expect("there is always a line");
-        if line.len() + word.len() < WIDTH {
-            line.push(' ');
-            line.push_str(word);
-        } else {
-            lines.push(format!(" {word}"));
-        }
-    }
-    lines.iter().map(|line| format!(" {line}\n")).collect()
-}
-
 /// A type's bytes and its lines of the listing; or that there is no such type.
 fn around_type(section: &[u8], listing: &dump::Listing, number: u64) -> String {
     let count = listing.types.len();
@@ -106,54 +87,4 @@ fn around_type(section: &[u8], listing: &dump::Listing, number: u64) -> String {
     let own = lines.filter(|line| bytes.start <= line.bytes.start && line.bytes.end <= bytes.end);
     let own: String = own.map(|line| dump::line_text(section, line)).collect();
     format!("{}\n{own}", around(section, bytes.clone()))
-}
-
-const BYTES_A_LINE: usize = 16;
-
-/// Lines of bytes that are shown before the fault, and at most of the fault itself.
-const LINES_BEFORE: usize = 1;
-const LINES_AT_MOST: usize = 8;
-
-/// The bytes around a range with the range marked; a byte that is missing is marked behind the last one.
-fn around(bytes: &[u8], marked: Range<usize>) -> String {
-    let first = (marked.start / BYTES_A_LINE).saturating_sub(LINES_BEFORE);
-    let last = (marked.end.max(1) - 1) / BYTES_A_LINE;
-    let shown = first..=last.min(first + LINES_AT_MOST);
-    let mut text: String =
-        shown.map(|line| marked_line(bytes, line * BYTES_A_LINE, &marked)).collect();
-    if last > first + LINES_AT_MOST {
-        text += &format!("          and on, to byte {}\n", marked.end - 1);
-    }
-    if marked.start >= bytes.len() {
-        text += &format!(
-            "  the input ends after {} bytes; byte {} is missing\n",
-            bytes.len(),
-            marked.start
-        );
-    }
-    text + module_hint(bytes)
-}
-
-/// A line of bytes, and below it the marks that fall on it.
-fn marked_line(bytes: &[u8], from: usize, marked: &Range<usize>) -> String {
-    let to = (from + BYTES_A_LINE).min(bytes.len()).max(from);
-    let digits = hex::spaced(bytes.get(from..to).unwrap_or(&[]));
-    let marks: Vec<&str> = (from..from + BYTES_A_LINE)
-        .map(|place| if marked.contains(&place) { "^^" } else { "  " })
-        .collect();
-    let marks = marks.join(" ");
-    let mut text = format!("{from:>8}  {digits}").trim_end().to_string() + "\n";
-    if !marks.trim().is_empty() {
-        text += format!("{:>8}  {marks}", "").trim_end();
-        text.push('\n');
-    }
-    text
-}
-
-/// A whole module is no section, and a likely mistake.
-fn module_hint(bytes: &[u8]) -> &'static str {
-    match bytes.starts_with(b"\0asm") {
-        true => "  this is a whole module; the loader reads the content of its type section\n",
-        false => "",
-    }
 }

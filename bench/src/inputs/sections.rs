@@ -1,55 +1,17 @@
-//! The inputs: sections of 1, 5, 20 and 32 KB, ordinary, refused at their end, and as slow as a section can be.
+//! Sections: ordinary, refused at their end, and as slow as a section can be.
 
+use super::{heap, leb, of_size, Input, Judged};
 use plain::refusal::Refusal;
 
-/// What is timed.
-pub struct Input {
-    pub kind: &'static str,
-    pub kilobytes: usize,
-    pub section: Vec<u8>,
-    /// The answer that document 01 gives: the count of types, or the refusal.
-    pub answer: Result<usize, Refusal>,
-}
-
 pub const KINDS: [&str; 3] = ["ordinary", "refused late", "hostile"];
-pub const KILOBYTES: [usize; 4] = [1, 5, 20, 32];
 
-/// A section's greatest size, and 32 of the table's kilobytes.
-const MOST_BYTES: usize = 32_768;
-
-pub fn all() -> Vec<Input> {
-    KINDS.iter().flat_map(|kind| KILOBYTES.map(|kilobytes| input(kind, kilobytes))).collect()
-}
-
-fn input(kind: &'static str, kilobytes: usize) -> Input {
-    let room = kilobytes * MOST_BYTES / 32;
-    let (section, answer) = match kind {
+pub fn input(kind: &'static str, kilobytes: usize) -> Input {
+    let (section, answer) = of_size(kind, kilobytes, |room| match kind {
         "ordinary" => ordinary(room),
         "refused late" => refused_late(room),
         _ => hostile(room),
-    };
-    assert!(
-        section.len() <= room && section.len() > room * 3 / 4,
-        "{kind}: {} of {room}",
-        section.len()
-    );
-    Input { kind, kilobytes, section, answer }
-}
-
-fn leb(number: usize) -> Vec<u8> {
-    let low = (number % 0x80) as u8;
-    match number / 0x80 {
-        0 => vec![low],
-        rest => [vec![low | 0x80], leb(rest)].concat(),
-    }
-}
-
-/// A type's number where a heap type stands: a number with a sign.
-fn heap(number: usize) -> Vec<u8> {
-    match number < 0x40 {
-        true => vec![number as u8],
-        false => vec![(number % 0x80) as u8 | 0x80, (number / 0x80) as u8],
-    }
+    });
+    Input { kind, kilobytes, section, body: None, answer }
 }
 
 /// Types of a kind that follow one another, as many as fit.
@@ -79,8 +41,6 @@ impl Section {
         ([leb(self.groups), self.bytes].concat(), self.types)
     }
 }
-
-type Judged = (Vec<u8>, Result<usize, Refusal>);
 
 /// Families as the paper's incident has them: a short and a long kind, a descriptor for each, a function over them. Larger
 /// sections have more fields, since there are at most 256 types.
@@ -151,7 +111,7 @@ fn refused_late(room: usize) -> Judged {
 }
 
 /// The steps of the longest chain.
-const CHAIN: usize = 63;
+pub const CHAIN: usize = 63;
 
 /// A chain of 63 steps, then functions whose parameters and results each walk all of it (docs/ARCHITECTURE.md).
 fn hostile(room: usize) -> Judged {
