@@ -1,7 +1,8 @@
-//! Runs the program `chelbugan`.
+//! Runs the program `chelbugan`, and looks at what it said.
 #![allow(dead_code)] // each test file uses its own part
 
 use std::io::Write;
+use std::path::PathBuf;
 use std::process::{Command, Stdio};
 
 pub struct Said {
@@ -29,4 +30,62 @@ pub fn chelbugan_fed(arguments: &[&str], input: &[u8]) -> Said {
         out: String::from_utf8(ended.stdout).expect("it writes text"),
         err: String::from_utf8(ended.stderr).expect("it writes text"),
     }
+}
+
+/// A file of this test's own, removed when it is dropped.
+pub struct OwnFile(PathBuf);
+
+impl OwnFile {
+    pub fn new(name: &str, content: &[u8]) -> OwnFile {
+        let path = std::env::temp_dir().join(format!("chelbugan-{}-{name}", std::process::id()));
+        std::fs::write(&path, content).expect("a file can be written");
+        OwnFile(path)
+    }
+
+    pub fn name(&self) -> &str {
+        self.0.to_str().expect("its name is text")
+    }
+}
+
+impl Drop for OwnFile {
+    fn drop(&mut self) {
+        let _ = std::fs::remove_file(&self.0);
+    }
+}
+
+pub fn yes(arguments: &[&str]) -> String {
+    let Said { status, out, err } = chelbugan(arguments);
+    assert_eq!((status, err.as_str()), (0, ""), "{arguments:?}: {out}");
+    out
+}
+
+pub fn no(arguments: &[&str]) -> String {
+    let Said { status, out, err } = chelbugan(arguments);
+    assert_eq!((status, err.as_str()), (1, ""), "{arguments:?}: {out}");
+    out
+}
+
+/// The words on standard error; nothing is said on standard output.
+pub fn misused(arguments: &[&str]) -> String {
+    let Said { status, out, err } = chelbugan(arguments);
+    assert_eq!((status, out.as_str()), (2, ""), "{arguments:?}: {err}");
+    err
+}
+
+/// The line of bytes and the marks below it, both without their margin.
+pub fn line_and_marks(said: &str, bytes: &str) -> (String, String) {
+    let at = said.find(bytes).unwrap_or_else(|| panic!("{bytes} is not in\n{said}"));
+    let margin = at - said[..at].rfind('\n').map_or(0, |end| end + 1);
+    let mut lines = said[at - margin..].lines();
+    let line = lines.next().expect("the line of bytes")[margin..].to_string();
+    let marks = lines.next().expect("the marks").get(margin..).unwrap_or("").to_string();
+    (line, marks)
+}
+
+/// The marks stand under these of the bytes and under no others.
+pub fn assert_marked(said: &str, bytes: &str, marked: &str) {
+    let (line, marks) = line_and_marks(said, bytes);
+    let from = line.find(marked).expect("the marked bytes are on the line");
+    let wanted = " ".repeat(from) + &vec!["^^"; marked.split(' ').count()].join(" ");
+    assert_eq!(marks, wanted, "{said}");
 }

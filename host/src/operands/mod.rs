@@ -3,28 +3,13 @@
 //! It judges nothing: the loader accepted every instruction before the one that is explained, so that what each of them took
 //! was there and was right.
 
+mod kinds;
+
+pub use kinds::{Operand, Wanted};
+
 use crate::dump::body::{Item, Placed};
 use crate::dump::instruction::{BranchingCast, Instruction, Plain};
 use chelbugan::table::{Heap, Row, Table, ValueType};
-use std::fmt;
-
-/// What lies on the stack.
-#[derive(Clone, Copy)]
-pub enum Operand {
-    Known(ValueType),
-    /// What ref.as_non_null makes of an unknown.
-    UnknownHeap,
-    /// What an unreachable frame yields where it has no operand left.
-    Unknown,
-}
-
-/// What an instruction takes.
-#[derive(Clone, Copy)]
-pub enum Wanted {
-    Of(ValueType),
-    Reference,
-    Anything,
-}
 
 /// What stood there before an instruction: bottom first, of the innermost frame alone.
 pub struct Before {
@@ -309,25 +294,5 @@ fn rest(cast: &BranchingCast) -> ValueType {
             non_null(heap)
         }
         (source, _) => source,
-    }
-}
-
-impl fmt::Display for Operand {
-    fn fmt(&self, to: &mut fmt::Formatter) -> fmt::Result {
-        match self {
-            Operand::Known(value) => write!(to, "{value}"),
-            Operand::UnknownHeap => write!(to, "(ref unknown)"),
-            Operand::Unknown => write!(to, "unknown"),
-        }
-    }
-}
-
-impl fmt::Display for Wanted {
-    fn fmt(&self, to: &mut fmt::Formatter) -> fmt::Result {
-        match self {
-            Wanted::Of(value) => write!(to, "{value}"),
-            Wanted::Reference => write!(to, "any reference"),
-            Wanted::Anything => write!(to, "any value"),
-        }
     }
 }
