@@ -4,22 +4,22 @@ use mathlib.Core.Path.{_≡_, refl, sym, ap, ap₂, _∙_}
 use mathlib.Core.Logic.{_⊎_, inl, inr}
 use mathlib.Core.Bool.{true, false}
 use mathlib.Core.Option.{none, some}
-use mathlib.Core.List.{List, [], _∷_, map}
+use mathlib.Core.List.{List, [], _∷_, _++_, map}
 use native.Mathlib.Omega.{arith}
-use lib.ListN.{length, getD, set, take, length-set}
-use lib.Seq.{getD-set-same, getD-set-other}
+use lib.ListN.{length, getD, set, take, replicate, length-set}
+use lib.Seq.{getD-set-same, getD-set-other, length-take-le}
 use lib.Dec.{eqb}
 use borrow.Author.Tests.{ne-eqb, eqb-true, eqb-false}
 use Rattle.scope.specs.Lists.{joined}
 use Rattle.scope.specs.Syntax.{Number, i32, i64, f32, f64}
 use Rattle.scope.specs.Order.{numberCode}
-use Rattle.scope.specs.Machine.{Value, number, null, object}
-use Rattle.scope.specs.Memory.{valueWords, localWords}
+use Rattle.scope.specs.Machine.{number, null, object}
+use Rattle.scope.specs.Memory.{filled, valueWords, localWords}
 use Rattle.scope.proofs.Truths.{decided}
 use Rattle.table.specs.View.{numberAt}
 use Rattle.table.proofs.Codes.{val-number, val-code-at}
-use Rattle.cells.specs.Values.{numbered, valueAt, heldAt, valueIn, heldIn, valuesFrom, heldFrom, setValue, Canon, HeldCanon, AllCanon, AllHeldCanon}
-use Rattle.cells.proofs.Numbered.{numbered-same, numbered-set, pairs-are}
+use Rattle.cells.specs.Values.{numbered, valueAt, heldAt, entryIn, valuesFrom, heldFrom, setValue, Canon, HeldCanon, AllWords, AllCanon, AllHeldCanon}
+use Rattle.cells.proofs.Numbered.{numbered-more, numbered-same, numbered-set, pairs-are}
 
 -- a kind, read
 
@@ -86,33 +86,36 @@ held-canon-some {k} {n} c = go (decided (eqb k 0))
 -- all values, written: the words themselves
 
 pub canon-words : {m : List ℕ} {n : ℕ} → AllCanon m n → 2 * n ≤ length m → joined (map valueWords (valuesFrom m 0 n)) ≡ take (2 * n) m
-unfolding valueIn
-canon-words {m} {n} c room = pairs-are (valueIn m) valueWords m n room (λ j h. sym (c .each j h .is))
+unfolding entryIn
+canon-words {m} {n} c room = pairs-are (entryIn valueAt m) valueWords m n room (λ j h. sym (c .each j h .is))
 
 pub held-canon-words : {m : List ℕ} {n : ℕ} → AllHeldCanon m n → 2 * n ≤ length m → joined (map localWords (heldFrom m 0 n)) ≡ take (2 * n) m
-unfolding heldIn
-held-canon-words {m} {n} c room = pairs-are (heldIn m) localWords m n room (λ j h. sym (c .each j h .is))
+unfolding entryIn
+held-canon-words {m} {n} c room = pairs-are (entryIn heldAt m) localWords m n room (λ j h. sym (c .each j h .is))
 
--- fewer values, and words that are the same
+-- what is kept of memory that is wiped from a place on, in scope's words
+pub wiped-filled : (m : List ℕ) {n : ℕ} {words : List ℕ} → n ≤ length m → take n m ≡ words → take n m ++ replicate (length m - n) 0 ≡ filled m words
+wiped-filled m {n} {words} h e =
+    let long : length words ≡ n = sym (ap length e) ∙ length-take-le n m h in rw (long, e)
 
-pub canon-less : {m : List ℕ} {n k : ℕ} → AllCanon m n → k ≤ n → AllCanon m k
-canon-less c h = record { each = λ j l. c .each j (omega arith) }
+-- fewer entries, and words that are the same
 
-module _ (m m′ : List ℕ) where
-  pub value-same : (j : ℕ) → getD m′ (2 * j) 0 ≡ getD m (2 * j) 0 → getD m′ (2 * j + 1) 0 ≡ getD m (2 * j + 1) 0 → valueIn m′ j ≡ valueIn m j
-  unfolding valueIn
-  value-same j a b = ap₂ valueAt a b
+pub all-less : {P : ℕ → ℕ → Type 0} {m : List ℕ} {n k : ℕ} → AllWords P m n → k ≤ n → AllWords P m k
+all-less c h = record { each = λ j l. c .each j (omega arith) }
 
-  -- memories with the same words up to there say the same values
-  pub values-same : (n at k : ℕ) → ((i : ℕ) → i < 2 * n → getD m′ i 0 ≡ getD m i 0) → at + k ≤ n → valuesFrom m′ at k ≡ valuesFrom m at k
-  values-same n at k same h =
-      numbered-same (valueIn m) (valueIn m′) at k (λ j l g. value-same j (same (2 * j) (omega arith)) (same (2 * j + 1) (omega arith)))
+pub entry-same : {A : Type 0} (f : ℕ → ℕ → A) (m m′ : List ℕ) (j : ℕ) → getD m′ (2 * j) 0 ≡ getD m (2 * j) 0 → getD m′ (2 * j + 1) 0 ≡ getD m (2 * j + 1) 0 → entryIn f m′ j ≡ entryIn f m j
+unfolding entryIn
+entry-same f m m′ j a b = ap₂ f a b
 
-  pub canon-same : {n : ℕ} → ((i : ℕ) → i < 2 * n → getD m′ i 0 ≡ getD m i 0) → AllCanon m n → AllCanon m′ n
-  canon-same same c =
-      record { each = λ j h. rw (same (2 * j) (omega arith), same (2 * j + 1) (omega arith)) (c .each j h) }
+module _ (m m′ : List ℕ) (n : ℕ) (same : (i : ℕ) → i < 2 * n → getD m′ i 0 ≡ getD m i 0) where
+  pub entries-same : {A : Type 0} (f : ℕ → ℕ → A) (at k : ℕ) → at + k ≤ n → numbered (entryIn f m′) at k ≡ numbered (entryIn f m) at k
+  entries-same f at k h =
+      numbered-same (entryIn f m) (entryIn f m′) at k (λ j l g. entry-same f m m′ j (same (2 * j) (omega arith)) (same (2 * j + 1) (omega arith)))
 
--- a value that was put
+  pub all-same : {P : ℕ → ℕ → Type 0} → AllWords P m n → AllWords P m′ n
+  all-same c = record { each = λ j h. rw (same (2 * j) (omega arith), same (2 * j + 1) (omega arith)) (c .each j h) }
+
+-- an entry that was put
 
 module _ (m : List ℕ) (j k n : ℕ) where
   pub put-long : length (setValue m j k n) ≡ length m
@@ -123,9 +126,9 @@ module _ (m : List ℕ) (j k n : ℕ) where
   unfolding setValue
   put-beside i a b = getD-set-other (set m (2 * j) k) (2 * j + 1) i n 0 b ∙ getD-set-other m (2 * j) i k 0 a
 
-  pub put-other : (i : ℕ) → (i ≡ j → ⊥) → valueIn (setValue m j k n) i ≡ valueIn m i
-  put-other i d =
-      value-same m (setValue m j k n) i
+  pub put-other : {A : Type 0} (f : ℕ → ℕ → A) (i : ℕ) → (i ≡ j → ⊥) → entryIn f (setValue m j k n) i ≡ entryIn f m i
+  put-other f i d =
+      entry-same f m (setValue m j k n) i
       (put-beside (2 * i) (λ e. d (omega arith)) (λ e. omega arith))
       (put-beside (2 * i + 1) (λ e. omega arith) (λ e. d (omega arith)))
 
@@ -138,28 +141,35 @@ module _ (m : List ℕ) (j k n : ℕ) where
     unfolding setValue
     put-bits = getD-set-same (set m (2 * j) k) (2 * j + 1) n 0 (rw (length-set m (2 * j) k) room)
 
-    pub put-here : valueIn (setValue m j k n) j ≡ valueAt k n
-    unfolding valueIn
-    put-here = ap₂ valueAt put-kind put-bits
+    pub put-here : {A : Type 0} (f : ℕ → ℕ → A) → entryIn f (setValue m j k n) j ≡ f k n
+    unfolding entryIn
+    put-here f = ap₂ f put-kind put-bits
 
-    -- among so many
-    pub put-among : (at count i : ℕ) → i < count → at + i ≡ j → valuesFrom (setValue m j k n) at count ≡ set (valuesFrom m at count) i (valueAt k n)
-    put-among at count i h e =
-        numbered-set (valueIn m) (valueIn (setValue m j k n)) at count i h (λ o a b d. put-other o (λ z. d (omega arith)))
-        ∙ ap (set (valuesFrom m at count) i) (ap (valueIn (setValue m j k n)) e ∙ put-here)
+    -- among so many, and after so many
+    pub put-among : {A : Type 0} (f : ℕ → ℕ → A) (at count i : ℕ) → i < count → at + i ≡ j → numbered (entryIn f (setValue m j k n)) at count ≡ set (numbered (entryIn f m) at count) i (f k n)
+    put-among f at count i h e =
+        numbered-set (entryIn f m) (entryIn f (setValue m j k n)) at count i h (λ o a b d. put-other f o (λ z. d (omega arith)))
+        ∙ ap (set (numbered (entryIn f m) at count) i) (ap (entryIn f (setValue m j k n)) e ∙ put-here f)
 
-    put-each : (i : ℕ) → ((i ≡ j → ⊥) → Canon (getD m (2 * i) 0) (getD m (2 * i + 1) 0)) → Canon k n → Canon (getD (setValue m j k n) (2 * i) 0) (getD (setValue m j k n) (2 * i + 1) 0)
-    put-each i before c = go (decided (eqb i j))
+    pub put-next : {A : Type 0} (f : ℕ → ℕ → A) (at i : ℕ) → at + i ≡ j → numbered (entryIn f (setValue m j k n)) at (i + 1) ≡ numbered (entryIn f m) at i ++ (f k n ∷ [])
+    put-next f at i e =
+        numbered-more (entryIn f (setValue m j k n)) at i
+        ∙ ap₂ (λ (l : List _) (v : _). l ++ (v ∷ []))
+        (numbered-same (entryIn f m) (entryIn f (setValue m j k n)) at i (λ o a b. put-other f o (λ z. omega arith)))
+        (ap (entryIn f (setValue m j k n)) e ∙ put-here f)
+
+    put-each : (P : ℕ → ℕ → Type 0) (i : ℕ) → ((i ≡ j → ⊥) → P (getD m (2 * i) 0) (getD m (2 * i + 1) 0)) → P k n → P (getD (setValue m j k n) (2 * i) 0) (getD (setValue m j k n) (2 * i + 1) 0)
+    put-each P i before c = go (decided (eqb i j))
       where
-        go : (eqb i j ≡ true) ⊎ (eqb i j ≡ false) → Canon (getD (setValue m j k n) (2 * i) 0) (getD (setValue m j k n) (2 * i + 1) 0)
+        go : (eqb i j ≡ true) ⊎ (eqb i j ≡ false) → P (getD (setValue m j k n) (2 * i) 0) (getD (setValue m j k n) (2 * i + 1) 0)
         go (inl z) = let e : i ≡ j = eqb-true i j z in rw (e, put-kind, put-bits) c
         go (inr z) =
             let d : i ≡ j → ⊥ = eqb-false i j z in
             rw (put-beside (2 * i) (λ e. d (omega arith)) (λ e. omega arith), put-beside (2 * i + 1) (λ e. omega arith) (λ e. d (omega arith))) (before d)
 
-    pub put-canon : {count : ℕ} → Canon k n → AllCanon m count → AllCanon (setValue m j k n) count
-    put-canon c all = record { each = λ i h. put-each i (λ d. all .each i h) c }
+    pub put-all : {P : ℕ → ℕ → Type 0} {count : ℕ} → P k n → AllWords P m count → AllWords P (setValue m j k n) count
+    put-all {P} c all = record { each = λ i h. put-each P i (λ d. all .each i h) c }
 
     -- one more
-    pub put-canon-more : Canon k n → AllCanon m j → AllCanon (setValue m j k n) (j + 1)
-    put-canon-more c all = record { each = λ i h. put-each i (λ d. all .each i (omega (arith, d))) c }
+    pub put-all-more : {P : ℕ → ℕ → Type 0} → P k n → AllWords P m j → AllWords P (setValue m j k n) (j + 1)
+    put-all-more {P} c all = record { each = λ i h. put-each P i (λ d. all .each i (omega (arith, d))) c }

@@ -66,17 +66,6 @@ module _ {A : Type 0} (f g : ℕ → A) where
       rw here
       (ap₂ _∷_ (same at (omega arith) (omega arith) (λ e. omega arith)) (numbered-set (at + 1) n i (omega arith) (λ k h l d. same k (omega arith) (omega arith) (λ e. d (omega arith)))))
 
--- the same numbers from another place on
-pub numbered-shift : {A : Type 0} (f g : ℕ → A) (at to n : ℕ) → ((k : ℕ) → k < n → g (to + k) ≡ f (at + k)) → numbered g to n ≡ numbered f at n
-unfolding numbered
-numbered-shift f g at to zero same = refl
-numbered-shift f g at to (suc n) same =
-    let first : g (to + 0) ≡ f (at + 0) = same 0 (omega arith) in
-    let here : to + 0 ≡ to = omega arith in
-    let there : at + 0 ≡ at = omega arith in
-    ap₂ _∷_ (rw (here, there) at first)
-    (numbered-shift f g (at + 1) (to + 1) n (λ k h. let l : to + suc k ≡ to + 1 + k = omega arith in let r : at + suc k ≡ at + 1 + k = omega arith in rw (l, r) at (same (suc k) (omega arith))))
-
 -- entries of two words: where each of n entries is written as the two words at its place, all of them are the first words
 module _ {A : Type 0} (f : ℕ → A) (write : A → List ℕ) (m : List ℕ) where
   pairs-from : (at n : ℕ) → 2 * (at + n) ≤ length m → ((j : ℕ) → at ≤ j → j < at + n → write (f j) ≡ getD m (2 * j) 0 ∷ getD m (2 * j + 1) 0 ∷ []) → joined (map write (numbered f at n)) ≡ take (2 * n) (drop (2 * at) m)

@@ -30,21 +30,18 @@ valueAt k n = cond (eqb k 5) null (cond (eqb k 6) (object n) (number (numberAt (
 unfoldable pub heldAt : ℕ → ℕ → Option Value
 heldAt k n = cond (eqb k 0) none (some (valueAt k n))
 
--- value j lies at words 2 j and 2 j + 1
-unfoldable pub valueIn : List ℕ → ℕ → Value
-valueIn m j = valueAt (getD m (2 * j) 0) (getD m (2 * j + 1) 0)
-
-unfoldable pub heldIn : List ℕ → ℕ → Option Value
-heldIn m j = heldAt (getD m (2 * j) 0) (getD m (2 * j + 1) 0)
+-- entry j lies at words 2 j and 2 j + 1
+unfoldable pub entryIn : {A : Type 0} → (ℕ → ℕ → A) → List ℕ → ℕ → A
+entryIn f m j = f (getD m (2 * j) 0) (getD m (2 * j + 1) 0)
 
 -- so many values from number `at` on
 abbrev pub valuesFrom : List ℕ → ℕ → ℕ → List Value
-valuesFrom m at n = numbered (valueIn m) at n
+valuesFrom m at n = numbered (entryIn valueAt m) at n
 
 abbrev pub heldFrom : List ℕ → ℕ → ℕ → List (Option Value)
-heldFrom m at n = numbered (heldIn m) at n
+heldFrom m at n = numbered (entryIn heldAt m) at n
 
--- memory with another value j
+-- memory with another entry j
 unfoldable pub setValue : List ℕ → ℕ → ℕ → ℕ → List ℕ
 setValue m j k n = set (set m (2 * j) k) (2 * j + 1) n
 
@@ -56,9 +53,12 @@ pub record Canon (k n : ℕ) : Type 0 where
 pub record HeldCanon (k n : ℕ) : Type 0 where
   pub is : k ∷ n ∷ [] ≡ localWords (heldAt k n)
 
--- each of the first n values
-pub record AllCanon (m : List ℕ) (n : ℕ) : Type 0 where
-  pub each : (j : ℕ) → j < n → Canon (getD m (2 * j) 0) (getD m (2 * j + 1) 0)
+-- so of each of the first n entries
+pub record AllWords (P : ℕ → ℕ → Type 0) (m : List ℕ) (n : ℕ) : Type 0 where
+  pub each : (j : ℕ) → j < n → P (getD m (2 * j) 0) (getD m (2 * j + 1) 0)
 
-pub record AllHeldCanon (m : List ℕ) (n : ℕ) : Type 0 where
-  pub each : (j : ℕ) → j < n → HeldCanon (getD m (2 * j) 0) (getD m (2 * j + 1) 0)
+abbrev pub AllCanon : List ℕ → ℕ → Type 0
+AllCanon m n = AllWords Canon m n
+
+abbrev pub AllHeldCanon : List ℕ → ℕ → Type 0
+AllHeldCanon m n = AllWords HeldCanon m n

@@ -11,7 +11,7 @@ use mir.Syntax.{w32}
 use mir.Val.{Fits}
 use borrow.Author.Tests.{eqb-true, eqb-false, ltb-true, ltb-false}
 use Rattle.scope.proofs.Truths.{decided}
-use Rattle.cells.specs.Values.{Word64At, valueAt, valueIn, setValue, Canon, AllCanon}
+use Rattle.cells.specs.Values.{Word64At, valueAt, setValue, Canon, AllCanon, entryIn}
 use Rattle.cells.proofs.Laws.{put-long, put-beside, put-kind, put-bits}
 use Rattle.pile.specs.Pile.{pile, copied, Lower, Moved}
 use Rattle.pile.proofs.Laws.{pile-shift, pile-same, pile-join}
@@ -22,8 +22,8 @@ copied-one from to e a b = rw (e, a .is, b .is)
 
 -- values that were moved
 
-moved-value : (m m′ : List ℕ) (from to : ℕ) → getD m′ (2 * to) 0 ≡ getD m (2 * from) 0 → getD m′ (2 * to + 1) 0 ≡ getD m (2 * from + 1) 0 → valueIn m′ to ≡ valueIn m from
-unfolding valueIn
+moved-value : (m m′ : List ℕ) (from to : ℕ) → getD m′ (2 * to) 0 ≡ getD m (2 * from) 0 → getD m′ (2 * to + 1) 0 ≡ getD m (2 * from + 1) 0 → entryIn valueAt m′ to ≡ entryIn valueAt m from
+unfolding entryIn
 moved-value m m′ from to a b = ap₂ valueAt a b
 
 module _ (m m′ : List ℕ) (from to n : ℕ) (down : to ≤ from) (below : (w : ℕ) → w < 2 * to → getD m′ w 0 ≡ getD m w 0) (kinds : (k : ℕ) → k < n → getD m′ (2 * (to + k)) 0 ≡ getD m (2 * (from + k)) 0) (bits : (k : ℕ) → k < n → getD m′ (2 * (to + k) + 1) 0 ≡ getD m (2 * (from + k) + 1) 0) where

@@ -12,7 +12,7 @@ use lib.Seq.{set-out}
 use lib.Dec.{eqb}
 use borrow.Author.Tests.{eqb-true, eqb-false}
 use Rattle.scope.proofs.Truths.{decided}
-use Rattle.cells.specs.Values.{Word64At, valueAt, heldAt, heldIn, heldFrom, setValue, Canon, HeldCanon}
+use Rattle.cells.specs.Values.{Word64At, valueAt, heldAt, heldFrom, setValue, Canon, HeldCanon, entryIn}
 use Rattle.cells.proofs.Numbered.{numbered-length, numbered-there, numbered-past, numbered-set}
 use Rattle.cells.proofs.Laws.{held-none, held-some, held-canon-some, value-number, put-long, put-beside, put-kind, put-bits}
 use Rattle.pile.specs.declared.HeldLocal.{HeldLocal}
@@ -22,12 +22,12 @@ use Rattle.pile.specs.Pile.{LocalRoom, LocalIs, LocalSet}
 -- read
 
 pub local-there : (locals : List ℕ) (count x : ℕ) → x < count → getElem? (heldFrom locals 0 count) x ≡ some (heldAt (getD locals (2 * x) 0) (getD locals (2 * x + 1) 0))
-unfolding heldIn
-local-there locals count x h = numbered-there (heldIn locals) 0 count x h ∙ ap (λ (k : ℕ). some (heldIn locals k)) (zero-add x)
+unfolding entryIn
+local-there locals count x h = numbered-there (entryIn heldAt locals) 0 count x h ∙ ap (λ (k : ℕ). some (entryIn heldAt locals k)) (zero-add x)
 
 pub local-absent : (locals : List ℕ) {count x : ℕ} → count ≤ x → LocalIs locals count x HeldLocal.the-variants.Absent
 local-absent locals {count} {x} h =
-    record { is = sym (numbered-past (heldIn locals) 0 count x h); canon = λ k n z. absurd (let y : _≡_ {A = ℕ} 0 1 = cc in omega arith) }
+    record { is = sym (numbered-past (entryIn heldAt locals) 0 count x h); canon = λ k n z. absurd (let y : _≡_ {A = ℕ} 0 1 = cc in omega arith) }
 
 module _ {locals : List ℕ} {count x k : ℕ} (h : x < count) (a : Word64At locals (2 * x) k) where
   pub local-unset : k ≡ 0 → LocalIs locals count x HeldLocal.the-variants.Unset
@@ -65,16 +65,16 @@ module _ {locals : List ℕ} {count x : ℕ} {r : HeldLocal} where
 -- put
 
 module _ (m : List ℕ) (j k n : ℕ) where
-  pub held-beside : (i : ℕ) → (i ≡ j → ⊥) → heldIn (setValue m j k n) i ≡ heldIn m i
-  unfolding heldIn
+  pub held-beside : (i : ℕ) → (i ≡ j → ⊥) → entryIn heldAt (setValue m j k n) i ≡ entryIn heldAt m i
+  unfolding entryIn
   held-beside i d =
       ap₂ heldAt
       (put-beside m j k n (2 * i) (λ e. d (omega arith)) (λ e. omega arith))
       (put-beside m j k n (2 * i + 1) (λ e. omega arith) (λ e. d (omega arith)))
 
   module _ (room : 2 * j + 1 < length m) where
-    pub held-here : heldIn (setValue m j k n) j ≡ heldAt k n
-    unfolding heldIn
+    pub held-here : entryIn heldAt (setValue m j k n) j ≡ heldAt k n
+    unfolding entryIn
     held-here = ap₂ heldAt (put-kind m j k n room) (put-bits m j k n room)
 
     pub held-canon-put : (i : ℕ) → ((i ≡ j → ⊥) → HeldCanon (getD m (2 * i) 0) (getD m (2 * i + 1) 0)) → HeldCanon k n → HeldCanon (getD (setValue m j k n) (2 * i) 0) (getD (setValue m j k n) (2 * i + 1) 0)
@@ -95,17 +95,17 @@ canon-kind {k} {n} c e =
 
 pub local-set-past : (locals : List ℕ) {count x : ℕ} (k n : ℕ) → count ≤ x → LocalSet locals locals count x k n
 local-set-past locals {count} {x} k n h =
-    let past : length (heldFrom locals 0 count) ≤ x = rw (numbered-length (heldIn locals) 0 count) h in
+    let past : length (heldFrom locals 0 count) ≤ x = rw (numbered-length (entryIn heldAt locals) 0 count) h in
     record { is = λ c. sym (set-out (heldFrom locals 0 count) x (some (valueAt k n)) past); canon = λ c all. all; size = refl }
 
 pub local-set-there : {locals locals′ : List ℕ} {x k n : ℕ} → locals′ ≡ setValue locals x k n → {count : ℕ} → x < count → LocalRoom locals count → LocalSet locals locals′ count x k n
 local-set-there {locals} {locals′} {x} {k} {n} e {count} h room =
     let inside : 2 * x + 1 < length locals = omega (arith, room .room, room .few) in
-    let value : heldIn locals′ (0 + x) ≡ heldAt k n = rw (e, zero-add x) (held-here locals x k n inside) in
-    let others : (i : ℕ) → (i ≡ 0 + x → ⊥) → heldIn locals′ i ≡ heldIn locals i = λ i d. rw e (held-beside locals x k n i (λ z. d (omega arith))) in
+    let value : entryIn heldAt locals′ (0 + x) ≡ heldAt k n = rw (e, zero-add x) (held-here locals x k n inside) in
+    let others : (i : ℕ) → (i ≡ 0 + x → ⊥) → entryIn heldAt locals′ i ≡ entryIn heldAt locals i = λ i d. rw e (held-beside locals x k n i (λ z. d (omega arith))) in
     record {
       is = λ c.
-          numbered-set (heldIn locals) (heldIn locals′) 0 count x h (λ i a b d. others i d)
+          numbered-set (entryIn heldAt locals) (entryIn heldAt locals′) 0 count x h (λ i a b d. others i d)
           ∙ ap (set (heldFrom locals 0 count) x) (value ∙ held-some n (canon-kind c));
       canon = λ c all. rw e (record { each = λ i l. held-canon-put locals x k n inside i (λ d. all .each i l) (held-canon-some c) });
       size = rw e (put-long locals x k n);

@@ -10,9 +10,9 @@ use Rattle.scope.specs.Lists.{joined}
 use Rattle.scope.specs.Machine.{Value, splitTop}
 use Rattle.scope.specs.Memory.{valueWords}
 use Rattle.scope.proofs.Taking.{split-top}
-use Rattle.cells.specs.Values.{numbered, valueIn, valuesFrom, AllCanon}
+use Rattle.cells.specs.Values.{numbered, valuesFrom, AllCanon, entryIn, valueAt}
 use Rattle.cells.proofs.Numbered.{numbered-more}
-use Rattle.cells.proofs.Laws.{canon-words, value-same}
+use Rattle.cells.proofs.Laws.{canon-words, entry-same}
 use Rattle.pile.specs.Pile.{pile}
 
 module _ (m : List ℕ) (base : ℕ) where
@@ -25,15 +25,15 @@ module _ (m : List ℕ) (base : ℕ) where
   unfolding pile
   pile-none e = rw e
 
-  pub pile-more : (h : ℕ) → pile m base (h + 1) ≡ valueIn m (base + h) ∷ pile m base h
+  pub pile-more : (h : ℕ) → pile m base (h + 1) ≡ entryIn valueAt m (base + h) ∷ pile m base h
   unfolding pile
   pile-more h = rw (add-one h) refl
 
-  pub pile-some : {h : ℕ} → (h ≡ 0 → ⊥) → pile m base h ≡ valueIn m (base + (h - 1)) ∷ pile m base (h - 1)
+  pub pile-some : {h : ℕ} → (h ≡ 0 → ⊥) → pile m base h ≡ entryIn valueAt m (base + (h - 1)) ∷ pile m base (h - 1)
   pile-some {h} n = let same : h ≡ h - 1 + 1 = omega (arith, n) in ap (pile m base) same ∙ pile-more (h - 1)
 
 -- the same values, from another place on and in another memory
-pub pile-shift : (m m′ : List ℕ) (from to n : ℕ) → ((k : ℕ) → k < n → valueIn m′ (to + k) ≡ valueIn m (from + k)) → pile m′ to n ≡ pile m from n
+pub pile-shift : (m m′ : List ℕ) (from to n : ℕ) → ((k : ℕ) → k < n → entryIn valueAt m′ (to + k) ≡ entryIn valueAt m (from + k)) → pile m′ to n ≡ pile m from n
 unfolding pile
 pile-shift m m′ from to zero same = refl
 pile-shift m m′ from to (suc n) same = ap₂ _∷_ (same n (omega arith)) (pile-shift m m′ from to n (λ k h. same k (omega arith)))
@@ -41,7 +41,7 @@ pile-shift m m′ from to (suc n) same = ap₂ _∷_ (same n (omega arith)) (pil
 -- memories with the same words up to there say the same operands
 pub pile-same : (m m′ : List ℕ) (base h : ℕ) → ((i : ℕ) → i < 2 * (base + h) → getD m′ i 0 ≡ getD m i 0) → pile m′ base h ≡ pile m base h
 pile-same m m′ base h same =
-    pile-shift m m′ base base h (λ k l. value-same m m′ (base + k) (same (2 * (base + k)) (omega arith)) (same (2 * (base + k) + 1) (omega arith)))
+    pile-shift m m′ base base h (λ k l. entry-same valueAt m m′ (base + k) (same (2 * (base + k)) (omega arith)) (same (2 * (base + k) + 1) (omega arith)))
 
 -- parts
 
@@ -51,7 +51,7 @@ pile-join m base h zero = let same : h + 0 ≡ h = omega arith in rw same
 pile-join m base h (suc k) =
     let same : h + suc k ≡ suc (h + k) = omega arith in
     let place : base + h + k ≡ base + (h + k) = omega arith in
-    rw (same, place) (ap (λ (vs : List Value). valueIn m (base + (h + k)) ∷ vs) (pile-join m base h k))
+    rw (same, place) (ap (λ (vs : List Value). entryIn valueAt m (base + (h + k)) ∷ vs) (pile-join m base h k))
 
 pub split-some : (m : List ℕ) (base : ℕ) {h n : ℕ} → n ≤ h → splitTop n (pile m base h) ≡ some (pile m (base + (h - n)) n, pile m base (h - n))
 split-some m base {h} {n} l =
@@ -75,10 +75,10 @@ pub pile-reverse : (m : List ℕ) (base h : ℕ) → reverse (pile m base h) ≡
 unfolding pile numbered
 pile-reverse m base zero = refl
 pile-reverse m base (suc h) =
-    reverse-cons (valueIn m (base + h)) (pile m base h)
-    ∙ ap (λ (vs : List Value). vs ++ (valueIn m (base + h) ∷ [])) (pile-reverse m base h)
-    ∙ sym (numbered-more (valueIn m) base h)
-    ∙ ap (numbered (valueIn m) base) (add-one h)
+    reverse-cons (entryIn valueAt m (base + h)) (pile m base h)
+    ∙ ap (λ (vs : List Value). vs ++ (entryIn valueAt m (base + h) ∷ [])) (pile-reverse m base h)
+    ∙ sym (numbered-more (entryIn valueAt m) base h)
+    ∙ ap (numbered (entryIn valueAt m) base) (add-one h)
 
 -- all operands, written: the words themselves
 pub pile-words : {m : List ℕ} {n : ℕ} → AllCanon m n → 2 * n ≤ length m → joined (map valueWords (reverse (pile m 0 n))) ≡ take (2 * n) m

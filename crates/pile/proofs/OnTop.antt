@@ -8,8 +8,8 @@ use lib.ListN.{length, getD}
 use mir.Syntax.{w32}
 use mir.Val.{Fits}
 use Rattle.scope.specs.Machine.{Value}
-use Rattle.cells.specs.Values.{Word64At, valueAt, valueIn, setValue}
-use Rattle.cells.proofs.Laws.{put-long, put-beside, put-here, put-canon-more}
+use Rattle.cells.specs.Values.{Word64At, valueAt, setValue, entryIn}
+use Rattle.cells.proofs.Laws.{put-long, put-beside, put-here, put-all-more}
 use Rattle.pile.specs.declared.Topmost.{Topmost}
 use Rattle.pile.specs.declared.Topmost
 use Rattle.pile.specs.Pile.{pile, Room, headOf, TopIs, Pushed}
@@ -22,7 +22,7 @@ top-nothing m base e =
     record { is = ap headOf (sym (pile-none m base e)); canon = λ k n z. absurd (let y : _≡_ {A = ℕ} 0 1 = cc in omega arith) }
 
 pub top-there : {m : List ℕ} {base h k n : ℕ} → (h ≡ 0 → ⊥) → Word64At m (2 * (base + (h - 1))) k → Word64At m (2 * (base + (h - 1)) + 1) n → TopIs m base h (Topmost.the-variants.Is k n)
-unfolding valueIn
+unfolding entryIn
 top-there {m} {base} {h} {k} {n} d a b =
     record {
       is = ap₂ (λ (x y : ℕ). some (valueAt x y)) (a .is) (b .is) ∙ ap headOf (sym (pile-some m base d));
@@ -53,9 +53,9 @@ module _ {m : List ℕ} {base h : ℕ} {r : Topmost} where
 
     pub top-got : pile m base h ≡ valueAt k n ∷ pile m base (h - 1)
     top-got =
-        let parts : pile m base h ≡ valueIn m (base + (h - 1)) ∷ pile m base (h - 1) = pile-some m base top-high in
-        let same : some (valueAt k n) ≡ some (valueIn m (base + (h - 1))) = is-some ∙ ap headOf parts in
-        let value : valueIn m (base + (h - 1)) ≡ valueAt k n = cc in
+        let parts : pile m base h ≡ entryIn valueAt m (base + (h - 1)) ∷ pile m base (h - 1) = pile-some m base top-high in
+        let same : some (valueAt k n) ≡ some (entryIn valueAt m (base + (h - 1))) = is-some ∙ ap headOf parts in
+        let value : entryIn valueAt m (base + (h - 1)) ≡ valueAt k n = cc in
         parts ∙ ap (λ (v : Value). v ∷ pile m base (h - 1)) value
 
 -- put
@@ -64,12 +64,12 @@ pub pushed-one : {m m′ : List ℕ} {base h : ℕ} (k n : ℕ) → m′ ≡ set
 pushed-one {m} {m′} {base} {h} k n e room =
     let here : 2 * (base + h) + 1 < length m = omega (arith, room .room, room .few) in
     let below : (i : ℕ) → i < 2 * (base + h) → getD m′ i 0 ≡ getD m i 0 = λ i l. rw e (put-beside m (base + h) k n i (λ q. omega arith) (λ q. omega arith)) in
-    let value : valueIn m′ (base + h) ≡ valueAt k n = rw e (put-here m (base + h) k n here) in
+    let value : entryIn valueAt m′ (base + h) ≡ valueAt k n = rw e (put-here m (base + h) k n here valueAt) in
     let next : base + (h + 1) ≡ base + h + 1 = omega arith in
     record {
       top = pile-more m′ base h ∙ ap₂ _∷_ value (pile-same m m′ base h below);
       below = below;
-      canon = λ c all. rw (e, next) (put-canon-more m (base + h) k n here c all);
+      canon = λ c all. rw (e, next) (put-all-more m (base + h) k n here c all);
       size = rw e (put-long m (base + h) k n);
     }
 

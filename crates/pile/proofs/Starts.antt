@@ -16,7 +16,7 @@ use Rattle.table.specs.View.{numberAt, valAtCode, heapAtCode, codesAt}
 use Rattle.table.proofs.Codes.{val-number, val-ref}
 use Rattle.scratch.specs.Scratch.{Word32At}
 use Rattle.standing.specs.Standing.{valAtWord}
-use Rattle.cells.specs.Values.{numbered, valueAt, heldIn, heldFrom, setValue, AllHeldCanon}
+use Rattle.cells.specs.Values.{numbered, valueAt, heldFrom, setValue, AllHeldCanon, entryIn, heldAt}
 use Rattle.cells.proofs.Laws.{value-number, value-null, held-none, held-some, held-canon-none, held-canon-some, canon-number, canon-null, put-long}
 use Rattle.pile.specs.Pile.{LocalRoom, StartKind, Started}
 use Rattle.pile.proofs.Held.{held-beside, held-here, held-canon-put}
@@ -49,7 +49,7 @@ module _ {code : ℕ} (h : 4 ≤ code) where
 
 -- the locals
 
-starts-are : (work locals : List ℕ) (at n : ℕ) → ((j : ℕ) → at ≤ j → j < at + n → heldIn locals j ≡ defaultOf (valAtWord (getD work j 0))) → heldFrom locals at n ≡ map defaultOf (codesAt valAtWord work at n)
+starts-are : (work locals : List ℕ) (at n : ℕ) → ((j : ℕ) → at ≤ j → j < at + n → entryIn heldAt locals j ≡ defaultOf (valAtWord (getD work j 0))) → heldFrom locals at n ≡ map defaultOf (codesAt valAtWord work at n)
 unfolding numbered codesAt
 starts-are work locals at zero same = refl
 starts-are work locals at (suc n) same =
@@ -59,7 +59,7 @@ pub record FirstStarted (work locals₀ locals : List ℕ) (count i : ℕ) : Typ
   pub room : LocalRoom locals₀ count
   pub within : i ≤ count
   pub size : length locals ≡ length locals₀
-  pub held : (j : ℕ) → j < i → heldIn locals j ≡ defaultOf (valAtWord (getD work j 0))
+  pub held : (j : ℕ) → j < i → entryIn heldAt locals j ≡ defaultOf (valAtWord (getD work j 0))
   pub canon : AllHeldCanon locals i
 
 pub started-first : (work : List ℕ) {locals : List ℕ} {count : ℕ} → LocalRoom locals count → FirstStarted work locals locals count 0
@@ -98,7 +98,7 @@ module _ {work locals₀ locals : List ℕ} {count i : ℕ} (f : FirstStarted wo
       inside : 2 * i + 1 < length locals
       inside = omega (arith, f .size, f .room .room, f .room .few)
 
-      each : (j : ℕ) → j < i + 1 → (eqb j i ≡ true) ⊎ (eqb j i ≡ false) → heldIn locals′ j ≡ defaultOf (valAtWord (getD work j 0))
+      each : (j : ℕ) → j < i + 1 → (eqb j i ≡ true) ⊎ (eqb j i ≡ false) → entryIn heldAt locals′ j ≡ defaultOf (valAtWord (getD work j 0))
       each j l (inl z) =
           let same : j ≡ i = eqb-true j i z in
           rw (same, e) (held-here locals i k 0 inside ∙ a .is ∙ ap (λ (x : ℕ). defaultOf (valAtWord x)) (w .is))

@@ -7,7 +7,7 @@ use mathlib.Core.List.{List, [], _∷_, map}
 use lib.ListN.{length, getD, getElem?, set}
 use Rattle.scope.specs.Machine.{Value, defaultOf}
 use Rattle.table.specs.View.{valAtCode, codesAt}
-use Rattle.cells.specs.Values.{valueAt, heldAt, valueIn, heldFrom, setValue, Canon, HeldCanon, AllCanon, AllHeldCanon}
+use Rattle.cells.specs.Values.{valueAt, heldAt, heldFrom, setValue, Canon, HeldCanon, AllCanon, AllHeldCanon, entryIn}
 use Rattle.standing.specs.Standing.{valAtWord}
 use Rattle.pile.specs.declared.Topmost.{Topmost}
 use Rattle.pile.specs.declared.Topmost
@@ -19,7 +19,7 @@ use Rattle.pile.specs.declared.HeldLocal
 -- so many operands above the lowest `base`, the top first
 unfoldable pub pile : List ℕ → ℕ → ℕ → List Value
 pile m base zero = []
-pile m base (suc h) = valueIn m (base + h) ∷ pile m base h
+pile m base (suc h) = entryIn valueAt m (base + h) ∷ pile m base h
 
 -- n more operands are within the sizes
 pub record Room (m : List ℕ) (base h n : ℕ) : Type 0 where

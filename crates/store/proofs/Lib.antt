@@ -1,0 +1,4 @@
+pub mod Packs
+pub mod Made
+pub mod Asked
+pub mod Filling
