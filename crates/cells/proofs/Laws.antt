@@ -73,15 +73,14 @@ unfolding heldAt
 held-canon-none = record { is = refl }
 
 -- no words of a value are those of none
+pub canon-kind : {k n : ℕ} → Canon k n → k ≡ 0 → ⊥
+canon-kind {k} {n} c e =
+    let words : 0 ∷ n ∷ [] ≡ 1 ∷ n ∷ [] = rw (e, value-number {k = 0} n (λ y. omega arith) (λ y. omega arith)) at (c .is) in
+    let y : _≡_ {A = ℕ} 0 1 = cc in
+    omega arith
+
 pub held-canon-some : {k n : ℕ} → Canon k n → HeldCanon k n
-held-canon-some {k} {n} c = go (decided (eqb k 0))
-  where
-    go : (eqb k 0 ≡ true) ⊎ (eqb k 0 ≡ false) → HeldCanon k n
-    go (inl z) =
-        let e : k ≡ 0 = eqb-true k 0 z in
-        let words : 0 ∷ n ∷ [] ≡ 1 ∷ n ∷ [] = rw (e, value-number {k = 0} n (λ y. omega arith) (λ y. omega arith)) at (c .is) in
-        absurd (let y : _≡_ {A = ℕ} 0 1 = cc in omega arith)
-    go (inr z) = record { is = rw (held-some n (eqb-false k 0 z)) (c .is) }
+held-canon-some {k} {n} c = record { is = rw (held-some n (canon-kind c)) (c .is) }
 
 -- all values, written: the words themselves
 

@@ -1,13 +1,12 @@
 -- The open blocks, linked inside the memory: at each one's place stands the word of the one around it. Each began at an
 -- earlier place than those inside it, so a store at a later place leaves the links outwards as they are. And as many
 -- ends as there are blocks from it inwards lie between here and what comes after its own.
-use Prim.Native.Nat.{ℕ, suc, _+_, _≤_, _<_, _%_, zero-le}
+use Prim.Native.Nat.{ℕ, suc, _+_, _≤_, _<_, zero-le}
 use mathlib.Core.Path.{_≡_, refl, sym, ap, _∙_}
 use mathlib.Core.List.{List, [], _∷_}
 use native.Mathlib.Omega.{arith}
-use native.Mathlib.Nat.{le-trans, mod-eq-of-lt}
-use lib.ListN.{length, getD, set, length-set}
-use lib.Seq.{getD-set-same, getD-set-other}
+use native.Mathlib.Nat.{le-trans}
+use lib.ListN.{getD}
 use Rattle.scope.specs.Syntax.{Val}
 use Rattle.scope.specs.Instructions.{Op, block, loop, end, op}
 use Rattle.scope.specs.Bodies.{Code}
@@ -45,21 +44,6 @@ module _ {s : List ℕ} where
       let rest : Open s ends′ code at (suc count) (getD ends at 0) places = open-in (λ i h. same i (omega arith)) around in
       let link : Open s ends′ code at (suc count) (getD ends′ at 0) places = rw (same at below) rest in
       one-open below opener is link
-
--- one store: the word is there, and every other is as it was
-pub record Stored (ends ends′ : List ℕ) (at v : ℕ) : Type 0 where
-  pub here : getD ends′ at 0 ≡ v
-  pub others : (i : ℕ) → (i ≡ at → ⊥) → getD ends′ i 0 ≡ getD ends i 0
-  pub size : length ends′ ≡ length ends
-
-pub stored : {ends ends′ : List ℕ} {at v : ℕ} → ends′ ≡ set ends at (v % 65_536) → v < 65_536 → at < length ends → Stored ends ends′ at v
-stored {ends} {ends′} {at} {v} e small h =
-    let low : v % 65_536 ≡ v = mod-eq-of-lt small in
-    record {
-      here = rw (e, low) (getD-set-same ends at v 0 h);
-      others = λ i g. rw (e, low) (getD-set-other ends at i v 0 g);
-      size = rw (e, low) (length-set ends at v);
-    }
 
 -- the innermost block, where one is open
 pub record Innermost (s ends : List ℕ) (code : Code) (bound count at : ℕ) (places : List ℕ) : Type 0 where

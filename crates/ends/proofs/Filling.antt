@@ -29,7 +29,8 @@ use Rattle.ends.specs.declared.Noted
 use Rattle.ends.specs.Noting.{kindOf, KindIs, NotedAt, noneThere}
 use Rattle.ends.specs.Matching.{codeAt, Balanced, last, closing, opening-block, opening-loop, inside, Reached, here, after, Opener, is-block, is-loop, Lands, EndsOf, Fillable, Filled}
 use Rattle.ends.proofs.Codes.{code-here, code-refused, code-none, reached-next, one-next, past-own-end}
-use Rattle.ends.proofs.Chain.{Open, none-open, one-open, open-from, open-later, word-small, open-in, Stored, stored, Innermost, innermost-open, no-places, past-inside, past-block, past-loop, past-end}
+use Rattle.words.proofs.Stores.{Stored, stored}
+use Rattle.ends.proofs.Chain.{Open, none-open, one-open, open-from, open-later, word-small, open-in, Innermost, innermost-open, no-places, past-inside, past-block, past-loop, past-end}
 
 noted-one : {m n : ℕ} → Noted.the-variants.Open m ≡ Noted.the-variants.Open n → m ≡ n
 noted-one e = cc
@@ -232,12 +233,12 @@ module _ {s ends₀ : List ℕ} {first : ℕ} {ends : List ℕ} {next innermost 
     stored-open : {ends′ : List ℕ} {j : Instr} → instrAt s next ≡ got j onto → ends′ ≡ set ends next (innermost % 65_536) → Stored ends ends′ next innermost
     stored-open read e =
         let (forward, ends-inside) = never-back instr-takes s next read in
-        stored e (omega (arith, word-small (g .chain), g .within, f .short)) (omega (arith, g .size, f .room))
+        stored 65_536 e (omega (arith, word-small (g .chain), g .within, f .short)) (omega (arith, g .size, f .room))
 
     stored-close : {ends′ : List ℕ} {p : ℕ} → innermost ≡ suc p → instrAt s next ≡ got end onto → ends′ ≡ set ends p (onto % 65_536) → Stored ends ends′ p onto
     stored-close is read e =
         let (forward, ends-inside) = never-back instr-takes s next read in
-        stored e (omega (arith, f .short)) (omega (arith, word-small (g .chain), g .within, g .size, f .room))
+        stored 65_536 e (omega (arith, f .short)) (omega (arith, word-small (g .chain), g .within, g .size, f .room))
 
     -- what was noted, by what was read
     turn : {ends′ : List ℕ} {noted : Noted} {word : ℕ} (j : Instr) → instrAt s next ≡ got j onto → NotedAt ends ends′ innermost next onto (kindOf j) noted → noted ≡ Noted.the-variants.Open word → Going s ends₀ first ends′ onto word (left - 1)

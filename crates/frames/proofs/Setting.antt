@@ -19,7 +19,7 @@ use Rattle.scratch.specs.Scratch.{Word32At}
 use Rattle.standing.specs.Standing.{frameWord, isSetAt, setsAt}
 use Rattle.standing.proofs.Alike.{is-set-same, sets-same, sets-length, sets-there, set-further, both-false}
 use Rattle.frames.specs.Frames.{Ready, Marked}
-use Rattle.frames.proofs.Writing.{Stored, stored}
+use Rattle.words.proofs.Stores.{Stored, stored}
 
 -- a list of marks with one more
 
@@ -120,8 +120,8 @@ module _ {work : List ℕ} {count m : ℕ} (r : Ready work count m) (marks : ℕ
 
       pub mark-new : is ≡ false → {stamp : ℕ} → Word32At work (1_280 + (8 * m + 5)) stamp → {work₁ work₂ : List ℕ} → work₁ ≡ set work (256 + (marks - 1)) (m % 4_294_967_296) → work₂ ≡ set work₁ (512 + (marks - 1)) (stamp % 4_294_967_296) → m < 2 ^ 32 → Marked work work₂ count m (linkAt marks)
       mark-new f {stamp} b {work₁} {work₂} p q w =
-          let first : Stored work work₁ (256 + (marks - 1)) m = stored p (omega arith) (omega (arith, r .room, r .few)) in
-          let second : Stored work₁ work₂ (512 + (marks - 1)) stamp = stored q (b .small) (omega (arith, r .room, r .few, first .size)) in
+          let first : Stored work work₁ (256 + (marks - 1)) m = stored 4_294_967_296 p (omega arith) (omega (arith, r .room, r .few)) in
+          let second : Stored work₁ work₂ (512 + (marks - 1)) stamp = stored 4_294_967_296 q (b .small) (omega (arith, r .room, r .few, first .size)) in
           rw (ne-eqb marks 0 g) (one-marked r h (sym a ∙ f) b first second)
 
 pub ruleset mark-exits = (mark-none, mark-absent, mark-already, mark-new)

@@ -1,33 +1,14 @@
 -- Three words of a frame, one store after the other.
 use Prim.Native.Nat.{ℕ, _+_, _*_, _%_, _^_, _<_}
 use mathlib.Core.Path.{_≡_, _∙_}
-use mathlib.Core.Bool.{Bool, true, false}
+use mathlib.Core.Bool.{Bool}
 use mathlib.Core.List.{List}
 use native.Mathlib.Omega.{arith}
-use native.Mathlib.Nat.{mod-eq-of-lt}
-use lib.ListN.{length, set, getD, length-set}
-use lib.Seq.{getD-set-same, getD-set-other}
+use lib.ListN.{set}
 use Rattle.scope.specs.Memory.{flag}
+use Rattle.table.proofs.CodesBack.{flag-small}
+use Rattle.words.proofs.Stores.{Stored, stored}
 use Rattle.frames.specs.Frames.{FrameRoom, ThreePut}
-
--- one store: the word is there, and every other is as it was
-pub record Stored (work work′ : List ℕ) (at v : ℕ) : Type 0 where
-  pub here : getD work′ at 0 ≡ v
-  pub others : (i : ℕ) → (i ≡ at → ⊥) → getD work′ i 0 ≡ getD work i 0
-  pub size : length work′ ≡ length work
-
-pub stored : {work work′ : List ℕ} {at v : ℕ} → work′ ≡ set work at (v % 4_294_967_296) → v < 4_294_967_296 → at < length work → Stored work work′ at v
-stored {work} {work′} {at} {v} e small h =
-    let low : v % 4_294_967_296 ≡ v = mod-eq-of-lt small in
-    record {
-      here = rw (e, low) (getD-set-same work at v 0 h);
-      others = λ i g. rw (e, low) (getD-set-other work at i v 0 g);
-      size = rw (e, low) (length-set work at v);
-    }
-
-flag-small : (b : Bool) → flag b < 4_294_967_296
-flag-small true = omega arith
-flag-small false = omega arith
 
 module _ {work work₁ work₂ work₃ : List ℕ} {m : ℕ} (r : FrameRoom work m) {j k l : ℕ} (a : j < k) (b : k < l) (c : l < 8) {x y z : ℕ} where
   three : Stored work work₁ (1_280 + 8 * m + j) x → Stored work₁ work₂ (1_280 + 8 * m + k) y → Stored work₂ work₃ (1_280 + 8 * m + l) z → ThreePut work work₃ m j k l x y z
@@ -44,16 +25,16 @@ module _ {work work₁ work₂ work₃ : List ℕ} {m : ℕ} (r : FrameRoom work
 module _ {work : List ℕ} {m : ℕ} (r : FrameRoom work m) (b : Bool) {kind : ℕ} (e : kind ≡ flag b) {work₁ work₂ work₃ : List ℕ} where
   pub own-put : work₁ ≡ set work (1_280 + 8 * m + 0) (kind % 4_294_967_296) → {result : ℕ} → work₂ ≡ set work₁ (1_280 + 8 * m + 1) (result % 4_294_967_296) → {stamp : ℕ} → work₃ ≡ set work₂ (1_280 + 8 * m + 5) (stamp % 4_294_967_296) → result < 2 ^ 32 → stamp < 2 ^ 32 → ThreePut work work₃ m 0 1 5 (flag b) result stamp
   own-put p {result} q {stamp} s g h =
-      let first : Stored work work₁ (1_280 + 8 * m + 0) (flag b) = stored (rw e at p) (flag-small b) (omega (arith, r .room)) in
-      let second : Stored work₁ work₂ (1_280 + 8 * m + 1) result = stored q (omega arith) (omega (arith, r .room, first .size)) in
-      let third : Stored work₂ work₃ (1_280 + 8 * m + 5) stamp = stored s (omega arith) (omega (arith, r .room, first .size, second .size)) in
+      let first : Stored work work₁ (1_280 + 8 * m + 0) (flag b) = stored 4_294_967_296 (rw e at p) (omega (arith, flag-small b)) (omega (arith, r .room)) in
+      let second : Stored work₁ work₂ (1_280 + 8 * m + 1) result = stored 4_294_967_296 q (omega arith) (omega (arith, r .room, first .size)) in
+      let third : Stored work₂ work₃ (1_280 + 8 * m + 5) stamp = stored 4_294_967_296 s (omega arith) (omega (arith, r .room, first .size, second .size)) in
       three r (omega arith) (omega arith) (omega arith) first second third
 
   pub around-put : {base : ℕ} → work₁ ≡ set work (1_280 + 8 * m + 2) (base % 4_294_967_296) → {height : ℕ} → work₂ ≡ set work₁ (1_280 + 8 * m + 3) (height % 4_294_967_296) → work₃ ≡ set work₂ (1_280 + 8 * m + 4) (kind % 4_294_967_296) → base < 2 ^ 32 → height < 2 ^ 32 → ThreePut work work₃ m 2 3 4 base height (flag b)
   around-put {base} p {height} q s g h =
-      let first : Stored work work₁ (1_280 + 8 * m + 2) base = stored p (omega arith) (omega (arith, r .room)) in
-      let second : Stored work₁ work₂ (1_280 + 8 * m + 3) height = stored q (omega arith) (omega (arith, r .room, first .size)) in
-      let third : Stored work₂ work₃ (1_280 + 8 * m + 4) (flag b) = stored (rw e at s) (flag-small b) (omega (arith, r .room, first .size, second .size)) in
+      let first : Stored work work₁ (1_280 + 8 * m + 2) base = stored 4_294_967_296 p (omega arith) (omega (arith, r .room)) in
+      let second : Stored work₁ work₂ (1_280 + 8 * m + 3) height = stored 4_294_967_296 q (omega arith) (omega (arith, r .room, first .size)) in
+      let third : Stored work₂ work₃ (1_280 + 8 * m + 4) (flag b) = stored 4_294_967_296 (rw e at s) (omega (arith, flag-small b)) (omega (arith, r .room, first .size, second .size)) in
       three r (omega arith) (omega arith) (omega arith) first second third
 
 pub ruleset write-exits = (own-put, around-put)

@@ -4,7 +4,7 @@ use mathlib.Core.Path.{_≡_, refl, sym, ap, ap₂, _∙_}
 use mathlib.Core.Logic.{_⊎_, inl, inr}
 use mathlib.Core.Bool.{true, false}
 use mathlib.Core.Option.{none, some}
-use mathlib.Core.List.{List, [], _∷_}
+use mathlib.Core.List.{List}
 use native.Mathlib.Omega.{arith}
 use native.Mathlib.Nat.{zero-add}
 use lib.ListN.{length, getD, getElem?, set}
@@ -12,9 +12,9 @@ use lib.Seq.{set-out}
 use lib.Dec.{eqb}
 use borrow.Author.Tests.{eqb-true, eqb-false}
 use Rattle.scope.proofs.Truths.{decided}
-use Rattle.cells.specs.Values.{Word64At, valueAt, heldAt, heldFrom, setValue, Canon, HeldCanon, entryIn}
+use Rattle.cells.specs.Values.{Word64At, valueAt, heldAt, heldFrom, setValue, HeldCanon, entryIn}
 use Rattle.cells.proofs.Numbered.{numbered-length, numbered-there, numbered-past, numbered-set}
-use Rattle.cells.proofs.Laws.{held-none, held-some, held-canon-some, value-number, put-long, put-beside, put-kind, put-bits}
+use Rattle.cells.proofs.Laws.{canon-kind, held-none, held-some, held-canon-some, put-long, put-beside, put-kind, put-bits}
 use Rattle.pile.specs.declared.HeldLocal.{HeldLocal}
 use Rattle.pile.specs.declared.HeldLocal
 use Rattle.pile.specs.Pile.{LocalRoom, LocalIs, LocalSet}
@@ -86,12 +86,7 @@ module _ (m : List ℕ) (j k n : ℕ) where
             let d : i ≡ j → ⊥ = eqb-false i j z in
             rw (put-beside m j k n (2 * i) (λ e. d (omega arith)) (λ e. omega arith), put-beside m j k n (2 * i + 1) (λ e. omega arith) (λ e. d (omega arith))) (before d)
 
--- the words of a value are not those of none
-pub canon-kind : {k n : ℕ} → Canon k n → k ≡ 0 → ⊥
-canon-kind {k} {n} c e =
-    let words : 0 ∷ n ∷ [] ≡ 1 ∷ n ∷ [] = rw (e, value-number {k = 0} n (λ y. omega arith) (λ y. omega arith)) at (c .is) in
-    let y : _≡_ {A = ℕ} 0 1 = cc in
-    omega arith
+-- a local that is set
 
 pub local-set-past : (locals : List ℕ) {count x : ℕ} (k n : ℕ) → count ≤ x → LocalSet locals locals count x k n
 local-set-past locals {count} {x} k n h =

@@ -17,9 +17,6 @@ const OVERSIZE: u64 = 4;
 
 const BAD_OPERAND: u64 = 20;
 
-// The most operands in all frames.
-const MOST_OPERANDS: u64 = 512;
-
 // A non-null reference of unknown heap, and where the words of references begin.
 const UNKNOWN_REFERENCE: u32 = 1;
 
@@ -36,7 +33,7 @@ fn put_operand(work: &mut [u32], locals: u16, stand: Stand, left: u32, o: u32) -
     let depth = stand.depth;
     let base = stand.base;
     let dead = stand.dead;
-    if MOST_OPERANDS < base as u64 + (left as u64 + 1) {
+    if gives::MOST_OPERANDS < base as u64 + (left as u64 + 1) {
         return Step::Fault(OVERSIZE);
     }
     operands::push(work, base, left, o as u64);

@@ -6,9 +6,7 @@ use mathlib.Core.Logic.{_⊎_, inl, inr}
 use mathlib.Core.Bool.{Bool, true, false, _||_}
 use mathlib.Core.List.{List}
 use native.Mathlib.Omega.{arith}
-use native.Mathlib.Nat.{mod-eq-of-lt}
-use lib.ListN.{length, set, getD, length-set}
-use lib.Seq.{getD-set-same, getD-set-other}
+use lib.ListN.{length, set, getD}
 use lib.Dec.{eqb, ltb}
 use borrow.Author.Tests.{eqb-true, eqb-false, lt-ltb, le-ltb}
 use Rattle.scope.specs.Memory.{flag}
@@ -20,6 +18,8 @@ use Rattle.table.specs.declared.ValKind.{ValKind}
 use Rattle.table.specs.declared.ValKind
 use Rattle.table.specs.Answers.{valIs}
 use Rattle.table.proofs.Laws.{is-number, is-ref}
+use Rattle.table.proofs.CodesBack.{flag-small}
+use Rattle.words.proofs.Stores.{Stored, stored}
 use Rattle.standing.specs.Standing.{valAtWord}
 use Rattle.starting.specs.Beginning.{startsSet, MarkRoom, MarksPut}
 
@@ -59,10 +59,6 @@ marked-first work params count =
       done = record { marks = λ i h. absurd (omega arith); types = λ i h. refl; beyond = λ i h. refl; size = refl };
     }
 
-flag-small : (b : Bool) → flag b < 4_294_967_296
-flag-small true = omega arith
-flag-small false = omega arith
-
 module _ {work₀ work : List ℕ} {params count i : ℕ} (p : MarkedSoFar work₀ work params count i) where
   pub marked-all : count ≤ i → MarksPut work₀ work params count
   marked-all h = let same : count ≡ i = omega (arith, p .most) in rw same (p .done)
@@ -79,20 +75,17 @@ module _ {work₀ work : List ℕ} {params count i : ℕ} (p : MarkedSoFar work�
           done =
               record {
                 marks = marks;
-                types = λ k l. other k (λ z. omega arith) ∙ p .done .types k l;
-                beyond = λ k l. other k (λ z. omega arith) ∙ p .done .beyond k (omega arith);
-                size = rw e (length-set work (256 + i) (r % 4_294_967_296) ∙ p .done .size);
+                types = λ k l. store .others k (λ z. omega arith) ∙ p .done .types k l;
+                beyond = λ k l. store .others k (λ z. omega arith) ∙ p .done .beyond k (omega arith);
+                size = store .size ∙ p .done .size;
               };
         }
       where
-        other : (k : ℕ) → (k ≡ 256 + i → ⊥) → getD work′ k 0 ≡ getD work k 0
-        other k g = rw e (getD-set-other work (256 + i) k (r % 4_294_967_296) 0 g)
-
         low : r < 4_294_967_296
-        low = rw a (flag-small (ltb i params || hasDefault (valAtWord (getD work i 0))))
+        low = let f = flag-small (ltb i params || hasDefault (valAtWord (getD work i 0))) in rw a (omega arith)
 
-        here : getD work′ (256 + i) 0 ≡ r
-        here = rw e (getD-set-same work (256 + i) (r % 4_294_967_296) 0 (omega (arith, p .done .size, room .room, room .few)) ∙ mod-eq-of-lt low)
+        store : Stored work work′ (256 + i) r
+        store = stored 4_294_967_296 e low (omega (arith, p .done .size, room .room, room .few))
 
         before : getD work i 0 ≡ getD work₀ i 0
         before = p .done .types i (omega (arith, room .few))
@@ -101,7 +94,7 @@ module _ {work₀ work : List ℕ} {params count i : ℕ} (p : MarkedSoFar work�
         marks k l = go (decided (eqb k i))
           where
             go : (eqb k i ≡ true) ⊎ (eqb k i ≡ false) → getD work′ (256 + k) 0 ≡ flag (ltb k params || hasDefault (valAtWord (getD work₀ k 0)))
-            go (inl z) = let same : k ≡ i = eqb-true k i z in rw (same, here, a, before)
-            go (inr z) = let g = eqb-false k i z in other (256 + k) (λ y. g (omega arith)) ∙ p .done .marks k (omega arith)
+            go (inl z) = let same : k ≡ i = eqb-true k i z in rw (same, store .here, a, before)
+            go (inr z) = let g = eqb-false k i z in store .others (256 + k) (λ y. g (omega arith)) ∙ p .done .marks k (omega arith)
 
 pub ruleset marking-exits = (marked-first, marked-all, marked-size, marked-turn)

@@ -24,7 +24,7 @@ half-flag : (n : ℕ) (b : Bool) → (2 * n + flag b) / 2 ≡ n
 half-flag n true = omega arith
 half-flag n false = omega arith
 
-flag-small : (b : Bool) → flag b ≤ 1
+pub flag-small : (b : Bool) → flag b ≤ 1
 flag-small true = omega arith
 flag-small false = omega arith
 
