@@ -1,0 +1,3 @@
+pub mod Machines
+pub mod Moved
+pub mod Planned
