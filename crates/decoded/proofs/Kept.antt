@@ -37,7 +37,13 @@ val-back : (v : Val) → valAtCode (valCodeKept v) ≡ keptVal v
 unfolding valCodeKept
 val-back v = val-code (keptVal v)
 
-castNames : Cast → List ℕ
+pub one-result : (v : Val) → blockResults (resultCode (v ∷ [])) ≡ valAtCode (valCodeKept v) ∷ []
+one-result v =
+    let some′ : eqb (valCodeKept v + 1) 0 ≡ false = ne-eqb (valCodeKept v + 1) 0 (λ e. omega arith) in
+    let code : valCodeKept v + 1 - 1 ≡ valCodeKept v = omega arith in
+    rw (some′, code)
+
+unfoldable pub castNames : Cast → List ℕ
 castNames k = heapNames (k .source) ++ heapNames (k .target)
 
 every-append : {A : Type 0} (f : A → Bool) (xs ys : List A) → every f (xs ++ ys) ≡ every f xs && every f ys
@@ -45,21 +51,21 @@ every-append f [] ys = refl
 every-append f (x ∷ xs) ys = rw (every-append f xs ys) (sym (and-assoc (f x) (every f xs) (every f ys)))
 
 module _ {r : ℕ} (few : r ≤ 4_095) where
-  heap-read : Keeps r heapNames (λ h. heapAtCode (heapCodeKept h))
+  pub heap-read : Keeps r heapNames (λ h. heapAtCode (heapCodeKept h))
   heap-read =
       record {
         reach = λ h. rw (heap-back h) (heap-keeps few .reach h);
         same = λ h e. heap-back h ∙ heap-keeps few .same h e;
       }
 
-  val-read : Keeps r valNames (λ v. valAtCode (valCodeKept v))
+  pub val-read : Keeps r valNames (λ v. valAtCode (valCodeKept v))
   val-read =
       record {
         reach = λ v. rw (val-back v) (val-keeps few .reach v);
         same = λ v e. val-back v ∙ val-keeps few .same v e;
       }
 
-  cast-read : Keeps r castNames (castWith castOf)
+  pub cast-read : Keeps r castNames (castWith castOf)
   unfolding castNames
   cast-read = record { reach = reaches; same = sames }
     where
@@ -114,9 +120,7 @@ module _ (c : Context) (few : c .count ≤ 256) where
     by-results : (frame : List Val → Frame) (rs : List Val) → length rs ≤ 1 → reached c (joined (map valNames (blockResults (resultCode rs)))) (entered st (frame (blockResults (resultCode rs)))) ≡ reached c (joined (map valNames rs)) (entered st (frame rs))
     by-results frame [] h = refl
     by-results frame (v ∷ []) h =
-        let some′ : eqb (valCodeKept v + 1) 0 ≡ false = ne-eqb (valCodeKept v + 1) 0 (λ e. omega arith) in
-        let code : valCodeKept v + 1 - 1 ≡ valCodeKept v = omega arith in
-        rw (some′, code) (simp append-nil (asked c (val-read bound) (λ w. entered st (frame (w ∷ []))) v))
+        rw (one-result v) (simp append-nil (asked c (val-read bound) (λ w. entered st (frame (w ∷ []))) v))
     by-results frame (v ∷ w ∷ vs) h = absurd (omega arith)
 
     op-kept : (o : Op) → judgeInstr c st (instrOf (operationOf o)) ≡ judgeInstr c st (op o)

@@ -60,7 +60,7 @@ split-some m base {h} {n} l =
     let parts : pile m base h ≡ tops ++ pile m base (h - n) = ap (pile m base) (sym all) ∙ sym (pile-join m base (h - n) n) in
     ap₂ splitTop (sym (pile-length m (base + (h - n)) n)) parts ∙ split-top tops (pile m base (h - n))
 
-few-split : (vs : List Value) (n : ℕ) → length vs < n → splitTop n vs ≡ none
+pub few-split : (vs : List Value) (n : ℕ) → length vs < n → splitTop n vs ≡ none
 unfolding splitTop
 few-split vs zero h = absurd (omega arith)
 few-split [] (suc n) h = refl

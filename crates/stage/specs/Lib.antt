@@ -1,3 +1,4 @@
 pub mod Machines
 pub mod Moved
 pub mod Planned
+pub mod Controlled

@@ -84,6 +84,11 @@ abbrev pub atPlace : Stage → ℕ → Stage
 atPlace st place =
     record { place = place; objects = st .objects; cells = st .cells; base = st .base; height = st .height; depth = st .depth }
 
+-- the same stage with so many operands in the innermost frame
+abbrev pub atHeight : Stage → ℕ → Stage
+atHeight st height =
+    record { place = st .place; objects = st .objects; cells = st .cells; base = st .base; height = height; depth = st .depth }
+
 -- between two instructions
 
 -- each word of a value is that of the value which it says
@@ -100,32 +105,40 @@ pub data Opened (s : List ℕ) (kind at next : ℕ) : Type 0 where
   a-block : {rs : List Val} → kind ≡ 1 → instrAt s at ≡ got (block rs) next → Opened s kind at next
   a-loop : {rs : List Val} → kind ≡ 2 → instrAt s at ≡ got (loop rs) next → Opened s kind at next
 
+-- a place that is reached from a first one by reading, from where on the matching ends are kept
+pub record Charted (s ends : List ℕ) (at : ℕ) : Type 0 where
+  pub first : ℕ
+  pub inside : first ≤ length s
+  pub reached : Reached s first at
+  pub matching : EndsOf s ends first
+
 -- So many blocks are open where this code is left. What comes after the end of the innermost one is the code at the place
 -- that is kept for it, and so on outwards from there.
-pub data Nested (s ends : List ℕ) (first : ℕ) (blocks : List ℕ) : ℕ → Code → Type 0 where
-  outermost : {code : Code} → Nested s ends first blocks 0 code
+pub data Nested (s ends blocks : List ℕ) : ℕ → Code → Type 0 where
+  outermost : {code : Code} → Nested s ends blocks 0 code
   inside : {d next : ℕ} {code : Code}
-      → Reached s first (blockWord blocks d 1)
+      → Charted s ends (blockWord blocks d 1)
       → Opened s (blockWord blocks d 0) (blockWord blocks d 1) next
       → lower blocks d ≤ blockWord blocks d 2
       → past 1 code ≡ codeAt s (getD ends (blockWord blocks d 1) 0)
-      → Nested s ends first blocks d (codeAt s (getD ends (blockWord blocks d 1) 0))
-      → Nested s ends first blocks (suc d) code
+      → Nested s ends blocks d (codeAt s (getD ends (blockWord blocks d 1) 0))
+      → Nested s ends blocks (suc d) code
 
-pub record Framed (s ends : List ℕ) (first : ℕ) (blocks : List ℕ) (st : Stage) : Type 0 where
+-- the open blocks at a place
+pub record Framed (s ends blocks : List ℕ) (st : Stage) : Type 0 where
+  pub short : length s ≤ 32_768
   pub room : 189 ≤ length blocks
   pub deep : st .depth ≤ 63
   pub base : st .base ≡ lower blocks (st .depth)
-  pub reached : Reached s first (st .place)
-  pub nested : Nested s ends first blocks (st .depth) (codeAt s (st .place))
+  pub charted : Charted s ends (st .place)
+  pub nested : Nested s ends blocks (st .depth) (codeAt s (st .place))
 
--- the body: it has no more bytes than there may be, and its matching ends are kept
-pub record Marked (s ends : List ℕ) (first : ℕ) : Type 0 where
-  pub short : length s ≤ 32_768
-  pub inside : first ≤ length s
-  pub matching : EndsOf s ends first
-
-pub record Orderly (s ends : List ℕ) (first count : ℕ) (w : Words) (st : Stage) : Type 0 where
-  pub marked : Marked s ends first
+pub record Orderly (s ends : List ℕ) (count : ℕ) (w : Words) (st : Stage) : Type 0 where
   pub valued : Valued count w st
-  pub framed : Framed s ends first (w .blocks) st
+  pub framed : Framed s ends (w .blocks) st
+
+-- when the run is done: no block is open, and the operands are the results
+pub record Closed (s : List ℕ) (st : Stage) : Type 0 where
+  pub place : st .place ≡ length s
+  pub base : st .base ≡ 0
+  pub depth : st .depth ≡ 0

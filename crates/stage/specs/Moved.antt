@@ -17,7 +17,7 @@ use Rattle.stage.specs.declared.Move.{Move}
 use Rattle.stage.specs.declared.Move
 use Rattle.stage.specs.declared.Stepped.{Stepped}
 use Rattle.stage.specs.declared.Stepped
-use Rattle.stage.specs.Machines.{Words, machineAt, Orderly}
+use Rattle.stage.specs.Machines.{Words, machineAt, Valued, Orderly, Closed}
 
 -- one more object, and a reference to it on those operands
 abbrev pub withObject : Machine → ℕ → Option ℕ → List Value → List Value → Machine
@@ -107,9 +107,10 @@ outcomeAt s count w (Stepped.the-variants.Traps number) = traps number
 outcomeAt s count w Stepped.the-variants.Astray = stuck
 
 -- a trapping step changes nothing; after one that goes on the words are as orderly as before
-pub record StepIs (s ends : List ℕ) (first count : ℕ) (w w′ : Words) (m : Machine) (want : Outcome) (r : Stepped) : Type 0 where
+pub record StepIs (s ends : List ℕ) (count : ℕ) (w w′ : Words) (m : Machine) (want : Outcome) (r : Stepped) : Type 0 where
   pub is : (r ≡ Stepped.the-variants.Astray → ⊥) → outcomeAt s count w′ r ≡ want
   pub astray : r ≡ Stepped.the-variants.Astray → Astray m want
-  pub goesOrderly : (st : Stage) → r ≡ Stepped.the-variants.Goes st → Orderly s ends first count w′ st
-  pub endsOrderly : (st : Stage) → r ≡ Stepped.the-variants.Ends st → Orderly s ends first count w′ st
+  pub orderly : (st : Stage) → r ≡ Stepped.the-variants.Goes st → Orderly s ends count w′ st
+  pub valued : (st : Stage) → r ≡ Stepped.the-variants.Ends st → Valued count w′ st
+  pub closed : (st : Stage) → r ≡ Stepped.the-variants.Ends st → Closed s st
   pub same : (number : ℕ) → r ≡ Stepped.the-variants.Traps number → w′ ≡ w

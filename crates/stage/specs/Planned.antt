@@ -1,18 +1,19 @@
 -- What is seen of a machine, and what it is to tell the move of an instruction from what is seen.
-use Prim.Native.Nat.{ℕ}
+use Prim.Native.Nat.{ℕ, _+_}
 use mathlib.Core.Path.{_≡_}
 use mathlib.Core.Bool.{cond}
 use mathlib.Core.List.{List}
-use lib.ListN.{drop}
+use lib.ListN.{length, drop}
 use lib.Dec.{eqb}
 use Rattle.scope.specs.Instructions.{Op}
 use Rattle.scope.specs.Machine.{Value, Machine, Program, doOp}
 use Rattle.table.specs.View.{view}
-use Rattle.cells.specs.Values.{heldFrom, Canon, AllHeldCanon}
+use Rattle.cells.specs.Values.{heldFrom, Canon, AllCanon, AllHeldCanon}
 use Rattle.store.specs.Heap.{storeAt, Kept}
 use Rattle.pile.specs.declared.Topmost.{Topmost}
 use Rattle.pile.specs.declared.Topmost
-use Rattle.pile.specs.Pile.{topOf, headOf}
+use Rattle.pile.specs.Pile.{topOf, headOf, pile}
+use Rattle.stage.specs.declared.Stage.{Stage}
 use Rattle.stage.specs.declared.Move.{Move}
 use Rattle.stage.specs.declared.Reference.{Reference}
 use Rattle.stage.specs.declared.Reference
@@ -36,13 +37,27 @@ pub record Knows (m : Machine) (first second : Topmost) (objects cells : List �
   pub heap : m .heap ≡ storeAt objects cells n
   pub kept : Kept objects cells n total
 
--- the move of an instruction, by what it looks at
-
+-- the move of an instruction, by what it looks at: operands
 pub record TopPlans (first second : Topmost) (o : Op) (r : Move) : Type 0 where
   pub is : (p : Program) (codes : List ℕ) (m : Machine) → Seen (m .operands) first → Seen (drop 1 (m .operands)) second → MoveIs p codes m (doOp p m (m .operands) o) r
 
+-- locals
 pub record LocalPlans (locals : List ℕ) (count : ℕ) (first : Topmost) (o : Op) (r : Move) : Type 0 where
   pub is : (p : Program) (codes : List ℕ) (m : Machine) → m .locals ≡ heldFrom locals 0 count → AllHeldCanon locals count → Seen (m .operands) first → MoveIs p codes m (doOp p m (m .operands) o) r
 
-pub record HeapPlans (rows codes objects cells : List ℕ) (n total : ℕ) (first second : Topmost) (o : Op) (r : Move) : Type 0 where
-  pub is : (p : Program) (m : Machine) → p .types ≡ view rows codes → Knows m first second objects cells n total → MoveIs p codes m (doOp p m (m .operands) o) r
+-- objects and their fields
+pub record FieldPlans (objects cells : List ℕ) (n : ℕ) (first second : Topmost) (o : Op) (r : Move) : Type 0 where
+  pub is : (p : Program) (codes : List ℕ) (m : Machine) (total : ℕ) → Knows m first second objects cells n total → MoveIs p codes m (doOp p m (m .operands) o) r
+
+-- the table, how many objects, cells and operands there are, and the topmost of these
+pub record MakePlans (rows codes : List ℕ) (n total height : ℕ) (first : Topmost) (o : Op) (r : Move) : Type 0 where
+  pub is : (p : Program) (m : Machine) (second : Topmost) (objects cells : List ℕ) → p .types ≡ view rows codes → length (m .operands) ≡ height → Knows m first second objects cells n total → MoveIs p codes m (doOp p m (m .operands) o) r
+
+-- the memory from which a machine's values are read
+pub record Holds (m : Machine) (objects cells locals operands : List ℕ) (count : ℕ) (st : Stage) : Type 0 where
+  pub heap : m .heap ≡ storeAt objects cells (st .objects)
+  pub values : m .operands ≡ pile operands (st .base) (st .height)
+  pub held : m .locals ≡ heldFrom locals 0 count
+  pub kept : Kept objects cells (st .objects) (st .cells)
+  pub localCanon : AllHeldCanon locals count
+  pub canon : AllCanon operands (st .base + st .height)

@@ -69,15 +69,15 @@ pub fn field_count(objects: &[u16], o: u32) -> u64
 }
 
 // What its field i holds.
-pub fn held_field(objects: &[u16], cells: &[u64], o: u32, i: u32) -> Held
+pub fn held_field(objects: &[u16], cells: &[u64], o: u32, i: u64) -> Held
     ensures { λ r. ⌜ HeldField (now (objects .entry)) (now (cells .entry)) o i r ⌝ }
 {
     let count = object_word(objects, o, COUNT);
-    if count <= i as u64 {
+    if count <= i {
         return Held::Absent;
     }
     let first = object_word(objects, o, FIRST);
-    let place = 2 * (first + i as u64);
+    let place = 2 * (first + i);
     let kind = cells::word64(cells, place);
     let bits = cells::word64(cells, place + 1);
     Held::Is(kind, bits)

@@ -81,7 +81,7 @@ fn has_default(code: u64) -> bool
 }
 
 // Whether each of the n fields whose codes start at `first` has a default.
-fn all_default(codes: &[u16], first: u32, n: u32) -> bool
+pub fn all_default(codes: &[u16], first: u32, n: u32) -> bool
     ensures { λ r. ⌜ r ≡ allDefault (now (codes .entry)) first n ⌝ }
 {
     let mut at = first as u64;

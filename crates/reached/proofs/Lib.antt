@@ -1,0 +1,7 @@
+pub mod Naming
+pub mod Bounds
+pub mod Astraying
+pub mod Back
+pub mod Sectioned
+pub mod Along
+pub mod Example

@@ -1,0 +1,4 @@
+pub mod Objects
+pub mod Carrying
+pub mod Controlling
+pub mod Departing
