@@ -24,7 +24,8 @@ use Rattle.stage.specs.Moved.{MoveIs}
 use Rattle.stage.specs.Planned.{Seen, Knows, Holds, TopPlans, LocalPlans, FieldPlans, MakePlans}
 use Rattle.stage.proofs.Carries.{move-traps, move-leaves, move-gives, move-branches, move-returns}
 use Rattle.cast_moves.specs.Passes.{CastChosen, DescriptorChosen}
-use Rattle.moves.specs.Moving.{SecondIs, numberOf, Modest, MoveOf}
+use Rattle.decoded.specs.Named.{numberOf, Modest}
+use Rattle.moves.specs.Moving.{SecondIs, MoveOf}
 use Rattle.moves.proofs.CastWays.{test-is, cast-is, on-cast-is, on-cast-fail-is, descriptor-cast-is, on-descriptor-is, on-descriptor-fail-is}
 
 -- the operand under the topmost

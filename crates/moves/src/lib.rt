@@ -6,7 +6,8 @@ use stage::I32;
 use stage::Move;
 use stage::NULL;
 use stage::Stage;
-ghost use Rattle.moves.specs.Moving.{SecondIs, Modest, MoveOf};
+ghost use Rattle.decoded.specs.Named.{Modest};
+ghost use Rattle.moves.specs.Moving.{SecondIs, MoveOf};
 
 // The traps of unreachable and of a cast.
 const TRAP_UNREACHABLE: u64 = 41;

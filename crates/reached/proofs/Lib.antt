@@ -1,4 +1,3 @@
-pub mod Naming
 pub mod Bounds
 pub mod Astraying
 pub mod Back

@@ -2,3 +2,4 @@ pub mod Objects
 pub mod Carrying
 pub mod Controlling
 pub mod Departing
+pub mod Stepping

@@ -4,8 +4,8 @@ use mathlib.Core.Path.{_≡_}
 use mathlib.Core.List.{List}
 use lib.ListN.{length}
 use Rattle.scope.specs.Reading.{got}
-use Rattle.scope.specs.Instructions.{Instr, instrAt}
-use Rattle.scope.specs.Machine.{Value, Program}
+use Rattle.scope.specs.Instructions.{Op, Instr, op, instrAt}
+use Rattle.scope.specs.Machine.{Value, Program, doOp, step}
 use Rattle.table.specs.View.{view}
 use Rattle.immediates.specs.declared.Instruction.{Instruction}
 use Rattle.immediates.specs.Coding.{instructionOf}
@@ -13,11 +13,12 @@ use Rattle.decoded.specs.Decoded.{instrOf}
 use Rattle.cells.specs.Values.{AllCanon}
 use Rattle.store.specs.Heap.{Kept, RowPut, Filled}
 use Rattle.pile.specs.Pile.{Pushed}
+use Rattle.decoded.specs.Named.{Modest}
 use Rattle.stage.specs.declared.Stage.{Stage}
 use Rattle.stage.specs.declared.Move.{Move}
 use Rattle.stage.specs.declared.Stepped.{Stepped}
 use Rattle.stage.specs.declared.Stepped
-use Rattle.stage.specs.Machines.{Words, machineAt, Orderly}
+use Rattle.stage.specs.Machines.{Words, machineAt, programAt, Orderly}
 use Rattle.stage.specs.Moved.{moved, Ready, StepIs}
 
 -- making an object
@@ -77,7 +78,18 @@ pub record Carried (s codes ends : List ℕ) (count : ℕ) (w w′ : Words) (st 
 
 -- steps
 
--- the instruction at the stage's place, as the code holds it, and the place after it
+-- an instruction that stays inside its block, with its type number kept
+pub record Inside (s ends : List ℕ) (count : ℕ) (w : Words) (st : Stage) (i : Instruction) : Type 0 where
+  pub orderly : Orderly s ends count w st
+  pub modest : Modest i
+  pub what : Op
+  pub is : instrOf i ≡ op what
+
+pub record InsideIs (s rows codes ends : List ℕ) (count : ℕ) (w w′ : Words) (st : Stage) (results : ℕ) (i : Instruction) (r : Stepped) : Type 0 where
+  pub is : (p : Program) (o : Op) → p .types ≡ view rows codes → p .results ≡ results → instrOf i ≡ op o
+      → StepIs s ends count w w′ (machineAt s count w st) (doOp p (machineAt s count w st) (machineAt s count w st .operands) o) r
+
+-- the instruction at a place, as the code holds it, and the place after it
 pub record ReadHere (s : List ℕ) (at : ℕ) (i : Instruction) (next : ℕ) : Type 0 where
   pub instr : Instr
   pub read : instrAt s at ≡ got instr next
@@ -87,3 +99,7 @@ pub record ReadHere (s : List ℕ) (at : ℕ) (i : Instruction) (next : ℕ) : T
 pub record Steppable (s ends : List ℕ) (count : ℕ) (w : Words) (st : Stage) (i : Instruction) (next : ℕ) : Type 0 where
   pub orderly : Orderly s ends count w st
   pub here : ReadHere s (st .place) i next
+
+-- it is the step of the written machine
+pub record StepOf (s rows codes ends : List ℕ) (count : ℕ) (w w′ : Words) (st : Stage) (results : ℕ) (r : Stepped) : Type 0 where
+  pub is : StepIs s ends count w w′ (machineAt s count w st) (step (programAt rows codes results) (machineAt s count w st)) r

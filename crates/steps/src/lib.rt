@@ -1,4 +1,5 @@
 // One step of a trial run: the move of the instruction is carried out in the run's memory, or a block is opened or closed.
+use immediates::Instruction;
 use stage::MOST_OPERANDS;
 use stage::Move;
 use stage::OBJECT;
@@ -8,10 +9,9 @@ ghost use mathlib.Core.Path.{_≡_};
 ghost use Prim.Native.Nat.{_+_};
 ghost use lib.Dec.{leb};
 ghost use Rattle.cells.specs.Values.{valuesFrom};
-ghost use Rattle.scope.specs.Machine.{step};
-ghost use Rattle.stage.specs.Machines.{words, machineAt, programAt, atHeight};
-ghost use Rattle.stage.specs.Moved.{defaultsAt, moved, StepIs};
-ghost use Rattle.steps.specs.Carried.{PutRoom, PutMade, Makable, MakableGiven, MadeIs, Movable, Carried};
+ghost use Rattle.stage.specs.Machines.{words, atHeight};
+ghost use Rattle.stage.specs.Moved.{defaultsAt};
+ghost use Rattle.steps.specs.Carried.{PutRoom, PutMade, Makable, MakableGiven, MadeIs, Movable, Carried, Inside, InsideIs, Steppable, StepOf};
 
 // Whether there is no room for one more operand.
 fn is_full(stage: Stage, left: u32) -> bool
@@ -171,5 +171,103 @@ fn carry_out(
             control::branch(s, ends, operands, blocks, stage, left, label, results)
         }
         Move::Returns => control::finish(operands, stage, height, results, s.len()),
+    }
+}
+
+// An instruction inside its block; the stage is already past it.
+fn step_inside(
+    s: &[u8],
+    rows: &[u16],
+    codes: &[u16],
+    ends: &[u16],
+    objects: &mut [u16],
+    cells: &mut [u64],
+    locals: &mut [u64],
+    operands: &mut [u64],
+    blocks: &[u16],
+    count: u16,
+    results: u32,
+    stage: Stage,
+    i: Instruction,
+) -> Stepped
+    requires { ⌜ Inside (now s) (now ends) count (words (now objects) (now cells) (now locals) (now operands) (now blocks)) stage i ⌝ }
+    ensures { λ r. ⌜ InsideIs (now (s .entry)) (now (rows .entry)) (now (codes .entry)) (now (ends .entry)) count (words (now (objects .entry)) (now (cells .entry)) (now (locals .entry)) (now (operands .entry)) (now (blocks .entry))) (words (now (objects .exit)) (now (cells .exit)) (now (locals .exit)) (now (operands .exit)) (now (blocks .entry))) stage results i r ⌝ }
+{
+    let it = moves::move_of(
+        rows,
+        codes,
+        objects,
+        cells,
+        locals,
+        operands,
+        count,
+        stage,
+        i,
+    );
+    carry_out(
+        s,
+        codes,
+        ends,
+        objects,
+        cells,
+        locals,
+        operands,
+        blocks,
+        count,
+        results,
+        stage,
+        it,
+    )
+}
+
+// The instruction at the stage's place, after which the next one stands at `next`.
+pub fn step(
+    s: &[u8],
+    rows: &[u16],
+    codes: &[u16],
+    ends: &[u16],
+    objects: &mut [u16],
+    cells: &mut [u64],
+    locals: &mut [u64],
+    operands: &mut [u64],
+    blocks: &mut [u16],
+    count: u16,
+    results: u32,
+    stage: Stage,
+    next: usize,
+    i: Instruction,
+) -> Stepped
+    requires { ⌜ Steppable (now s) (now ends) count (words (now objects) (now cells) (now locals) (now operands) (now blocks)) stage i next ⌝ }
+    ensures { λ r. ⌜ StepOf (now (s .entry)) (now (rows .entry)) (now (codes .entry)) (now (ends .entry)) count (words (now (objects .entry)) (now (cells .entry)) (now (locals .entry)) (now (operands .entry)) (now (blocks .entry))) (words (now (objects .exit)) (now (cells .exit)) (now (locals .exit)) (now (operands .exit)) (now (blocks .exit))) stage results r ⌝ }
+{
+    match i {
+        Instruction::Block(_) => control::open(blocks, stage, next, 1),
+        Instruction::Loop(_) => control::open(blocks, stage, next, 2),
+        Instruction::End => control::close(operands, blocks, stage, next, results, s.len()),
+        _ => {
+            let past = Stage {
+                place: next,
+                objects: stage.objects,
+                cells: stage.cells,
+                base: stage.base,
+                height: stage.height,
+                depth: stage.depth,
+            };
+            step_inside(
+                s,
+                rows,
+                codes,
+                ends,
+                objects,
+                cells,
+                locals,
+                operands,
+                blocks,
+                count,
+                results,
+                past,
+                i,
+            )
+        }
     }
 }

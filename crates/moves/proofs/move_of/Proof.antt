@@ -1,7 +1,7 @@
 -- `moves::move_of` meets its contract: each arm's move is what its instruction comes to.
 use borrow.Author.Needs.{needs}
 use Rattle.decoded.specs.Decoded.{instrOf}
-use Rattle.moves.specs.Moving.{numberOf}
+use Rattle.decoded.specs.Named.{numberOf}
 use Rattle.moves.proofs.Arms.{arm-exits}
 use Rattle.moves.proofs.move_of.Statement.{statement}
 use Rattle.moves.proofs.move_of.Tie as tie

@@ -1,9 +1,9 @@
--- A type number is kept as at most 4,095, so whatever instruction is read, the number fits.
+-- A type number is kept as at most 4,095: so whatever instruction is read, an object's word can hold the number of its type.
 use Prim.Native.Nat.{_≤_}
 use native.Mathlib.Omega.{arith}
 use Rattle.scope.specs.Instructions.{Op, unreachable, nop, return, drop-value, br, br-if, local-get, local-set, local-tee, i32-const, ref-null, ref-is-null, ref-eq, ref-as-non-null, struct-new, struct-new-default, struct-get, struct-set, ref-test, ref-cast, br-on-cast, br-on-cast-fail, struct-new-desc, struct-new-default-desc, ref-get-desc, ref-cast-desc-eq, br-on-cast-desc-eq, br-on-cast-desc-eq-fail, Instr, block, loop, end, op}
 use Rattle.immediates.specs.Coding.{operationOf, instructionOf}
-use Rattle.reached.specs.Named.{numberOf, Modest}
+use Rattle.decoded.specs.Named.{numberOf, Modest}
 
 kept-number : (o : Op) → numberOf (operationOf o) ≤ 4_095
 unfolding numberOf operationOf

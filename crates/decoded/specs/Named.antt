@@ -1,4 +1,4 @@
--- The type number that an instruction makes an object of, and that it fits the words in which an object's type is kept.
+-- The number of the type that an instruction makes an object of, and that an object's word can hold it.
 use Prim.Native.Nat.{ℕ, _<_}
 use Rattle.immediates.specs.declared.Instruction.{Instruction}
 use Rattle.immediates.specs.declared.Instruction
@@ -37,5 +37,6 @@ numberOf (Instruction.the-variants.RefCastDescEq n h) = 0
 numberOf (Instruction.the-variants.BrOnCastDescEq l m h n k) = 0
 numberOf (Instruction.the-variants.BrOnCastDescEqFail l m h n k) = 0
 
+-- the code keeps the type of an object in 16 bits
 pub record Modest (i : Instruction) : Type 0 where
   pub small : numberOf i < 65_536
