@@ -15,31 +15,59 @@ pub fn check(section: &str) -> Result<Outcome, Trouble> {
 
 /// The section's own refusal comes first; then every place is the body's.
 pub fn check_body(section: &str, body: &str, number: &str) -> Result<Outcome, Trouble> {
-    let section = input::bytes(section)?;
-    let body = input::bytes(body)?;
-    let number = lines::read_number(number).map_err(|why| format!("{number}: {why}"))?;
-    let mut loader = Loader::new();
-    let refusal = match loader.judge_body(&section, number, &body) {
-        Ok(1) => return say("yes: 1 instruction"),
-        Ok(count) => return say(&format!("yes: {count} instructions")),
-        Err(refusal) => refusal,
-    };
-    match loader.judge_section(&section) {
-        Ok(table) => {
-            say(&explain::body_refusal(&table, number, &body, refusal))?;
-            Ok(Outcome::No)
-        }
-        Err(of_section) => {
-            let why = explain::section_refusal(&section, of_section);
-            say(&format!("{why}  the section itself is refused; the body was not looked at"))?;
-            Ok(Outcome::No)
-        }
+    let add_on = AddOn::read(section, body, number)?;
+    match Loader::new().judge_body(&add_on.section, add_on.number, &add_on.body) {
+        Ok(1) => say("yes: 1 instruction"),
+        Ok(count) => say(&format!("yes: {count} instructions")),
+        Err(refusal) => add_on.refused(refusal),
     }
+}
+
+/// A run that traps or is spent is a yes: the add-on was accepted (docs/DECISIONS.md).
+pub fn run(section: &str, body: &str, number: &str, budget: &str) -> Result<Outcome, Trouble> {
+    let add_on = AddOn::read(section, body, number)?;
+    let budget = read_number(budget)?;
+    let mut loader = Loader::new();
+    match loader.try_run(&add_on.section, add_on.number, &add_on.body, budget) {
+        Ok(run) => say(&explain::ended(&add_on.body, &run)),
+        Err(refusal) => add_on.refused(refusal),
+    }
+}
+
+/// A body with its section and the number of its function type.
+struct AddOn {
+    section: Vec<u8>,
+    number: u64,
+    body: Vec<u8>,
+}
+
+impl AddOn {
+    fn read(section: &str, body: &str, number: &str) -> Result<AddOn, Trouble> {
+        let (section, body) = (input::bytes(section)?, input::bytes(body)?);
+        Ok(AddOn { section, number: read_number(number)?, body })
+    }
+
+    /// Whose refusal it is shows in the section judged alone.
+    fn refused(&self, refusal: Refusal) -> Result<Outcome, Trouble> {
+        let said = match Loader::new().judge_section(&self.section) {
+            Ok(table) => explain::body_refusal(&table, self.number, &self.body, refusal),
+            Err(of_section) => {
+                let why = explain::section_refusal(&self.section, of_section);
+                format!("{why}  the section itself is refused; the body was not looked at")
+            }
+        };
+        say(&said)?;
+        Ok(Outcome::No)
+    }
+}
+
+fn read_number(text: &str) -> Result<u64, Trouble> {
+    lines::read_number(text).map_err(|why| format!("{text}: {why}"))
 }
 
 pub fn type_bytes(section: &str, number: &str) -> Result<Outcome, Trouble> {
     let section = input::bytes(section)?;
-    let number = lines::read_number(number).map_err(|why| format!("{number}: {why}"))?;
+    let number = read_number(number)?;
     match Loader::new().type_bytes(&section, number) {
         Ok(bytes) => say(&hex::spaced(bytes)),
         Err(refusal) => refused(&section, refusal),

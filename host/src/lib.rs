@@ -6,8 +6,10 @@
 
 pub mod calls;
 mod loader;
+pub mod state;
 pub mod table;
 
-pub use calls::Refusal;
-pub use loader::Loader;
+pub use calls::{Ended, Refusal};
+pub use loader::{Loader, Run};
+pub use state::State;
 pub use table::Table;

@@ -1,8 +1,9 @@
 //! Requests and answers in lines, as docs/LAYOUT.md has them.
 
 use crate::hex;
+use chelbugan::state::{Block, Object, Value};
 use chelbugan::table::Row;
-use chelbugan::{Loader, Refusal, Table};
+use chelbugan::{Ended, Loader, Refusal, Run, State, Table};
 
 /// Why a line is no request.
 type Why = &'static str;
@@ -11,6 +12,7 @@ enum Request {
     Section(Vec<u8>),
     Type(Vec<u8>, u64),
     Body(Vec<u8>, u64, Vec<u8>),
+    Run(Vec<u8>, u64, Vec<u8>, u64),
 }
 
 pub fn answer(loader: &mut Loader, line: &[u8]) -> String {
@@ -29,7 +31,12 @@ fn read_request(line: &[u8]) -> Result<Request, Why> {
         ["B", section, number, body] => {
             Ok(Request::Body(read_bytes(section)?, read_number(number)?, read_bytes(body)?))
         }
-        ["R", ..] => Err("runs are not answered yet: S, T and B are"),
+        ["R", section, number, body, budget] => Ok(Request::Run(
+            read_bytes(section)?,
+            read_number(number)?,
+            read_bytes(body)?,
+            read_number(budget)?,
+        )),
         _ => Err("not a request"),
     }
 }
@@ -59,6 +66,9 @@ fn answer_request(loader: &mut Loader, request: &Request) -> String {
         Request::Body(section, number, body) => {
             loader.judge_body(section, *number, body).map(|count| format!("yes {count}"))
         }
+        Request::Run(section, number, body, budget) => {
+            loader.try_run(section, *number, body, *budget).map(|run| ended(&run))
+        }
     };
     answered.unwrap_or_else(|Refusal { number, place }| format!("no {number} {place}"))
 }
@@ -83,6 +93,58 @@ fn row_text(row: &Row) -> String {
         bytes.start,
         bytes.end
     )
+}
+
+fn ended(run: &Run) -> String {
+    let state = state_text(&run.state);
+    match run.ended {
+        Ended::Done { steps, .. } => {
+            format!("done {steps} [{}] | {state}", values(&run.state.operands()))
+        }
+        Ended::Trap { number, place, steps } => format!("trap {number} {place} {steps} | {state}"),
+        Ended::Spent { steps } => format!("spent {steps} | {state}"),
+    }
+}
+
+fn state_text(state: &State) -> String {
+    let objects = state.objects();
+    let objects = objects.iter().enumerate().map(|(number, object)| object_text(number, object));
+    let locals = state.locals().into_iter().map(local_text);
+    let blocks = state.blocks().into_iter().map(block_text);
+    format!(
+        "place={} heap=[{}] locals=[{}] operands=[{}] blocks=[{}]",
+        state.place(),
+        joined(objects, ";"),
+        joined(locals, ","),
+        values(&state.operands()),
+        joined(blocks, ";")
+    )
+}
+
+fn joined(texts: impl Iterator<Item = String>, separator: &str) -> String {
+    texts.collect::<Vec<_>>().join(separator)
+}
+
+fn values(values: &[Value]) -> String {
+    joined(values.iter().map(Value::to_string), ",")
+}
+
+fn object_text(number: usize, object: &Object) -> String {
+    format!(
+        "{number}:type={},desc={},fields=({})",
+        object.type_number,
+        number_or_none(object.descriptor),
+        values(&object.fields)
+    )
+}
+
+fn local_text(local: Option<Value>) -> String {
+    local.map_or("unset".to_string(), |value| value.to_string())
+}
+
+fn block_text(block: Block) -> String {
+    let kind = if block.is_loop { "loop" } else { "block" };
+    format!("{kind}@{}:height={}", block.place, block.height)
 }
 
 fn number_or_none(number: Option<u16>) -> String {

@@ -1,18 +1,43 @@
 //! The loader with memory of its own.
 
-use crate::calls::{self, Bytes, Refusal};
+use crate::calls::{self, Bytes, Ended, Refusal, RunMemory};
+use crate::state::State;
 use crate::table::Table;
 
-/// Lends the same buffers to each call; they are zero or hold the last accepted section's table.
+/// Lends the same buffers to each call; they are zero, or hold the last accepted section's table or the last run's state.
 pub struct Loader {
     rows: Box<[u16]>,
     codes: Box<[u16]>,
     work: Box<[u32]>,
+    ends: Box<[u16]>,
+    counts: Box<[u64]>,
+    objects: Box<[u16]>,
+    cells: Box<[u64]>,
+    locals: Box<[u64]>,
+    operands: Box<[u64]>,
+    blocks: Box<[u16]>,
+}
+
+/// How a trial run ended, and the state after exactly its steps.
+pub struct Run<'a> {
+    pub ended: Ended,
+    pub state: State<'a>,
 }
 
 impl Loader {
     pub fn new() -> Loader {
-        Loader { rows: zeros(calls::ROWS), codes: zeros(calls::CODES), work: zeros(calls::WORK) }
+        Loader {
+            rows: zeros(calls::ROWS),
+            codes: zeros(calls::CODES),
+            work: zeros(calls::WORK),
+            ends: zeros(calls::ENDS),
+            counts: zeros(calls::COUNTS),
+            objects: zeros(calls::OBJECTS),
+            cells: zeros(calls::CELLS),
+            locals: zeros(calls::LOCALS),
+            operands: zeros(calls::OPERANDS),
+            blocks: zeros(calls::BLOCKS),
+        }
     }
 
     pub fn judge_section(&mut self, section: &[u8]) -> Result<Table<'_>, Refusal> {
@@ -28,8 +53,46 @@ impl Loader {
 
     /// A body's count of instructions, against the function type of a number.
     pub fn judge_body(&mut self, section: &[u8], number: u64, body: &[u8]) -> Result<u64, Refusal> {
-        let Loader { rows, codes, work } = self;
+        let Loader { rows, codes, work, .. } = self;
         calls::judge_body(section, body, number, rows, codes, work)
+    }
+
+    /// A trial run of a body, of at most so many steps.
+    pub fn try_run(
+        &mut self,
+        section: &[u8],
+        number: u64,
+        body: &[u8],
+        budget: u64,
+    ) -> Result<Run<'_>, Refusal> {
+        let ended = calls::try_run(section, body, number, budget, &mut self.run_memory())?;
+        Ok(Run { ended, state: self.state() })
+    }
+
+    fn run_memory(&mut self) -> RunMemory<'_> {
+        RunMemory {
+            rows: &mut self.rows,
+            codes: &mut self.codes,
+            work: &mut self.work,
+            ends: &mut self.ends,
+            counts: &mut self.counts,
+            objects: &mut self.objects,
+            cells: &mut self.cells,
+            locals: &mut self.locals,
+            operands: &mut self.operands,
+            blocks: &mut self.blocks,
+        }
+    }
+
+    fn state(&self) -> State<'_> {
+        State {
+            counts: &self.counts,
+            objects: &self.objects,
+            cells: &self.cells,
+            locals: &self.locals,
+            operands: &self.operands,
+            blocks: &self.blocks,
+        }
     }
 }
 

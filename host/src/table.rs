@@ -46,6 +46,13 @@ pub enum ValueType {
     Reference { nullable: bool, heap: Heap },
 }
 
+impl ValueType {
+    /// Zero or null; a reference that is not null has none.
+    pub fn has_default(&self) -> bool {
+        !matches!(self, ValueType::Reference { nullable: false, .. })
+    }
+}
+
 #[derive(Clone, Copy, Debug, PartialEq, Eq)]
 pub struct Field {
     pub mutable: bool,

@@ -11,15 +11,12 @@ fn answers(requests: &str) -> Vec<String> {
     said.out.lines().map(str::to_string).collect()
 }
 
-/// The generator's requests, but for the runs.
-fn generated(seed: u64, count: usize) -> Vec<String> {
-    let lines = generate::requests(seed, usize::MAX, false);
-    lines.filter(|line| !line.starts_with("R ")).take(count).collect()
-}
-
 #[test]
 fn thousands_of_answers_are_the_plain_checkers() {
-    let requests = generated(20260102, 4_000);
+    let requests: Vec<String> = generate::requests(20260102, 6_000, false).collect();
+    for kind in ["S ", "T ", "B ", "R "] {
+        assert!(requests.iter().filter(|request| request.starts_with(kind)).count() > 100);
+    }
     let answered = answers(&(requests.join("\n") + "\n"));
     assert_eq!(answered.len(), requests.len());
     for (request, answer) in requests.iter().zip(answered) {
@@ -69,7 +66,7 @@ fn document_01() {
 /// A line is never skipped: each of these has an answer, and the last request has its own.
 #[test]
 fn unreadable_lines_are_answered_as_such() {
-    let unreadable: [&[u8]; 26] = [
+    let unreadable: [&[u8]; 33] = [
         b"",
         b" ",
         b"S",
@@ -96,6 +93,13 @@ fn unreadable_lines_are_answered_as_such() {
         b"B 00 - 00",
         b"B 00 0 0",
         b"B 00 0 00 1",
+        b"R 00",
+        b"R 00 0 00",
+        b"R 00 0 00 ",
+        b"R 00 0 00 x",
+        b"R 00 0 00 -1",
+        b"R 00 0 00 18446744073709551616",
+        b"R 00 0 00 1 1",
     ];
     let input: Vec<u8> = [unreadable.join(&b'\n'), b"\nS 00\n".to_vec()].concat();
     let said = chelbugan_fed(&["lines"], &input);
@@ -108,12 +112,96 @@ fn unreadable_lines_are_answered_as_such() {
     assert_eq!(said.status, 0);
 }
 
-/// What is not answered yet is not answered wrongly.
+/// Document 01's runs, the line form's own example and docs/LAYOUT.md's worked states.
 #[test]
-fn runs_are_errors() {
-    let answered = answers("R 01600000 0 000b 1\nB 01600000 0 000b\n");
-    assert!(answered[0].starts_with("error "), "{answered:?}");
-    assert_eq!(answered[1..], ["yes 1"]);
+fn runs_worked_out_by_hand() {
+    let f1 = "024e024d015f004c005f00600001646200";
+    let f2 = "024e024d015f004c005f00600001646201";
+    let empty = "heap=[] locals=[] operands=[] blocks=[]";
+    let cases = [
+        (
+            format!("R {f1} 2 00fb0001fb20000b 3"),
+            "done 3 [obj:1] | place=8 heap=[0:type=1,desc=-,fields=();1:type=0,desc=0,fields=()] \
+             locals=[] operands=[obj:1] blocks=[]"
+                .to_string(),
+        ),
+        (
+            format!("R {f1} 2 00fb0001fb20000b 2"),
+            "spent 2 | place=7 heap=[0:type=1,desc=-,fields=();1:type=0,desc=0,fields=()] \
+             locals=[] operands=[obj:1] blocks=[]"
+                .to_string(),
+        ),
+        (
+            format!("R {f1} 2 00d06201fb20000b 10"),
+            "trap 43 4 2 | place=4 heap=[] locals=[] operands=[null] blocks=[]".to_string(),
+        ),
+        (
+            format!("R {f2} 2 00d071fb22000b 10"),
+            "trap 42 3 2 | place=3 heap=[] locals=[] operands=[null] blocks=[]".to_string(),
+        ),
+        (
+            format!("R {f1} 2 0003400c000b000b 10"),
+            "spent 10 | place=3 heap=[] locals=[] operands=[] blocks=[loop@1:height=0]".to_string(),
+        ),
+        (
+            "R 025f017f00600000 1 01017f417bfb0000024041071a0b1a0b 4".to_string(),
+            "spent 4 | place=12 heap=[0:type=0,desc=-,fields=(i32:-5)] locals=[i32:0] \
+             operands=[obj:0,i32:7] blocks=[block@8:height=1]"
+                .to_string(),
+        ),
+        (
+            "R 025f00600000 1 06017f017e017d017c016e0164000b 0".to_string(),
+            "spent 0 | place=14 heap=[] \
+             locals=[i32:0,i64:0,f32:00000000,f64:0000000000000000,null,unset] operands=[] blocks=[]"
+                .to_string(),
+        ),
+        ("R 01600000 0 000b 0".to_string(), format!("spent 0 | place=1 {empty}")),
+        ("R 01600000 0 000b 1".to_string(), format!("done 1 [] | place=2 {empty}")),
+        ("R 01600000 0 000b 1000000".to_string(), format!("done 1 [] | place=2 {empty}")),
+        ("R 01600000 0 000b 1000001".to_string(), "no 4 0".to_string()),
+        ("R 01600000 0 000b 18446744073709551615".to_string(), "no 4 0".to_string()),
+        ("R 025f006001640000 1 000b 1".to_string(), "no 29 0".to_string()),
+        ("R 025f006001640000 1 000b 1000001".to_string(), "no 4 0".to_string()),
+        ("R 025f006001640000 1 001a0b 1000001".to_string(), "no 20 1".to_string()),
+        ("R 01600000 1 000b 1000001".to_string(), "no 27 0".to_string()),
+        ("R - 0 - 1000001".to_string(), "no 1 0".to_string()),
+    ];
+    let requests: Vec<&str> = cases.iter().map(|(request, _)| request.as_str()).collect();
+    let answered = answers(&requests.join("\n"));
+    for ((request, wanted), answer) in cases.iter().zip(&answered) {
+        assert_eq!(answer, wanted, "{request}");
+    }
+    assert_eq!(answered.len(), cases.len());
+}
+
+/// docs/DECISIONS.md's points about the run: each request with its answer, which may break off at `..`.
+#[test]
+fn runs_of_the_decisions() {
+    let page = std::path::Path::new(env!("CARGO_MANIFEST_DIR")).join("../docs/DECISIONS.md");
+    let page = std::fs::read_to_string(page).expect("the page");
+    let shown: Vec<(String, String)> =
+        page.split("`R ").skip(1).filter_map(|rest| shown_run(&format!("R {rest}"))).collect();
+    assert!(shown.len() >= 13, "{shown:?}");
+    for (request, wanted) in shown {
+        let answer = answers(&request).remove(0);
+        let begins = wanted.split("..").next().expect("what stands before it").trim_end();
+        assert!(answer.starts_with(begins), "{request} gave {answer}");
+        assert!(wanted.contains("..") || answer == wanted, "{request} gave {answer}");
+    }
+}
+
+/// `R ..` -> `..`, with the page's short names for sections.
+fn shown_run(text: &str) -> Option<(String, String)> {
+    let (request, rest) = text.split_once("` -> `")?;
+    let answer = rest.split('`').next()?;
+    if request.contains('`') {
+        return None;
+    }
+    let f1 = "024e024d015f004c005f00600001646200";
+    Some((
+        request.replace(" V ", " 01600000 ").replace(" F1 ", &format!(" {f1} ")),
+        answer.to_string(),
+    ))
 }
 
 /// The longest body and one byte more, each with the longest section: lines of some 131,000 characters.
@@ -127,6 +215,9 @@ fn long_bodies() {
         "B {section} 0 {body}\nB {section} 0 {body}00\nB {section}00 0 {body}\nB {section} 1 {body}00\n"
     ));
     assert_eq!(answered, ["yes 32767", "no 4 0", "no 4 0", "no 4 0"]);
+    let run = answers(&format!("R {section} 0 {body} 1000000\nR {section} 0 {body}00 1000000\n"));
+    let state = "place=32768 heap=[] locals=[] operands=[] blocks=[]";
+    assert_eq!(run, [&format!("done 32767 [] | {state}"), "no 4 0"]);
 }
 
 /// The longest section and one byte more: lines of 65,536 characters and more.

@@ -216,7 +216,6 @@ fn bad_usage_is_told() {
     assert!(misused(&["check", "00", "00", "x"]).contains("a number is decimal digits"));
     assert!(misused(&["check", "00", "0", "0"]).contains("the number of hex digits is odd"));
     assert!(misused(&["check", "00", "no/such/body", "0"]).contains("no/such/body: no such file"));
-    assert!(misused(&["run", "00"]).contains("there is no command run"));
     assert!(misused(&["dump", "00"]).contains("dump does not take these arguments"));
     assert!(misused(&["type", "00", "one"]).contains("a number is decimal digits"));
     assert!(misused(&["type", "00", "-1"]).contains("a number is decimal digits"));

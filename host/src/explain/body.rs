@@ -1,7 +1,8 @@
-//! The refusal of a body whose section was accepted: the instruction at fault, what it takes and what was there.
+//! The refusal of a body, or of its run, whose section was accepted: the instruction at fault, what it takes and what was
+//! there.
 
 use super::around::{around, module_hint};
-use super::{wrapped, INPUT_BYTES, SIZE_EXCEEDED};
+use super::{stacked, wrapped, INPUT_BYTES, SIZE_EXCEEDED};
 use crate::dump;
 use crate::dump::body::{Item, Placed};
 use crate::operands::{self, Before};
@@ -9,6 +10,7 @@ use chelbugan::{Refusal, Table};
 
 const NOT_A_FUNCTION: u64 = 27;
 const BUFFER_TOO_SMALL: u64 = 14;
+const NO_DEFAULT: u64 = 29;
 
 /// What a refusal's place is.
 enum Place {
@@ -17,6 +19,9 @@ enum Place {
     Part(usize),
     TypeNumber,
     WholeInput,
+    /// Of a run.
+    Budget,
+    Parameters,
 }
 
 pub fn body_refusal(table: &Table, number: u64, body: &[u8], refusal: Refusal) -> String {
@@ -37,16 +42,21 @@ pub fn body_refusal(table: &Table, number: u64, body: &[u8], refusal: Refusal) -
         Place::WholeInput => {
             text + &format!("  it has more than {INPUT_BYTES} bytes\n") + module_hint(body)
         }
+        Place::Budget => text + "  0 stands for the budget here, and for no byte\n",
+        Place::Parameters => text + &without_default(table, number),
     }
 }
 
-/// A byte fault is the item's; every other place is where an instruction or an entry of the locals begins.
+/// A byte fault is the item's; every other place is where an instruction or an entry of the locals begins. Neither begins at
+/// 0, where the count of entries stands.
 fn place_of(body: &[u8], parts: &[Placed], refusal: Refusal) -> Place {
     let at = refusal.place as usize;
     match refusal.number {
         NOT_A_FUNCTION => Place::TypeNumber,
         BUFFER_TOO_SMALL => Place::WholeInput,
         SIZE_EXCEEDED if body.len() > INPUT_BYTES => Place::WholeInput,
+        SIZE_EXCEEDED if at == 0 => Place::Budget,
+        NO_DEFAULT if at == 0 => Place::Parameters,
         1..=3 | 5 => Place::Byte(at),
         _ => parts
             .iter()
@@ -60,6 +70,8 @@ fn named(place: &Place, at: u64) -> String {
         Place::Byte(_) | Place::Part(_) => format!("byte {at} of the body"),
         Place::TypeNumber => format!("{at}, for the type's number"),
         Place::WholeInput => format!("byte {at} of the body, for the whole input"),
+        Place::Budget => format!("{at}, for the budget"),
+        Place::Parameters => format!("{at}, for the parameters"),
     }
 }
 
@@ -70,6 +82,7 @@ fn words(number: u64, place: &Place) -> &'static str {
         (2, _) => "LEB too long or out of range",
         (3, _) => "byte or FB number not listed, or negative number as type",
         (4, Place::WholeInput) => "a size exceeded: 32,768 bytes a body",
+        (4, Place::Budget) => "a size exceeded: a budget of at most 1,000,000",
         (4, _) => {
             "a size exceeded: 256 locals with parameters; 512 operands in all frames after an instruction; 64 frames, the \
              function's own counted"
@@ -91,6 +104,7 @@ fn words(number: u64, place: &Place) -> &'static str {
         }
         (27, _) => "not a function type's number",
         (28, _) => "values left at `end`",
+        (29, Place::Parameters) => "no default: a run starts with zero or null parameters",
         (29, _) => "no default",
         _ => "a refusal that this program has no words for",
     }
@@ -101,6 +115,14 @@ fn number_told(table: &Table, number: u64) -> String {
         Some(_) => format!("  type {number} is a struct\n"),
         None => format!("  the section has {} types; there is no type {number}\n", table.count()),
     }
+}
+
+/// The parameters that 0 stands for.
+fn without_default(table: &Table, number: u64) -> String {
+    let parameters = table.row(number).map_or(Vec::new(), |function| function.parameters());
+    let lacking = parameters.iter().enumerate().filter(|(_, value)| !value.has_default());
+    let lines = lacking.map(|(index, value)| format!("  parameter {index} is {value}\n"));
+    lines.collect()
 }
 
 /// The part's own line, not indented by the blocks around it.
@@ -120,31 +142,17 @@ fn stack(table: &Table, number: u64, parts: &[Placed], part: &Placed) -> String 
     before.map_or(String::new(), |before| stack_text(&before))
 }
 
-/// Operands that are shown; of more, the topmost.
-const SHOWN: usize = 8;
-
 fn stack_text(before: &Before) -> String {
     let wanted = before.wanted.as_ref().map_or(String::new(), |wanted| {
-        format!("        it takes, the top last: {}\n", joined(wanted))
+        format!("        it takes, the top last: {}\n", stacked(wanted))
     });
     let there = match (before.unreachable, before.operands.is_empty()) {
-        (false, _) => joined(&before.operands),
+        (false, _) => stacked(&before.operands),
         (true, true) => UNKNOWNS.to_string(),
-        (true, false) => format!("{UNKNOWNS}, {}", joined(&before.operands)),
+        (true, false) => format!("{UNKNOWNS}, {}", stacked(&before.operands)),
     };
     format!("{wanted}        its block has, the top last: {there}\n")
 }
 
 /// Below the operands of a frame whose code cannot be reached.
 const UNKNOWNS: &str = "unknowns (unreachable)";
-
-fn joined<T: ToString>(items: &[T]) -> String {
-    let hidden = items.len().saturating_sub(SHOWN);
-    let mut shown: Vec<String> = items[hidden..].iter().map(T::to_string).collect();
-    match (items.is_empty(), hidden) {
-        (true, _) => return "nothing".to_string(),
-        (_, 0) => (),
-        _ => shown.insert(0, format!("{hidden} more")),
-    }
-    shown.join(", ")
-}

@@ -1,0 +1,201 @@
+//! `chelbugan run SECTION BODY TYPE BUDGET` as a person meets it. States were worked out by hand from document 01 and
+//! docs/LAYOUT.md.
+
+mod common;
+
+use common::{assert_marked, misused, no, yes, OwnFile};
+
+const F1: &str = "02 4E 02 4D 01 5F 00 4C 00 5F 00 60 00 01 64 62 00";
+
+/// A function type of nothing to nothing.
+const V: &str = "01 60 00 00";
+
+/// A struct of a mutable i32, and a function of nothing to nothing.
+const FIELD: &str = "02 5F 01 7F 01 60 00 00";
+
+/// Document 01's starred run, whole.
+#[test]
+fn a_run_that_is_done() {
+    let said = yes(&["run", F1, "00 FB 00 01 FB 20 00 0B", "2", "3"]);
+    let wanted = "\
+done after 3 steps, results: object 1
+
+  place     8, the body's end
+  heap      object 0: type 1
+            object 1: type 0, descriptor object 0
+  locals    nothing
+  operands  object 1
+  blocks    nothing
+";
+    assert_eq!(said, wanted);
+    let nothing = yes(&["run", V, "000b", "0", "1"]);
+    assert!(nothing.starts_with("done after 1 step, results: nothing\n"), "{nothing}");
+}
+
+/// The worked state of docs/LAYOUT.md that has every part in use.
+#[test]
+fn a_run_that_is_spent() {
+    let section = "02 5F 01 7F 00 60 00 00";
+    let body = "01 01 7F 41 7B FB 00 00 02 40 41 07 1A 0B 1A 0B";
+    let wanted = "\
+spent after 4 steps
+  the next instruction would be
+    12  1a                      drop
+
+  place     12, the next instruction
+  heap      object 0: type 0, fields (i32 -5)
+  locals    local 0: i32 0
+  operands  object 0, i32 7
+  blocks    block opened at 8, 1 operand below it
+";
+    assert_eq!(yes(&["run", section, body, "1", "4"]), wanted);
+    let looping = yes(&["run", F1, "00 03 40 0C 00 0B 00 0B", "2", "10"]);
+    assert!(looping.starts_with("spent after 10 steps\n"), "{looping}");
+    assert!(looping.contains("     3  0c 00                   br 0\n"), "{looping}");
+    assert!(looping.contains("  blocks    loop opened at 1, 0 operands below it\n"), "{looping}");
+    let at_once = yes(&["run", V, "000b", "0", "0"]);
+    assert!(at_once.starts_with("spent after 0 steps\n"), "{at_once}");
+    assert!(at_once.contains("  place     1, the next instruction\n"), "{at_once}");
+}
+
+/// Number, place, steps, document 01's words, the mark and the instruction, for each trap.
+#[test]
+fn traps_are_explained() {
+    let cases = [
+        (V, "00 01 00 0B", "0", ("41", 2, 2), "unreachable", "00", "unreachable"),
+        (
+            FIELD,
+            "00 D0 00 FB 02 00 00 1A 0B",
+            "1",
+            ("42", 3, 2),
+            "null used by get, set, as_non_null or ref.get_desc",
+            "fb 02 00 00",
+            "struct.get 0 0",
+        ),
+        (
+            F1,
+            "00 D0 62 01 FB 20 00 0B",
+            "2",
+            ("43", 4, 2),
+            "null descriptor, looked at before the object and before room",
+            "fb 20 00",
+            "struct.new_desc 0",
+        ),
+        (
+            F1,
+            "00 FB 00 01 FB 16 62 00 0B",
+            "2",
+            ("44", 4, 2),
+            "cast failed",
+            "fb 16 62 00",
+            "ref.cast (ref (exact 0))",
+        ),
+    ];
+    for (section, body, number, (trap, place, steps), words, marked, instruction) in cases {
+        let said = yes(&["run", section, body, number, "100"]);
+        let first = format!("trap {trap} at byte {place} of the body, after {steps} steps\n");
+        assert!(said.starts_with(&first), "{said}");
+        assert!(said.contains(words), "{said}");
+        let bytes = body.to_lowercase();
+        if marked != "00" {
+            assert_marked(&said, &bytes, marked);
+        }
+        assert!(said.contains(&format!("  {marked:<24}{instruction}\n")), "{said}");
+        assert!(said.contains(&format!("  place     {place}, the trapping instruction\n")));
+    }
+}
+
+/// 1,024 objects without a field: the loop, then three steps for each, and the one that traps. Not all are shown.
+#[test]
+fn a_full_heap_is_not_shown_whole() {
+    let section = "02 5F 00 60 00 00";
+    let said = yes(&["run", section, "00 03 40 FB 00 00 1A 0C 00 0B 0B", "1", "1000000"]);
+    assert!(said.starts_with("trap 45 at byte 3 of the body, after 3074 steps\n"), "{said}");
+    assert!(said.contains("1,024 objects exist"), "{said}");
+    assert!(said.contains("            object 15: type 0\n            and 1008 more\n"), "{said}");
+    assert!(!said.contains("object 16"), "{said}");
+}
+
+/// Every kind of value, in a local; the last of them holds none.
+#[test]
+fn values_are_told() {
+    let section = "02 5F 00 60 00 00";
+    let body = "06 01 7F 01 7E 01 7D 01 7C 01 6E 02 64 00 FB 00 00 21 05 41 7B 21 00 0B";
+    let said = yes(&["run", section, body, "1", "4"]);
+    for local in [
+        "  locals    local 0: i32 -5\n",
+        "            local 1: i64 0\n",
+        "            local 2: f32 0.0\n",
+        "            local 3: f64 0.0\n",
+        "            local 4: null\n",
+        "            local 5: object 0\n",
+        "            local 6: no value\n",
+    ] {
+        assert!(said.contains(local), "{local:?} is not in\n{said}");
+    }
+}
+
+/// Ten operands below each other: the eight on top are shown.
+#[test]
+fn operands_are_told_from_the_top() {
+    let body = format!("00 {}00 0B", "41 01 ".repeat(10));
+    let said = yes(&["run", V, &body, "0", "10"]);
+    let shown = vec!["i32 1"; 8].join(", ");
+    assert!(said.contains(&format!("  operands  2 more, {shown}\n")), "{said}");
+}
+
+/// A run's own refusals: their place is no byte, and nothing is marked.
+#[test]
+fn budget_and_parameters_are_told_apart_from_bytes() {
+    let budget = no(&["run", V, "000b", "0", "1000001"]);
+    assert!(budget.starts_with("no: refusal 4 at 0, for the budget\n"), "{budget}");
+    assert!(budget.contains("a budget of at most 1,000,000"), "{budget}");
+    assert!(budget.contains("0 stands for the budget here, and for no byte"), "{budget}");
+    // Parameters i32, (ref 0), (ref null 0), (ref any).
+    let section = "02 5F 00 60 04 7F 64 00 63 00 64 6E 00";
+    let parameters = no(&["run", section, "000b", "1", "1"]);
+    assert!(parameters.starts_with("no: refusal 29 at 0, for the parameters\n"), "{parameters}");
+    assert!(parameters.contains("a run starts with zero or null parameters"), "{parameters}");
+    assert!(
+        parameters.ends_with("  parameter 1 is (ref 0)\n  parameter 3 is (ref any)\n"),
+        "{parameters}"
+    );
+    for said in [&budget, &parameters] {
+        assert!(!said.contains("^^"), "{said}");
+    }
+    let both = no(&["run", section, "000b", "1", "1000001"]);
+    assert!(both.starts_with("no: refusal 4 at 0, for the budget\n"), "{both}");
+}
+
+/// The body's refusals come before the run's, and are explained as for `check`.
+#[test]
+fn refusals_of_the_body_are_explained_as_by_check() {
+    let whole = OwnFile::new("long-run", &[0; 40_000]);
+    let cases = [
+        (F1, "00 FB 00 00 0B", "2"),
+        (F1, "00 FB 00 01 FB 20 00 0B", "0"),
+        (F1, "01 01 64 01 FB 00 01 21 00 20 00 FB 20 00 0B", "2"),
+        ("02 5F 01 64 00 00 60 00 00", "00 FB 01 00 1A 0B", "1"),
+        (V, "00", "0"),
+        (V, "-", "0"),
+        (V, whole.name(), "0"),
+        ("00 00", "000b", "0"),
+    ];
+    for (section, body, number) in cases {
+        let said = no(&["run", section, body, number, "1000001"]);
+        assert_eq!(said, no(&["check", section, body, number]), "{section}, {body}");
+    }
+}
+
+#[test]
+fn bad_usage_of_run_is_told() {
+    assert!(misused(&["run"]).contains("run does not take these arguments"));
+    assert!(misused(&["run", V, "000b", "0"]).contains("run does not take these arguments"));
+    assert!(misused(&["run", V, "000b", "0", "-1"]).contains("-1: a number is decimal digits"));
+    assert!(misused(&["run", V, "000b", "x", "1"]).contains("x: a number is decimal digits"));
+    assert!(misused(&["run", V, "00b", "0", "1"]).contains("the number of hex digits is odd"));
+    assert!(misused(&["run", V, "no/such", "0", "1"]).contains("no/such: no such file"));
+    assert!(misused(&["run", "no/such", "000b", "0", "1"]).contains("no/such: no such file"));
+    let huge = "99999999999999999999";
+    assert!(misused(&["run", V, "000b", "0", huge]).contains("a number is below 2 to the 64"));
+}
