@@ -3,7 +3,8 @@
 
 mod common;
 
-use common::{assert_marked, misused, no, yes, OwnFile};
+use common::{assert_marked, chelbugan, misused, no, yes, OwnFile};
+use plain::generate;
 
 const F1: &str = "02 4E 02 4D 01 5F 00 4C 00 5F 00 60 00 01 64 62 00";
 
@@ -62,7 +63,7 @@ spent after 4 steps
 #[test]
 fn traps_are_explained() {
     let cases = [
-        (V, "00 01 00 0B", "0", ("41", 2, 2), "unreachable", "00", "unreachable"),
+        (V, "01 01 7F 01 00 0B", "0", ("41", 4, 2), "unreachable", "00", "unreachable"),
         (
             FIELD,
             "00 D0 00 FB 02 00 00 1A 0B",
@@ -96,10 +97,7 @@ fn traps_are_explained() {
         let first = format!("trap {trap} at byte {place} of the body, after {steps} steps\n");
         assert!(said.starts_with(&first), "{said}");
         assert!(said.contains(words), "{said}");
-        let bytes = body.to_lowercase();
-        if marked != "00" {
-            assert_marked(&said, &bytes, marked);
-        }
+        assert_marked(&said, &body.to_lowercase(), marked);
         assert!(said.contains(&format!("  {marked:<24}{instruction}\n")), "{said}");
         assert!(said.contains(&format!("  place     {place}, the trapping instruction\n")));
     }
@@ -198,4 +196,39 @@ fn bad_usage_of_run_is_told() {
     assert!(misused(&["run", "no/such", "000b", "0", "1"]).contains("no/such: no such file"));
     let huge = "99999999999999999999";
     assert!(misused(&["run", V, "000b", "0", huge]).contains("a number is below 2 to the 64"));
+}
+
+/// Generated runs, short enough for a command line: the first line says what the plain checker says of the same request.
+#[test]
+fn generated_runs_are_told() {
+    let lines = generate::requests(41, usize::MAX, true).filter(|line| line.starts_with("R "));
+    let mut told = [0; 4];
+    for line in lines.filter(|line| line.len() < 2_000).take(600) {
+        let parts: Vec<&str> = line.split(' ').collect();
+        let said = chelbugan(&["run", parts[1], parts[3], parts[2], parts[4]]);
+        let answer = plain::lines::answer(&line);
+        let (status, first, kind) = first_line(&answer);
+        assert_eq!((said.status, said.err.as_str()), (status, ""), "{line}\n{}", said.out);
+        assert!(said.out.starts_with(&first), "{line}\n{answer}\n{}", said.out);
+        told[kind] += 1;
+    }
+    assert!(told.iter().all(|&count| count > 30), "{told:?} of done, trap, spent, no");
+}
+
+/// The exit status, how the first line begins, and which of the four answers it is.
+fn first_line(answer: &str) -> (i32, String, usize) {
+    let steps = |count: &str| match count {
+        "1" => "1 step".to_string(),
+        _ => format!("{count} steps"),
+    };
+    let parts: Vec<&str> = answer.split(' ').collect();
+    match parts[..] {
+        ["done", count, ..] => (0, format!("done after {}, results: ", steps(count)), 0),
+        ["trap", number, place, count, ..] => {
+            (0, format!("trap {number} at byte {place} of the body, after {}\n", steps(count)), 1)
+        }
+        ["spent", count, ..] => (0, format!("spent after {}\n", steps(count)), 2),
+        ["no", number, ..] => (1, format!("no: refusal {number} at "), 3),
+        _ => panic!("{answer} is no answer of a run"),
+    }
 }

@@ -1,73 +1,73 @@
 //! One request to the library and to the plain checker: the answers and every lent word must be the same.
 
 use crate::expected;
+use crate::memory::{Lengths, Memory, SIZES};
 use crate::requests::Request;
-use chelbugan::calls;
+use crate::tally::Tally;
+use chelbugan::calls::{self, Ended, RunMemory};
 use plain::body::judge_body;
 use plain::generate::random::Random;
+use plain::machine::{trial_run, Outcome, Run};
 use plain::refusal::Refusal;
 use plain::section::judge_section;
 use plain::syntax::Type;
-use std::collections::BTreeMap;
-use std::fmt;
 
 /// An answer without its kind of call: values, or the refusal.
 #[derive(Clone, Debug, PartialEq, Eq)]
 pub enum Answer {
     Count(u64),
     Bytes(u64, u64),
+    /// Steps, and count of results.
+    Done(u64, u64),
+    /// Number, place, steps.
+    Trap(u64, u64, u64),
+    /// Steps.
+    Spent(u64),
     No(u64, u64),
 }
 
-/// How many elements each buffer has that is lent.
-#[derive(Clone, Copy, Debug, PartialEq, Eq)]
-pub struct Lengths {
-    pub rows: usize,
-    pub codes: usize,
-    /// Lent with a body alone.
-    pub work: usize,
-}
-
-/// The very sizes of docs/LAYOUT.md.
-pub const SIZES: Lengths =
-    Lengths { rows: expected::ROWS, codes: expected::CODES, work: expected::WORK };
-
-/// The buffers that are lent.
-pub struct Lent<'a> {
-    pub rows: &'a mut [u16],
-    pub codes: &'a mut [u16],
-    pub work: &'a mut [u32],
-}
-
-/// An answer with the memory that it left; without the work buffer where none was lent.
-#[derive(PartialEq, Eq)]
+/// An answer with the memory that it left.
+#[derive(Clone, Debug, PartialEq, Eq)]
 pub struct Left {
     pub answer: Answer,
-    pub rows: Vec<u16>,
-    pub codes: Vec<u16>,
-    pub work: Vec<u32>,
+    pub memory: Memory,
 }
 
 /// What the library answers with these lent buffers.
-pub fn ask_library(request: &Request, lent: Lent) -> Answer {
-    let Lent { rows, codes, work } = lent;
+pub fn ask_library(request: &Request, lent: &mut RunMemory) -> Answer {
     let answered = match request {
-        Request::Section(section) => calls::judge_section(section, rows, codes).map(Answer::Count),
+        Request::Section(section) => {
+            calls::judge_section(section, lent.rows, lent.codes).map(Answer::Count)
+        }
         Request::Type(section, number) => {
-            let found = calls::ask_type(section, u64::from(*number), rows, codes);
+            let found = calls::ask_type(section, u64::from(*number), lent.rows, lent.codes);
             found.map(|bytes| Answer::Bytes(bytes.from, bytes.to))
         }
         Request::Body(section, number, body) => {
-            calls::judge_body(section, body, *number, rows, codes, work).map(Answer::Count)
+            let judged =
+                calls::judge_body(section, body, *number, lent.rows, lent.codes, lent.work);
+            judged.map(Answer::Count)
+        }
+        Request::Run(section, number, body, budget) => {
+            calls::try_run(section, body, *number, *budget, lent).map(run_answer)
         }
     };
     answered.unwrap_or_else(|refusal| Answer::No(refusal.number, refusal.place))
 }
 
+fn run_answer(ended: Ended) -> Answer {
+    match ended {
+        Ended::Done { steps, results } => Answer::Done(steps, results),
+        Ended::Trap { number, place, steps } => Answer::Trap(number, place, steps),
+        Ended::Spent { steps } => Answer::Spent(steps),
+    }
+}
+
 /// What document 01 asks for with buffers of these lengths, by the plain checker.
 pub fn ask_plain(request: &Request, lengths: Lengths) -> Left {
-    if too_short(request, lengths) {
-        return zeroed(request, Answer::No(14, 0), lengths);
+    let lengths = lent_to(request, lengths);
+    if is_short(request, lengths) {
+        return zeroed(Answer::No(14, 0), lengths);
     }
     let judged = match request {
         Request::Section(section) => judge_section(section).map(|types| table(&types, lengths)),
@@ -76,17 +76,27 @@ pub fn ask_plain(request: &Request, lengths: Lengths) -> Left {
         }
         Request::Body(section, number, body) => {
             let judged = judge_body(section, nearest(*number), body);
-            judged.map(|body| zeroed(request, Answer::Count(body.code.len() as u64), lengths))
+            judged.map(|body| zeroed(Answer::Count(body.code.len() as u64), lengths))
+        }
+        Request::Run(section, number, body, budget) => {
+            trial_run(section, nearest(*number), body, *budget).map(|run| state(&run, lengths))
         }
     };
     judged.unwrap_or_else(|Refusal { number, place }| {
-        zeroed(request, Answer::No(u64::from(number), place as u64), lengths)
+        zeroed(Answer::No(u64::from(number), place as u64), lengths)
     })
 }
 
-fn too_short(request: &Request, lengths: Lengths) -> bool {
-    let scratch = matches!(request, Request::Body(..)) && lengths.work < SIZES.work;
-    scratch || lengths.rows < SIZES.rows || lengths.codes < SIZES.codes
+/// Without the buffers that this call is not lent.
+pub fn lent_to(request: &Request, mut lengths: Lengths) -> Lengths {
+    lengths[request.buffers()..].fill(0);
+    lengths
+}
+
+/// Whether a buffer that this call is lent is under its size.
+pub fn is_short(request: &Request, lengths: Lengths) -> bool {
+    let lent = lengths.iter().zip(SIZES).take(request.buffers());
+    lent.into_iter().any(|(&length, size)| length < size)
 }
 
 /// The plain checker takes numbers below 2 to the 32; there are no types of the greatest of them or beyond.
@@ -95,8 +105,11 @@ fn nearest(number: u64) -> u32 {
 }
 
 fn table(types: &[Type], lengths: Lengths) -> Left {
-    let (rows, codes) = expected::table(types, lengths.rows, lengths.codes);
-    Left { answer: Answer::Count(types.len() as u64), rows, codes, work: Vec::new() }
+    let mut left = zeroed(Answer::Count(types.len() as u64), lengths);
+    let (rows, codes) = expected::table(types);
+    put(&mut left.memory.rows, &rows);
+    put(&mut left.memory.codes, &codes);
+    left
 }
 
 /// The table as after the section alone; an absent number is refusal 6 with that number as place.
@@ -107,9 +120,30 @@ fn type_of(types: &[Type], number: u32, lengths: Lengths) -> Result<Left, Refusa
     Ok(Left { answer, ..table(types, lengths) })
 }
 
-fn zeroed(request: &Request, answer: Answer, lengths: Lengths) -> Left {
-    let work = if let Request::Body(..) = request { lengths.work } else { 0 };
-    Left { answer, rows: vec![0; lengths.rows], codes: vec![0; lengths.codes], work: vec![0; work] }
+fn state(run: &Run, lengths: Lengths) -> Left {
+    let answer = match run.outcome {
+        Outcome::Done => Answer::Done(run.steps, run.state.operands.len() as u64),
+        Outcome::Trap(number) => Answer::Trap(number.into(), run.place as u64, run.steps),
+        Outcome::Spent => Answer::Spent(run.steps),
+    };
+    let mut left = zeroed(answer, lengths);
+    let words = expected::state(run);
+    put(&mut left.memory.counts, &words.counts);
+    put(&mut left.memory.objects, &words.objects);
+    put(&mut left.memory.cells, &words.cells);
+    put(&mut left.memory.locals, &words.locals);
+    put(&mut left.memory.operands, &words.operands);
+    put(&mut left.memory.blocks, &words.blocks);
+    left
+}
+
+/// From the first word on; what lies beyond stays zero.
+fn put<T: Copy>(memory: &mut [T], words: &[T]) {
+    memory[..words.len()].copy_from_slice(words);
+}
+
+fn zeroed(answer: Answer, lengths: Lengths) -> Left {
+    Left { answer, memory: Memory::filled(lengths, 0) }
 }
 
 /// Where the two differ, in words.
@@ -117,101 +151,37 @@ pub fn difference(library: &Left, plain: &Left) -> Option<String> {
     if library.answer != plain.answer {
         return Some(format!("library: {:?}\nplain:   {:?}", library.answer, plain.answer));
     }
-    differing_word("rows", &library.rows, &plain.rows)
-        .or_else(|| differing_word("codes", &library.codes, &plain.codes))
-        .or_else(|| differing_word("work", &library.work, &plain.work))
-}
-
-fn differing_word<T: PartialEq + fmt::Display>(
-    name: &str,
-    is: &[T],
-    wanted: &[T],
-) -> Option<String> {
-    if is.len() != wanted.len() {
-        return Some(format!("{name} has {} words and should have {}", is.len(), wanted.len()));
-    }
-    let at = (0..is.len()).find(|&at| is[at] != wanted[at])?;
-    Some(format!("{name}[{at}] is {} and should be {}", is[at], wanted[at]))
+    library.memory.difference(&plain.memory)
 }
 
 /// Asks on and on, with buffers full of rubbish before each request, and counts the answers.
 pub struct Comparison {
     random: Random,
-    counts: BTreeMap<(&'static str, Option<u64>), usize>,
+    tally: Tally,
 }
 
 impl Comparison {
     pub fn new(seed: u64) -> Comparison {
-        Comparison { random: Random::new(!seed), counts: BTreeMap::new() }
+        Comparison { random: Random::new(!seed), tally: Tally::default() }
     }
 
     pub fn ask(&mut self, request: &Request) -> Result<(), String> {
         // Mostly the very size, now and then more of it.
         let more = if self.random.one_in(4) { self.random.below(100) } else { 0 };
-        let lends_work = matches!(request, Request::Body(..));
-        let lengths = Lengths {
-            rows: SIZES.rows + more,
-            codes: SIZES.codes + more,
-            work: if lends_work { SIZES.work + more } else { 0 },
-        };
-        let left = self.left(request, lengths);
-        self.count(request, &left.answer);
-        match difference(&left, &ask_plain(request, lengths)) {
+        let lengths = lent_to(request, SIZES.map(|size| size + more));
+        // A word's worth of chance, repeated: cheap, and never all zero.
+        let rubbish = self.random.draw() | 0x0001_0001_0001_0001;
+        let mut memory = Memory::filled(lengths, rubbish);
+        let answer = ask_library(request, &mut memory.lent());
+        self.tally.count(request, &answer);
+        match difference(&Left { answer, memory }, &ask_plain(request, lengths)) {
             None => Ok(()),
             Some(difference) => Err(difference),
         }
     }
 
-    fn left(&mut self, request: &Request, lengths: Lengths) -> Left {
-        // A word's worth of chance, repeated: cheap, and never all zero.
-        let rubbish = self.random.draw() as u32 | 0x1_0001;
-        let mut rows = vec![rubbish as u16; lengths.rows];
-        let mut codes = vec![rubbish as u16; lengths.codes];
-        let mut work = vec![rubbish; lengths.work];
-        let lent = Lent { rows: &mut rows, codes: &mut codes, work: &mut work };
-        let answer = ask_library(request, lent);
-        Left { answer, rows, codes, work }
-    }
-
     /// How many answers there were of each kind.
-    pub fn tally(&self) -> Tally<'_> {
-        Tally(&self.counts)
-    }
-
-    fn count(&mut self, request: &Request, answer: &Answer) {
-        let refusal = match answer {
-            Answer::No(number, _) => Some(*number),
-            _ => None,
-        };
-        *self.counts.entry((request.kind(), refusal)).or_default() += 1;
-    }
-}
-
-/// Answers by what was judged, and by the refusal's number, none for a yes.
-pub struct Tally<'a>(&'a BTreeMap<(&'static str, Option<u64>), usize>);
-
-impl Tally<'_> {
-    pub fn of(&self, kind: &'static str, refusal: Option<u64>) -> usize {
-        self.0.get(&(kind, refusal)).copied().unwrap_or(0)
-    }
-}
-
-/// A line for each kind of request.
-impl fmt::Display for Tally<'_> {
-    fn fmt(&self, to: &mut fmt::Formatter) -> fmt::Result {
-        for judged in ["sections", "types", "bodies"] {
-            let own = self.0.iter().filter(|((kind, _), _)| *kind == judged);
-            let answers: Vec<String> =
-                own.map(|((_, refusal), count)| told(*refusal, *count)).collect();
-            writeln!(to, "{judged}: {}", answers.join(", "))?;
-        }
-        Ok(())
-    }
-}
-
-fn told(refusal: Option<u64>, count: usize) -> String {
-    match refusal {
-        None => format!("yes {count}"),
-        Some(number) => format!("no {number}: {count}"),
+    pub fn tally(&self) -> &Tally {
+        &self.tally
     }
 }

@@ -1,21 +1,28 @@
-//! What docs/LAYOUT.md says of the lent words, put together from the plain checker's tree.
+//! What docs/LAYOUT.md says of the lent words, put together from the plain checker's tree and from the state of its run.
 
+use plain::machine::Run;
+use plain::state::{BlockKind, Object, OpenBlock, Value};
 use plain::syntax::{Abstract, Definition, Field, Form, Heap, Reference, Type, ValueType};
 
 /// The sizes of docs/LAYOUT.md, in elements.
 pub const ROWS: usize = 3_072;
 pub const CODES: usize = 32_768;
 pub const WORK: usize = 4_096;
+pub const ENDS: usize = 32_768;
+pub const COUNTS: usize = 6;
+pub const OBJECTS: usize = 4_096;
+pub const CELLS: usize = 8_192;
+pub const LOCALS: usize = 512;
+pub const OPERANDS: usize = 1_024;
+pub const BLOCKS: usize = 189;
 
-/// The table of an accepted section in buffers of these lengths, zero beyond.
-pub fn table(types: &[Type], rows_len: usize, codes_len: usize) -> (Vec<u16>, Vec<u16>) {
+/// The rows and codes of an accepted section's table, without what is zero beyond.
+pub fn table(types: &[Type]) -> (Vec<u16>, Vec<u16>) {
     let (mut rows, mut codes) = (Vec::new(), Vec::new());
     for found in types {
         rows.extend(row(found, codes.len()));
         codes.extend(codes_of(&found.definition.form));
     }
-    rows.resize(rows_len, 0);
-    codes.resize(codes_len, 0);
     (rows, codes)
 }
 
@@ -84,4 +91,61 @@ fn heap_code(heap: &Heap) -> u16 {
         Heap::Defined(number) => 10 + 2 * *number as u16,
         Heap::Exact(number) => 11 + 2 * *number as u16,
     }
+}
+
+/// The words of a run's state, without what is zero beyond.
+pub struct StateWords {
+    pub counts: Vec<u64>,
+    pub objects: Vec<u16>,
+    pub cells: Vec<u64>,
+    pub locals: Vec<u64>,
+    pub operands: Vec<u64>,
+    pub blocks: Vec<u16>,
+}
+
+pub fn state(run: &Run) -> StateWords {
+    let state = &run.state;
+    let cells: Vec<Value> = state.heap.iter().flat_map(|object| object.fields.clone()).collect();
+    let sizes = [cells.len(), state.locals.len(), state.operands.len(), state.blocks.len()];
+    let counts = [run.place, state.heap.len()].into_iter().chain(sizes);
+    StateWords {
+        counts: counts.map(|count| count as u64).collect(),
+        objects: objects(&state.heap),
+        cells: cells.iter().flat_map(|&value| value_words(value)).collect(),
+        locals: state.locals.iter().flat_map(|local| local.map_or([0, 0], value_words)).collect(),
+        operands: state.operands.iter().flat_map(|&value| value_words(value)).collect(),
+        blocks: state.blocks.iter().flat_map(|block| block_words(run, block)).collect(),
+    }
+}
+
+/// Each object's cells begin where those of the one before end.
+fn objects(heap: &[Object]) -> Vec<u16> {
+    let mut words = Vec::new();
+    let mut first_cell = 0;
+    for object in heap {
+        let descriptor = object.descriptor.map_or(0, |number| number as u16 + 1);
+        let fields = object.fields.len() as u16;
+        words.extend([object.type_number as u16, descriptor, first_cell, fields]);
+        first_cell += fields;
+    }
+    words
+}
+
+fn value_words(value: Value) -> [u64; 2] {
+    match value {
+        Value::I32(number) => [1, u64::from(number as u32)],
+        Value::I64(number) => [2, number as u64],
+        Value::F32(number) => [3, u64::from(number.to_bits())],
+        Value::F64(number) => [4, number.to_bits()],
+        Value::Null => [5, 0],
+        Value::Object(number) => [6, number as u64],
+    }
+}
+
+fn block_words(run: &Run, block: &OpenBlock) -> [u16; 3] {
+    let kind = match block.kind {
+        BlockKind::Block => 1,
+        BlockKind::Loop => 2,
+    };
+    [kind, run.code[block.opened_by].place as u16, block.height as u16]
 }

@@ -104,6 +104,34 @@ impl<T> Drop for Guarded<T> {
     }
 }
 
+/// On which side of a piece of memory the guard page lies next to it.
+#[derive(Clone, Copy, Debug)]
+pub enum Side {
+    Before,
+    Behind,
+}
+
+pub fn placed<T: Number>(side: Side, length: usize) -> Guarded<T> {
+    match side {
+        Side::Before => Guarded::starting_after_guard(length),
+        Side::Behind => Guarded::ending_at_guard(length),
+    }
+}
+
+/// Bytes that cannot be written.
+pub fn read_only(side: Side, content: &[u8]) -> Guarded<u8> {
+    let mut memory = placed(side, content.len());
+    memory.as_mut_slice().copy_from_slice(content);
+    memory.read_only()
+}
+
+/// Memory that holds the same in every element.
+pub fn filled<T: Number>(side: Side, length: usize, with: T) -> Guarded<T> {
+    let mut memory = placed(side, length);
+    memory.as_mut_slice().fill(with);
+    memory
+}
+
 fn page_size() -> usize {
     // SAFETY: it only answers a number.
     unsafe { sysconf(PAGE_SIZE) as usize }

@@ -1,6 +1,7 @@
-//! The call on bodies with every pointer of the caller's own, the answer's too, as a host in C makes it.
+//! The calls on bodies and runs with every pointer of the caller's own, the answer's too, as a host in C makes them.
 
 use crate::compare::Answer;
+use chelbugan::calls::RunMemory;
 
 extern "C" {
     fn chelbugan_judge_body(
@@ -15,6 +16,36 @@ extern "C" {
         codes_len: usize,
         work: *mut u32,
         work_len: usize,
+        answer: *mut u64,
+    ) -> u64;
+
+    fn chelbugan_try_run(
+        section: *const u8,
+        section_len: usize,
+        body: *const u8,
+        body_len: usize,
+        number: u64,
+        budget: u64,
+        rows: *mut u16,
+        rows_len: usize,
+        codes: *mut u16,
+        codes_len: usize,
+        work: *mut u32,
+        work_len: usize,
+        ends: *mut u16,
+        ends_len: usize,
+        counts: *mut u64,
+        counts_len: usize,
+        objects: *mut u16,
+        objects_len: usize,
+        cells: *mut u64,
+        cells_len: usize,
+        locals: *mut u64,
+        locals_len: usize,
+        operands: *mut u64,
+        operands_len: usize,
+        blocks: *mut u16,
+        blocks_len: usize,
         answer: *mut u64,
     ) -> u64;
 }
@@ -55,4 +86,60 @@ pub fn judge_body(handed: &mut Handed) -> (u64, Answer) {
         0 => (kind, Answer::No(handed.answer[0], handed.answer[1])),
         _ => (kind, Answer::Count(handed.answer[0])),
     }
+}
+
+/// What is handed in for a run.
+pub struct HandedRun<'a> {
+    pub section: &'a [u8],
+    pub body: &'a [u8],
+    pub number: u64,
+    pub budget: u64,
+    pub memory: RunMemory<'a>,
+    /// Three words.
+    pub answer: &'a mut [u64],
+}
+
+/// The number returned, and the answer that it and the three words tell.
+pub fn try_run(handed: &mut HandedRun) -> (u64, Answer) {
+    let HandedRun { section, body, number, budget, memory, answer } = handed;
+    assert_eq!(answer.len(), 3);
+    // SAFETY: as above.
+    let kind = unsafe {
+        chelbugan_try_run(
+            section.as_ptr(),
+            section.len(),
+            body.as_ptr(),
+            body.len(),
+            *number,
+            *budget,
+            memory.rows.as_mut_ptr(),
+            memory.rows.len(),
+            memory.codes.as_mut_ptr(),
+            memory.codes.len(),
+            memory.work.as_mut_ptr(),
+            memory.work.len(),
+            memory.ends.as_mut_ptr(),
+            memory.ends.len(),
+            memory.counts.as_mut_ptr(),
+            memory.counts.len(),
+            memory.objects.as_mut_ptr(),
+            memory.objects.len(),
+            memory.cells.as_mut_ptr(),
+            memory.cells.len(),
+            memory.locals.as_mut_ptr(),
+            memory.locals.len(),
+            memory.operands.as_mut_ptr(),
+            memory.operands.len(),
+            memory.blocks.as_mut_ptr(),
+            memory.blocks.len(),
+            answer.as_mut_ptr(),
+        )
+    };
+    let told = match kind {
+        0 => Answer::No(answer[0], answer[1]),
+        1 => Answer::Done(answer[0], answer[1]),
+        2 => Answer::Trap(answer[0], answer[1], answer[2]),
+        _ => Answer::Spent(answer[0]),
+    };
+    (kind, told)
 }

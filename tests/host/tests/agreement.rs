@@ -1,15 +1,18 @@
 //! Some thousands of comparisons; `host_tests compare SEED COUNT` makes as many as asked for.
 
-use host_tests::compare::{ask_plain, difference, Answer, Comparison, Left, SIZES};
+use host_tests::compare::{ask_plain, difference, Answer, Comparison, Left};
 use host_tests::expected;
+use host_tests::memory::SIZES;
 use host_tests::requests::{self, Request};
+use host_tests::tally::Kind;
 
 const SEED: u64 = 20260101;
-const COUNT: usize = 12_000;
+const COUNT: usize = 16_000;
 
 /// What a section is refused by, and what a body is refused by besides; 14 is for tests/memory.rs.
 const OF_SECTIONS: [u64; 13] = [1, 2, 3, 4, 5, 6, 7, 8, 9, 10, 11, 12, 13];
 const OF_BODIES: [u64; 9] = [20, 21, 22, 23, 24, 25, 27, 28, 29];
+const TRAPS: [u64; 5] = [41, 42, 43, 44, 45];
 
 #[test]
 fn the_library_and_the_plain_checker_agree() {
@@ -18,17 +21,20 @@ fn the_library_and_the_plain_checker_agree() {
         agree(&mut comparison, &request);
     }
     let tally = comparison.tally();
-    for kind in ["sections", "types", "bodies"] {
-        assert!(tally.of(kind, None) > 0, "no request about {kind} was accepted:\n{tally}");
+    for asked in ["sections", "types", "bodies"] {
+        assert!(tally.of(asked, Kind::Yes) > 0, "no request about {asked} was accepted:\n{tally}");
     }
     for number in OF_SECTIONS {
-        assert!(
-            tally.of("sections", Some(number)) > 0,
-            "no section is refused by {number}:\n{tally}"
-        );
+        let refused = tally.of("sections", Kind::No(number));
+        assert!(refused > 0, "no section is refused by {number}:\n{tally}");
     }
     for number in OF_SECTIONS.into_iter().chain(OF_BODIES) {
-        assert!(tally.of("bodies", Some(number)) > 0, "no body is refused by {number}:\n{tally}");
+        let refused = |asked| tally.of(asked, Kind::No(number)) > 0;
+        assert!(refused("bodies"), "no body is refused by {number}:\n{tally}");
+        assert!(refused("runs"), "no run is refused by {number}:\n{tally}");
+    }
+    for ending in [Kind::Done, Kind::Spent].into_iter().chain(TRAPS.map(Kind::Trap)) {
+        assert!(tally.of("runs", ending) > 20, "few runs end with {ending}:\n{tally}");
     }
 }
 
@@ -85,25 +91,46 @@ fn a_type_number_is_taken_whole() {
 fn a_word_that_is_off_is_found() {
     let requests = [Request::Section(section()), Request::Body(section(), 5, body().0)];
     let spoilt: [fn(&mut Left); 5] = [
-        |left| left.rows[expected::ROWS - 1] = 1,
-        |left| left.rows[9] += 1,
-        |left| left.codes[0] ^= 1,
-        |left| left.work.push(0),
+        |left| left.memory.rows[expected::ROWS - 1] = 1,
+        |left| left.memory.rows[9] += 1,
+        |left| left.memory.codes[0] ^= 1,
+        |left| left.memory.work.push(0),
         |left| left.answer = Answer::Count(5),
     ];
     for request in requests {
-        let plain = || ask_plain(&request, SIZES);
-        assert_eq!(difference(&plain(), &plain()), None);
-        for spoil in spoilt {
-            let mut left = plain();
-            spoil(&mut left);
-            assert!(difference(&left, &plain()).is_some());
-        }
+        found(&request, &spoilt);
     }
-    let mut left = ask_plain(&Request::Body(section(), 5, body().0), SIZES);
-    left.work[expected::WORK - 1] = 1;
-    let plain = ask_plain(&Request::Body(section(), 5, body().0), SIZES);
-    assert!(difference(&left, &plain).is_some());
+    found(
+        &Request::Body(section(), 5, body().0),
+        &[|left| left.memory.work[expected::WORK - 1] = 1],
+    );
+    let run: [fn(&mut Left); 9] = [
+        |left| left.memory.ends[expected::ENDS - 1] = 1,
+        |left| left.memory.counts[0] += 1,
+        |left| left.memory.objects[expected::OBJECTS - 1] = 1,
+        |left| left.memory.cells[1] ^= 1,
+        |left| left.memory.locals[0] = 0,
+        |left| left.memory.operands[3] += 1,
+        |left| left.memory.blocks[expected::BLOCKS - 1] = 1,
+        |left| left.memory.blocks.push(0),
+        |left| left.answer = Answer::Spent(5),
+    ];
+    // docs/LAYOUT.md's state with every buffer in use.
+    let section = vec![0x02, 0x5F, 0x01, 0x7F, 0x00, 0x60, 0x00, 0x00];
+    let body = [0x01, 0x01, 0x7F, 0x41, 0x7B, 0xFB, 0x00, 0x00, 0x02, 0x40, 0x41, 0x07, 0x1A];
+    let body = [&body[..], &[0x0B, 0x1A, 0x0B]].concat();
+    found(&Request::Run(section, 1, body, 4), &run);
+}
+
+/// Each way to spoil what the plain checker says is a difference.
+fn found(request: &Request, spoilt: &[fn(&mut Left)]) {
+    let plain = || ask_plain(request, SIZES);
+    assert_eq!(difference(&plain(), &plain()), None);
+    for spoil in spoilt {
+        let mut left = plain();
+        spoil(&mut left);
+        assert!(difference(&left, &plain()).is_some(), "{request}");
+    }
 }
 
 fn cuts_and_flips(whole: &[u8]) -> Vec<Vec<u8>> {

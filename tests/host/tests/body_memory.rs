@@ -1,8 +1,10 @@
 //! Memory handed in with a body, seen from outside: all six pieces between guard pages; lent buffers too short, of length 0,
 //! longer than asked, full of rubbish.
 
-use host_tests::compare::{ask_plain, difference, Answer, Left, Lengths, SIZES};
-use host_tests::guarded::{Guarded, Number};
+use host_tests::compare::{ask_plain, difference, Answer, Left};
+use host_tests::expected::{CODES, ROWS, WORK};
+use host_tests::guarded::{filled, read_only, Side};
+use host_tests::memory::{first, Memory, SIZES};
 use host_tests::raw::{judge_body, Handed};
 use host_tests::requests::Request;
 
@@ -111,45 +113,24 @@ fn the_cases_are_answered_as_worked_out_by_hand() {
             case.answer,
             "the plain checker on {request}"
         );
-        let left = ask_guarded(&case, Side::Behind, SIZES, 0);
+        let left = ask_guarded(&case, Side::Behind, OWN, 0);
         assert_eq!(left.answer, case.answer, "the library on {request}");
     }
 }
 
-/// On which side of each piece of memory the guard page lies next to it.
-#[derive(Clone, Copy, Debug)]
-enum Side {
-    Before,
-    Behind,
-}
+/// Elements of `rows`, `codes` and `work`.
+type Lengths = (usize, usize, usize);
 
-fn lent<T: Number>(side: Side, length: usize, rubbish: T) -> Guarded<T> {
-    let mut memory = placed(side, length);
-    memory.as_mut_slice().fill(rubbish);
-    memory
-}
-
-fn placed<T: Number>(side: Side, length: usize) -> Guarded<T> {
-    match side {
-        Side::Before => Guarded::starting_after_guard(length),
-        Side::Behind => Guarded::ending_at_guard(length),
-    }
-}
-
-fn read_only(side: Side, content: &[u8]) -> Guarded<u8> {
-    let mut memory = placed(side, content.len());
-    memory.as_mut_slice().copy_from_slice(content);
-    memory.read_only()
-}
+const OWN: Lengths = (ROWS, CODES, WORK);
 
 /// Section and body cannot be written, and all that is lent holds rubbish.
 fn ask_guarded(case: &Case, side: Side, lengths: Lengths, rubbish: u64) -> Left {
     let section = read_only(side, &case.section);
     let body = read_only(side, &case.body);
-    let mut rows = lent(side, lengths.rows, rubbish as u16);
-    let mut codes = lent(side, lengths.codes, rubbish as u16);
-    let mut work = lent(side, lengths.work, rubbish as u32);
-    let mut words = lent(side, 3, rubbish);
+    let mut rows = filled(side, lengths.0, rubbish as u16);
+    let mut codes = filled(side, lengths.1, rubbish as u16);
+    let mut work = filled(side, lengths.2, rubbish as u32);
+    let mut words = filled(side, 3, rubbish);
     let (kind, answer) = judge_body(&mut Handed {
         section: section.as_slice(),
         body: body.as_slice(),
@@ -164,39 +145,39 @@ fn ask_guarded(case: &Case, side: Side, lengths: Lengths, rubbish: u64) -> Left 
     assert_eq!(words.as_slice()[2], 0);
     assert!(kind == 0 || words.as_slice()[1] == 0, "a count has one value");
     assert_eq!((section.as_slice(), body.as_slice()), (&*case.section, &*case.body));
-    Left {
-        answer,
+    let memory = Memory {
         rows: rows.as_slice().to_vec(),
         codes: codes.as_slice().to_vec(),
         work: work.as_slice().to_vec(),
-    }
+        ..Memory::filled(first(&[]), 0)
+    };
+    Left { answer, memory }
 }
 
 /// The very sizes; longer, each and all; too short by one, each; of length 0, each and all.
 fn every_length() -> Vec<Lengths> {
-    let Lengths { rows, codes, work } = SIZES;
-    let lengths = |rows, codes, work| Lengths { rows, codes, work };
+    let (rows, codes, work) = OWN;
     vec![
-        SIZES,
-        lengths(rows + 1, codes + 1, work + 1),
-        lengths(rows + 4_000, codes, work),
-        lengths(rows, codes + 4_000, work),
-        lengths(rows, codes, work + 4_000),
-        lengths(rows - 1, codes, work),
-        lengths(rows, codes - 1, work),
-        lengths(rows, codes, work - 1),
-        lengths(0, codes, work),
-        lengths(rows, 0, work),
-        lengths(rows, codes, 0),
-        lengths(0, 0, 0),
-        lengths(1, 1, 1),
-        lengths(codes, rows, work),
-        lengths(work, codes, rows),
+        OWN,
+        (rows + 1, codes + 1, work + 1),
+        (rows + 4_000, codes, work),
+        (rows, codes + 4_000, work),
+        (rows, codes, work + 4_000),
+        (rows - 1, codes, work),
+        (rows, codes - 1, work),
+        (rows, codes, work - 1),
+        (0, codes, work),
+        (rows, 0, work),
+        (rows, codes, 0),
+        (0, 0, 0),
+        (1, 1, 1),
+        (codes, rows, work),
+        (work, codes, rows),
     ]
 }
 
-fn is_short(lengths: Lengths) -> bool {
-    lengths.rows < SIZES.rows || lengths.codes < SIZES.codes || lengths.work < SIZES.work
+fn is_short((rows, codes, work): Lengths) -> bool {
+    rows < ROWS || codes < CODES || work < WORK
 }
 
 /// Whatever the lengths and whatever memory held: the plain checker's answer, 14 where a buffer is short, and zero in every
@@ -212,13 +193,10 @@ fn buffers_of_every_length_between_guard_pages() {
                 let left = ask_guarded(&case, side, lengths, rubbish);
                 let where_ = format!("{}\n{lengths:?}, {side:?}", case.request());
                 assert_eq!(left.answer, wanted, "{where_}");
-                assert_eq!(
-                    difference(&left, &ask_plain(&case.request(), lengths)),
-                    None,
-                    "{where_}"
-                );
-                assert!(left.rows.iter().chain(&left.codes).all(|&word| word == 0), "{where_}");
-                assert!(left.work.iter().all(|&word| word == 0), "{where_}");
+                let (rows, codes, work) = lengths;
+                let plain = ask_plain(&case.request(), first(&[rows, codes, work]));
+                assert_eq!(difference(&left, &plain), None, "{where_}");
+                assert!(left.memory.is_zero(), "{where_}");
                 short += is_short(lengths) as usize;
             }
         }
@@ -229,9 +207,9 @@ fn buffers_of_every_length_between_guard_pages() {
 #[test]
 fn what_memory_held_before_changes_nothing() {
     for case in cases() {
-        let clean = ask_guarded(&case, Side::Behind, SIZES, 0);
+        let clean = ask_guarded(&case, Side::Behind, OWN, 0);
         for rubbish in [1, 0x7FFF, 0x8000_8000, 0x0001_0001_0001_0001, u64::MAX] {
-            let left = ask_guarded(&case, Side::Behind, SIZES, rubbish);
+            let left = ask_guarded(&case, Side::Behind, OWN, rubbish);
             assert_eq!(difference(&left, &clean), None, "{}", case.request());
         }
     }
@@ -240,8 +218,8 @@ fn what_memory_held_before_changes_nothing() {
 /// Memory that a call left is lent to the next as it is: whatever was judged before, the same answer.
 #[test]
 fn memory_may_be_lent_again() {
-    let (mut rows, mut codes) = (vec![9; SIZES.rows], vec![9; SIZES.codes]);
-    let (mut work, mut answer) = (vec![9; SIZES.work], [9; 3]);
+    let (mut rows, mut codes) = (vec![9; ROWS], vec![9; CODES]);
+    let (mut work, mut answer) = (vec![9; WORK], [9; 3]);
     for first in cases() {
         for case in [&first, &cases()[1]] {
             let judged = judge_body(&mut Handed {

@@ -1,8 +1,10 @@
 //! Memory lent with a section, seen from outside: between guard pages, too short, of length 0, longer than asked, full of rubbish.
 
-use host_tests::compare::{ask_library, ask_plain, difference, Answer, Left, Lengths, Lent, SIZES};
+use chelbugan::calls::RunMemory;
+use host_tests::compare::{ask_library, ask_plain, difference, lent_to, Answer, Left};
 use host_tests::expected::{CODES, ROWS};
 use host_tests::guarded::Guarded;
+use host_tests::memory::{first, Memory, SIZES};
 use host_tests::requests::Request;
 use std::os::unix::process::ExitStatusExt;
 use std::process::Command;
@@ -79,8 +81,8 @@ fn the_sections_of_these_tests_are_answered_as_worked_out_by_hand() {
         let request = Request::Section(section.clone());
         let plain = ask_plain(&request, SIZES);
         assert_eq!(plain.answer, answer, "the plain checker on {section:02x?}");
-        let lent = Lent { rows: &mut [1; ROWS], codes: &mut [1; CODES], work: &mut [] };
-        let library = ask_library(&request, lent);
+        let mut memory = Memory::filled(lent_to(&request, SIZES), 1);
+        let library = ask_library(&request, &mut memory.lent());
         assert_eq!(library, answer, "the library on {section:02x?}");
     }
 }
@@ -96,10 +98,12 @@ fn ask_guarded(
     let mut codes = placing(codes_len);
     rows.as_mut_slice().fill(rubbish);
     codes.as_mut_slice().fill(rubbish);
-    let lent = Lent { rows: rows.as_mut_slice(), codes: codes.as_mut_slice(), work: &mut [] };
-    let answer = ask_library(request, lent);
+    let mut none = Memory::filled(first(&[]), 0);
+    let mut lent =
+        RunMemory { rows: rows.as_mut_slice(), codes: codes.as_mut_slice(), ..none.lent() };
+    let answer = ask_library(request, &mut lent);
     let (rows, codes) = (rows.as_slice().to_vec(), codes.as_slice().to_vec());
-    Left { answer, rows, codes, work: Vec::new() }
+    Left { answer, memory: Memory { rows, codes, ..none } }
 }
 
 const LENGTHS: [(usize, usize); 11] = [
@@ -123,7 +127,7 @@ fn buffers_of_every_length_between_guard_pages() {
     for (section, _) in sections() {
         for (request, placing, lengths) in every(&requests(&section), &placings, &LENGTHS) {
             let (rows, codes) = lengths;
-            let plain = ask_plain(&request, Lengths { rows, codes, work: 0 });
+            let plain = ask_plain(&request, first(&[rows, codes]));
             let left = ask_guarded(&request, placing, lengths, 0xA5A5);
             if let Some(difference) = difference(&left, &plain) {
                 panic!("{request}\nrows and codes of {lengths:?}: {difference}");
@@ -186,10 +190,7 @@ fn every_refusal_leaves_all_lent_memory_zero() {
             for lengths in LENGTHS {
                 let left = ask_guarded(&request, Guarded::ending_at_guard, lengths, 0xFFFF);
                 if let Answer::No(..) = left.answer {
-                    assert!(
-                        left.rows.iter().chain(&left.codes).all(|&word| word == 0),
-                        "{request}"
-                    );
+                    assert!(left.memory.is_zero(), "{request}");
                     refusals += 1;
                 }
             }
