@@ -18,6 +18,9 @@ const BODY: [u8; 8] = [0x00, 0xFB, 0x00, 0x01, 0xFB, 0x20, 0x00, 0x0B];
 /// A struct with a descriptor made without one: 23 at 1.
 const WITHOUT: [u8; 5] = [0x00, 0xFB, 0x00, 0x00, 0x0B];
 
+/// An object asked for with a null descriptor: trap 43 at 4, the second step.
+const NULL: [u8; 8] = [0x00, 0xD0, 0x62, 0x01, 0xFB, 0x20, 0x00, 0x0B];
+
 fn root() -> PathBuf {
     Path::new(env!("CARGO_MANIFEST_DIR")).join("../..").canonicalize().expect("the repository")
 }
@@ -37,35 +40,42 @@ fn folder(name: &str) -> PathBuf {
 }
 
 /// The host with these inputs as files beside it.
-fn run(program: &Path, section: &[u8], body: &[u8], function: &str) -> Output {
+fn run(program: &Path, section: &[u8], body: &[u8], numbers: [&str; 2]) -> Output {
     let file = |name: &str, content: &[u8]| {
         let path = program.with_extension(name);
         std::fs::write(&path, content).expect("an input's file");
         path
     };
     let mut host = Command::new(program);
-    host.arg(file("section", section)).arg(file("body", body)).arg(function);
+    host.arg(file("section", section)).arg(file("body", body)).args(numbers);
     host.output().expect("the host starts")
 }
 
 /// What the page says that a host prints, and its status.
 fn held_to_the_page(program: &Path) {
-    let said = |section: &[u8], body: &[u8], function: &str| {
-        let output = run(program, section, body, function);
+    let said = |section: &[u8], body: &[u8], numbers: [&str; 2]| {
+        let output = run(program, section, body, numbers);
         (String::from_utf8_lossy(&output.stdout).to_string(), output.status.code())
     };
-    let accepted = block("text");
-    let (types, count) = accepted.split_at(accepted.find("the body").expect("the body's line"));
-    assert_eq!(count, "the body has 3 instructions\n");
-    assert_eq!(said(&F1, &BODY, "2"), (accepted.clone(), Some(0)));
+    let page = block("text");
+    let (types, body) = page.split_at(page.find("the body").expect("the body's line"));
+    let (accepted, objects) = body.split_at(body.find("object").expect("the objects"));
+    assert_eq!(accepted, "the body has 3 instructions\nthe run: done after 3 steps, 1 results\n");
+    assert_eq!(said(&F1, &BODY, ["2", "100"]), (page.clone(), Some(0)));
+    let run = |line: &str, objects: &str, status: i32| {
+        (format!("{types}the body has 3 instructions\nthe run: {line}\n{objects}"), Some(status))
+    };
+    assert_eq!(said(&F1, &BODY, ["2", "2"]), run("spent after 2 steps", objects, 0));
+    assert_eq!(said(&F1, &NULL, ["2", "100"]), run("trap 43 at 4, after 2 steps", "", 0));
+    assert_eq!(said(&F1, &BODY, ["2", "1000001"]), run("refusal 4 at 0", "", 1));
     let below_the_types = |line: &str| (format!("{types}{line}\n"), Some(1));
-    assert_eq!(said(&F1, &WITHOUT, "2"), below_the_types("the body: refusal 23 at 1"));
-    assert_eq!(said(&F1, &BODY, "0"), below_the_types("the body: refusal 27 at 0"));
-    assert_eq!(said(&F1, &[0; 40_000], "2"), below_the_types("the body: refusal 4 at 0"));
+    assert_eq!(said(&F1, &WITHOUT, ["2", "1"]), below_the_types("the body: refusal 23 at 1"));
+    assert_eq!(said(&F1, &BODY, ["0", "1"]), below_the_types("the body: refusal 27 at 0"));
+    assert_eq!(said(&F1, &[0; 40_000], ["2", "1"]), below_the_types("the body: refusal 4 at 0"));
     let alone = |line: &str| (format!("{line}\n"), Some(1));
-    assert_eq!(said(&DISAGREE, &BODY, "2"), alone("the section: refusal 11 at 1"));
-    assert_eq!(said(&[0; 32_769], &BODY, "2"), alone("the section: refusal 4 at 0"));
-    let absent = Command::new(program).args(["no", "such", "2"]).output().expect("it starts");
+    assert_eq!(said(&DISAGREE, &BODY, ["2", "1"]), alone("the section: refusal 11 at 1"));
+    assert_eq!(said(&[0; 32_769], &BODY, ["2", "1"]), alone("the section: refusal 4 at 0"));
+    let absent = Command::new(program).args(["no", "such", "2", "1"]).output().expect("it starts");
     assert_ne!(absent.status.code(), Some(0));
 }
 
