@@ -1,4 +1,4 @@
-//! Each example says its answer; the program and the plain checker give it.
+//! Each example says its answer, and how its run ends where it is to be run; the program and the plain checker say the same.
 
 mod common;
 
@@ -30,6 +30,8 @@ struct Example {
     /// The program's arguments behind `check`.
     arguments: Vec<String>,
     is_body: bool,
+    /// The budget and how the run ends.
+    run: Option<(String, String)>,
 }
 
 fn read(file: &Path) -> Example {
@@ -39,15 +41,18 @@ fn read(file: &Path) -> Example {
     let name = file.to_str().expect("a name").to_string();
     let Some(body_of) = said("# Body of type ") else {
         let request = format!("S {}", bytes(&text));
-        return Example { arguments: vec![name.clone()], name, answer, request, is_body: false };
+        let arguments = vec![name.clone()];
+        return Example { name, answer, request, arguments, is_body: false, run: None };
     };
+    let run = said("# Run with a budget of ").and_then(|run| run.split_once(": "));
+    let run = run.map(|(budget, ending)| (budget.to_string(), ending.to_string()));
     let (number, section) = body_of.split_once(" of ").expect("a type's number and a section");
     let section = folder().join(section);
     let types = std::fs::read_to_string(&section).expect("its section");
     let request = format!("B {} {number} {}", bytes(&types), bytes(&text));
     let section = section.to_str().expect("a name").to_string();
     let arguments = vec![section, name.clone(), number.to_string()];
-    Example { name, answer, request, arguments, is_body: true }
+    Example { name, answer, request, arguments, is_body: true, run }
 }
 
 /// The first line that a person reads, and the exit status.
@@ -81,5 +86,38 @@ fn examples_are_answered_as_they_say() {
         let said = chelbugan(&["check"].into_iter().chain(arguments).collect::<Vec<_>>());
         let wanted = wanted(&example);
         assert_eq!((said.status, said.out.lines().next()), (wanted.0, Some(&*wanted.1)), "{name}");
+    }
+}
+
+/// The first words that a person reads of a run.
+fn ending(promised: &str) -> String {
+    let parts: Vec<&str> = promised.split(' ').collect();
+    match parts[..] {
+        ["done", steps, _] => format!("done after {steps} steps, results: "),
+        ["trap", number, place, steps] => {
+            format!("trap {number} at byte {place} of the body, after {steps} steps\n")
+        }
+        ["spent", steps] => format!("spent after {steps} steps\n"),
+        _ => panic!("{promised}"),
+    }
+}
+
+#[test]
+fn examples_run_as_they_say() {
+    let examples: Vec<Example> = examples().iter().map(|file| read(file)).collect();
+    let runs = examples.iter().filter_map(|example| Some((example, example.run.as_ref()?)));
+    let mut endings = Vec::new();
+    for (Example { name, request, arguments, .. }, (budget, promised)) in runs {
+        let request = request.replacen("B ", "R ", 1) + " " + budget;
+        let plain = plain::lines::answer(&request);
+        assert!(plain.starts_with(&format!("{promised} | ")), "{name}: {plain}");
+        let arguments = arguments.iter().map(String::as_str).chain([budget.as_str()]);
+        let said = chelbugan(&["run"].into_iter().chain(arguments).collect::<Vec<_>>());
+        assert_eq!(said.status, 0, "{name}");
+        assert!(said.out.starts_with(&ending(promised)), "{name}: {}", said.out);
+        endings.push(promised.split(' ').next().expect("a word").to_string());
+    }
+    for word in ["done", "trap", "spent"] {
+        assert!(endings.iter().any(|ending| ending == word), "no example is {word}");
     }
 }
