@@ -7,19 +7,27 @@ mod measure;
 mod page;
 mod plot;
 
+use inputs::Input;
 use measure::Row;
 use std::io;
 use std::path::Path;
 
 fn main() -> io::Result<()> {
     let docs = Path::new(env!("CARGO_MANIFEST_DIR")).join("../docs");
-    let sections: Vec<Row> = inputs::of_sections().into_iter().map(measure::measure).collect();
-    let bodies: Vec<Row> = inputs::of_bodies().into_iter().map(measure::measure).collect();
-    let page = page::page(&machine::kind(), &sections, &bodies);
+    let measured =
+        |inputs: Vec<Input>| -> Vec<Row> { inputs.into_iter().map(measure::measure).collect() };
+    let sections = measured(inputs::of_sections());
+    let bodies = measured(inputs::of_bodies());
+    let runs = measured(inputs::of_runs());
+    let page = page::page(&machine::kind(), &sections, &bodies, &runs);
     std::fs::write(docs.join("BENCH.md"), &page)?;
-    let kinds = (&inputs::sections::KINDS[..], &inputs::bodies::KINDS[..]);
-    std::fs::write(docs.join("bench-sections.svg"), plot::plot(kinds.0, &sections))?;
-    std::fs::write(docs.join("bench-bodies.svg"), plot::plot(kinds.1, &bodies))?;
-    print!("{}\n{}", page::table("Section", &sections), page::table("Body", &bodies));
+    let of_bytes = |kinds, rows| plot::plot(&plot::NANOSECONDS_A_BYTE, kinds, rows);
+    let of_sections = of_bytes(&inputs::sections::KINDS, &sections);
+    std::fs::write(docs.join("bench-sections.svg"), of_sections)?;
+    std::fs::write(docs.join("bench-bodies.svg"), of_bytes(&inputs::bodies::KINDS, &bodies))?;
+    let of_runs = plot::plot(&plot::STEPS_A_SECOND, &inputs::runs::KINDS, &runs);
+    std::fs::write(docs.join("bench-runs.svg"), of_runs)?;
+    println!("{}\n{}", page::table("Section", &sections), page::table("Body", &bodies));
+    print!("{}", page::run_table(&runs));
     Ok(())
 }

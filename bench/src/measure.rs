@@ -1,7 +1,7 @@
 //! Medians of many samples, the library's and the plain checker's in turn.
 
-use crate::inputs::Input;
-use chelbugan::calls;
+use crate::inputs::{Input, Size};
+use chelbugan::calls::{self, Ended};
 use plain::refusal::Refusal;
 use std::hint::black_box;
 use std::time::{Duration, Instant};
@@ -12,15 +12,21 @@ const SAMPLE_TIME: Duration = Duration::from_millis(3);
 /// An input with the nanoseconds that each takes for it.
 pub struct Row {
     pub kind: &'static str,
-    pub kilobytes: usize,
-    pub bytes: usize,
+    pub size: Size,
+    pub amount: usize,
     pub library: f64,
     pub plain: f64,
 }
 
 impl Row {
-    pub fn for_each_byte(&self, nanoseconds: f64) -> f64 {
-        nanoseconds / self.bytes as f64
+    /// Nanoseconds for each byte or step.
+    pub fn for_each(&self, nanoseconds: f64) -> f64 {
+        nanoseconds / self.amount as f64
+    }
+
+    /// Millions of steps a second.
+    pub fn speed(&self, nanoseconds: f64) -> f64 {
+        1000.0 / self.for_each(nanoseconds)
     }
 
     pub fn ratio(&self) -> f64 {
@@ -33,6 +39,13 @@ struct Lent {
     rows: Vec<u16>,
     codes: Vec<u16>,
     work: Vec<u32>,
+    ends: Vec<u16>,
+    counts: Vec<u64>,
+    objects: Vec<u16>,
+    cells: Vec<u64>,
+    locals: Vec<u64>,
+    operands: Vec<u64>,
+    blocks: Vec<u16>,
 }
 
 impl Lent {
@@ -41,27 +54,65 @@ impl Lent {
             rows: vec![0; calls::ROWS],
             codes: vec![0; calls::CODES],
             work: vec![0; calls::WORK],
+            ends: vec![0; calls::ENDS],
+            counts: vec![0; calls::COUNTS],
+            objects: vec![0; calls::OBJECTS],
+            cells: vec![0; calls::CELLS],
+            locals: vec![0; calls::LOCALS],
+            operands: vec![0; calls::OPERANDS],
+            blocks: vec![0; calls::BLOCKS],
         }
     }
 
+    fn run_memory(&mut self) -> calls::RunMemory<'_> {
+        calls::RunMemory {
+            rows: &mut self.rows,
+            codes: &mut self.codes,
+            work: &mut self.work,
+            ends: &mut self.ends,
+            counts: &mut self.counts,
+            objects: &mut self.objects,
+            cells: &mut self.cells,
+            locals: &mut self.locals,
+            operands: &mut self.operands,
+            blocks: &mut self.blocks,
+        }
+    }
+
+    /// The count of types or of instructions, or the steps.
     fn judge(&mut self, input: &Input) -> Result<u64, calls::Refusal> {
-        let Lent { rows, codes, work } = self;
-        match &input.body {
-            None => calls::judge_section(&input.section, rows, codes),
-            Some((number, body)) => {
-                let number = u64::from(*number);
-                calls::judge_body(&input.section, body, number, rows, codes, work)
+        let Some((number, body)) = &input.body else {
+            return calls::judge_section(&input.section, &mut self.rows, &mut self.codes);
+        };
+        let (section, number) = (&input.section, u64::from(*number));
+        match input.budget {
+            None => {
+                let Lent { rows, codes, work, .. } = self;
+                calls::judge_body(section, body, number, rows, codes, work)
+            }
+            Some(budget) => {
+                calls::try_run(section, body, number, budget, &mut self.run_memory()).map(steps)
             }
         }
     }
 }
 
-/// The count of types, or of instructions.
+fn steps(ended: Ended) -> u64 {
+    match ended {
+        Ended::Done { steps, .. } | Ended::Trap { steps, .. } | Ended::Spent { steps } => steps,
+    }
+}
+
+/// The same by the plain checker.
 fn judge_plainly(input: &Input) -> Result<usize, Refusal> {
-    match &input.body {
-        None => plain::section::judge_section(&input.section).map(|types| types.len()),
-        Some((number, body)) => {
-            plain::body::judge_body(&input.section, *number, body).map(|body| body.code.len())
+    let Some((number, body)) = &input.body else {
+        return plain::section::judge_section(&input.section).map(|types| types.len());
+    };
+    match input.budget {
+        None => plain::body::judge_body(&input.section, *number, body).map(|body| body.code.len()),
+        Some(budget) => {
+            let run = plain::machine::trial_run(&input.section, *number, body, budget);
+            run.map(|run| run.steps as usize)
         }
     }
 }
@@ -83,8 +134,8 @@ pub fn measure(input: Input) -> Row {
     }
     Row {
         kind: input.kind,
-        kilobytes: input.kilobytes,
-        bytes: input.bytes(),
+        size: input.size,
+        amount: input.amount(),
         library: median(samples.0),
         plain: median(samples.1),
     }
@@ -96,8 +147,8 @@ fn same_answer(input: &Input, lent: &mut Lent) {
     let library = library.map_err(|no| (no.number as usize, no.place as usize));
     let plain = judge_plainly(input).map_err(|no| (no.number as usize, no.place));
     let wanted = input.answer.map_err(|no| (no.number as usize, no.place));
-    assert_eq!(library, wanted, "the library on {} of {} KB", input.kind, input.kilobytes);
-    assert_eq!(plain, wanted, "the plain checker on {} of {} KB", input.kind, input.kilobytes);
+    assert_eq!(library, wanted, "the library on {} of {}", input.kind, input.size);
+    assert_eq!(plain, wanted, "the plain checker on {} of {}", input.kind, input.size);
 }
 
 /// How many calls fill a sample; it warms up as well.

@@ -2,7 +2,7 @@
 
 use crate::measure::Row;
 
-pub fn page(machine: &str, sections: &[Row], bodies: &[Row]) -> String {
+pub fn page(machine: &str, sections: &[Row], bodies: &[Row], runs: &[Row]) -> String {
     format!(
         "# Times
 
@@ -10,7 +10,7 @@ For whoever asks what the proofs cost in speed. `make bench` measures anew and w
 
 Machine: {machine}.
 
-The proved library and the plain checker of `tests/plain` judge the same inputs, one after the other in turn. A time is the median of 41 samples of 3 ms each (of one call where that takes longer). Buffers are cleared first. The library clears what it is lent in each call, and that is in its time: 71,680 bytes at the start for a section, 88,064 at the start and again at the end for a body. The plain checker allocates its tree and its lists, which is in its time. A ratio below 1 means that the library is the faster one.
+The proved library and the plain checker of `tests/plain` judge the same inputs, one after the other in turn. A time is the median of 41 samples of 3 ms each (of one call where that takes longer). Buffers are cleared first. The library clears what it is lent in each call, and that is in its time: 71,680 bytes at the start for a section, 88,064 at the start and again at the end for a body; a run's ten buffers are 240,042 bytes. The plain checker allocates its tree and its lists, which is in its time. A ratio below 1 means that the library is the faster one.
 
 ## Sections
 
@@ -35,9 +35,27 @@ All are accepted, so that every byte is looked at. The body's section is judged 
 
 {}
 ![Nanoseconds for each byte of a body](bench-bodies.svg)
+
+## Runs
+
+Each is a loop that goes on until its budget is spent, but for the last, which ends when the heap is full. A step is one instruction. Section and body are judged in the same call, and that is in the time: what a call costs besides its steps shows in the runs of 1,000.
+
+- *br*: a branch to the loop, and nothing else.
+- *locals*: local.get, local.set and local.tee.
+- *fields*: struct.get and struct.set of an object.
+- *casts*: ref.test, ref.cast and ref.as_non_null of an object to its own type.
+- *casts up a chain*: ref.test and ref.cast to a type 63 supertypes above the object's.
+- *descriptors*: ref.get_desc and ref.cast_desc_eq.
+- *blocks*: blocks opened, left by br, br_if and `end`.
+- *br out of 62 blocks*: 62 blocks opened, then one branch to the loop around them.
+- *objects*: structs of 4 fields made by default until all 1,024 objects and 4,096 cells are taken.
+
+{}
+![Millions of steps a second](bench-runs.svg)
 ",
         table("Section", sections),
-        table("Body", bodies)
+        table("Body", bodies),
+        run_table(runs)
     )
 }
 
@@ -46,14 +64,32 @@ pub fn table(what: &str, rows: &[Row]) -> String {
     text += "|---|---|---|---|---|---|---|\n";
     for row in rows {
         text += &format!(
-            "| {}, {} KB | {} | {:.1} | {:.1} | {:.2} | {:.2} | {:.2} |\n",
+            "| {}, {} | {} | {:.1} | {:.1} | {:.2} | {:.2} | {:.2} |\n",
             row.kind,
-            row.kilobytes,
-            row.bytes,
+            row.size,
+            row.amount,
             row.library / 1000.0,
             row.plain / 1000.0,
-            row.for_each_byte(row.library),
-            row.for_each_byte(row.plain),
+            row.for_each(row.library),
+            row.for_each(row.plain),
+            row.ratio()
+        );
+    }
+    text
+}
+
+pub fn run_table(rows: &[Row]) -> String {
+    let mut text = String::from("| Run | Library, µs | Plain, µs | Library, million steps a second | Plain, million steps a second | Ratio |\n");
+    text += "|---|---|---|---|---|---|\n";
+    for row in rows {
+        text += &format!(
+            "| {}, {} | {:.1} | {:.1} | {:.1} | {:.1} | {:.2} |\n",
+            row.kind,
+            row.size,
+            row.library / 1000.0,
+            row.plain / 1000.0,
+            row.speed(row.library),
+            row.speed(row.plain),
             row.ratio()
         );
     }

@@ -2,7 +2,7 @@
 //! byte is looked at.
 
 use super::sections::CHAIN;
-use super::{heap, leb, of_size, Input, Judged};
+use super::{heap, leb, of_size, Input, Judged, Size};
 
 pub const KINDS: [&str; 7] = [
     "ordinary",
@@ -17,7 +17,8 @@ pub const KINDS: [&str; 7] = [
 pub fn input(kind: &'static str, kilobytes: usize) -> Input {
     let (section, function) = section(kind);
     let (body, answer) = of_size(kind, kilobytes, |room| body(kind, room));
-    Input { kind, kilobytes, section, body: Some((function, body)), answer }
+    let size = Size::Kilobytes(kilobytes);
+    Input { kind, size, section, body: Some((function, body)), budget: None, answer }
 }
 
 /// The section, and the number of the function type.
@@ -176,7 +177,7 @@ fn ordinary_code() -> Vec<&'static [u8]> {
 }
 
 /// A chain of 63 steps, type 0 at its top; then these types, the last of them the function.
-fn chain_and(types: &[Vec<u8>]) -> (Vec<u8>, u32) {
+pub fn chain_and(types: &[Vec<u8>]) -> (Vec<u8>, u32) {
     let mut section = leb(1 + CHAIN + types.len());
     section.extend([0x50, 0x00, 0x5F, 0x00]);
     for supertype in 0..CHAIN {
@@ -197,7 +198,7 @@ fn wide() -> Vec<u8> {
 }
 
 /// So many entries of (ref null 0) each, two bytes an entry.
-fn function(parameters: &[u8], results: &[u8]) -> Vec<u8> {
+pub fn function(parameters: &[u8], results: &[u8]) -> Vec<u8> {
     let list = |values: &[u8]| [leb(values.len() / 2), values.to_vec()].concat();
     [vec![0x60], list(parameters), list(results)].concat()
 }

@@ -1,25 +1,57 @@
-//! The inputs: sections and bodies of 1, 5, 20 and 32 KB, ordinary ones and hostile ones.
+//! The inputs: sections and bodies of 1, 5, 20 and 32 KB, ordinary ones and hostile ones; and runs of up to 1,000,000 steps.
 
 pub mod bodies;
+pub mod runs;
 pub mod sections;
 
 use plain::refusal::Refusal;
+use std::fmt;
 
 /// What is timed.
 pub struct Input {
     pub kind: &'static str,
-    pub kilobytes: usize,
+    pub size: Size,
     pub section: Vec<u8>,
     /// A function type's number, and a body of it; none where the section is judged alone.
     pub body: Option<(u32, Vec<u8>)>,
-    /// The answer that document 01 gives: the count of types or of instructions, or the refusal.
+    /// For a run alone.
+    pub budget: Option<u64>,
+    /// The answer that document 01 gives: the count of types or of instructions, the steps, or the refusal.
     pub answer: Result<usize, Refusal>,
 }
 
+/// What a table calls an input's size.
+#[derive(Clone, Copy)]
+pub enum Size {
+    Kilobytes(usize),
+    Steps(usize),
+}
+
 impl Input {
-    /// The bytes that a time is divided by.
-    pub fn bytes(&self) -> usize {
-        self.body.as_ref().map_or(self.section.len(), |(_, body)| body.len())
+    /// The bytes or steps that a time is divided by.
+    pub fn amount(&self) -> usize {
+        match (self.size, &self.body) {
+            (Size::Steps(steps), _) => steps,
+            (_, None) => self.section.len(),
+            (_, Some((_, body))) => body.len(),
+        }
+    }
+}
+
+impl fmt::Display for Size {
+    fn fmt(&self, to: &mut fmt::Formatter) -> fmt::Result {
+        match self {
+            Size::Kilobytes(count) => write!(to, "{count} KB"),
+            Size::Steps(count) => write!(to, "{} steps", grouped(*count)),
+        }
+    }
+}
+
+/// With a comma before each three digits.
+fn grouped(number: usize) -> String {
+    match number {
+        0..=999 => number.to_string(),
+        _ => format!("{},{:03}", grouped(number / 1000), number % 1000),
     }
 }
 
@@ -34,6 +66,11 @@ pub fn of_sections() -> Vec<Input> {
 
 pub fn of_bodies() -> Vec<Input> {
     of_kinds(&bodies::KINDS, bodies::input)
+}
+
+pub fn of_runs() -> Vec<Input> {
+    let kinds = runs::KINDS.iter();
+    kinds.flat_map(|kind| runs::steps(kind).map(|steps| runs::input(kind, steps))).collect()
 }
 
 fn of_kinds(kinds: &[&'static str], input: fn(&'static str, usize) -> Input) -> Vec<Input> {

@@ -1,6 +1,6 @@
 //! Sections: ordinary, refused at their end, and as slow as a section can be.
 
-use super::{heap, leb, of_size, Input, Judged};
+use super::{heap, leb, of_size, Input, Judged, Size};
 use plain::refusal::Refusal;
 
 pub const KINDS: [&str; 3] = ["ordinary", "refused late", "hostile"];
@@ -11,7 +11,8 @@ pub fn input(kind: &'static str, kilobytes: usize) -> Input {
         "refused late" => refused_late(room),
         _ => hostile(room),
     });
-    Input { kind, kilobytes, section, body: None, answer }
+    let size = Size::Kilobytes(kilobytes);
+    Input { kind, size, section, body: None, budget: None, answer }
 }
 
 /// Types of a kind that follow one another, as many as fit.
