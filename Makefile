@@ -1,5 +1,5 @@
-# all: the program at build/chelbugan. demo: judge the sections and bodies of examples/ by it, then answer the requests of
-# examples/requests.txt by computing the definitions.
+# all: the program at build/chelbugan. demo: judge the sections and bodies of examples/ by it and run some of them, then answer
+# the requests of examples/requests.txt by computing the definitions.
 # check: run the gate. compare: the library against the plain checker on COUNT requests. valgrind: the library under it.
 # bench: times, to docs/BENCH.md.
 # All need the Rattle toolchain's rt and cargo on PATH, on x86-64 or Arm.

@@ -2,7 +2,7 @@
 
 mod common;
 
-use common::{assert_marked, line_and_marks, misused, no, yes, OwnFile};
+use common::{assert_marked, chelbugan, line_and_marks, misused, no, yes, OwnFile};
 
 const F1: &str = "02 4E 02 4D 01 5F 00 4C 00 5F 00 60 00 01 64 62 00";
 
@@ -194,17 +194,36 @@ fn a_body_is_listed_with_offsets() {
     }
 }
 
-/// The page's command, after its prompt, and what stands below it up to the next line that is not indented.
+/// Each command of the page, after its prompt, and what stands below it up to the next command or line that is not indented.
 #[test]
 fn the_readme_shows_what_is_printed() {
-    let readme = std::path::Path::new(env!("CARGO_MANIFEST_DIR")).join("../README.md");
-    let readme = std::fs::read_to_string(readme).expect("the README");
-    let (_, shown) = readme.split_once("    $ build/chelbugan check '").expect("an example");
-    let (section, rest) = shown.split_once("'\n").expect("the example's section");
-    let printed: Vec<&str> =
-        rest.lines().take_while(|line| line.is_empty() || line.starts_with("    ")).collect();
-    let printed: Vec<&str> = printed.iter().map(|line| line.get(4..).unwrap_or("")).collect();
-    assert_eq!(no(&["check", section]).trim_end(), printed.join("\n").trim_end());
+    let root = std::path::Path::new(env!("CARGO_MANIFEST_DIR")).join("..");
+    let readme = std::fs::read_to_string(root.join("README.md")).expect("the README");
+    let mut commands = Vec::new();
+    for shown in readme.split("    $ build/chelbugan ").skip(1) {
+        let (command, below) = shown.split_once('\n').expect("what is printed");
+        let printed = below.lines().take_while(|line| line.is_empty() || line.starts_with("    "));
+        let printed: Vec<&str> = printed.map(|line| line.get(4..).unwrap_or("")).collect();
+        let arguments = arguments(command, &root);
+        let arguments: Vec<&str> = arguments.iter().map(String::as_str).collect();
+        assert_eq!(chelbugan(&arguments).out.trim_end(), printed.join("\n").trim_end());
+        commands.push(arguments[0].to_string());
+    }
+    assert_eq!(commands, ["check", "run"]);
+}
+
+/// A command's words; a part between quotes is one, and the repository's files are named as from here.
+fn arguments(command: &str, root: &std::path::Path) -> Vec<String> {
+    let parts = command.split('\'').enumerate();
+    let words = parts.flat_map(|(index, part)| match index % 2 {
+        1 => vec![part],
+        _ => part.split_whitespace().collect(),
+    });
+    let from_here = |word: &str| match word.starts_with("examples/") {
+        true => root.join(word).to_str().expect("a name").to_string(),
+        false => word.to_string(),
+    };
+    words.map(from_here).collect()
 }
 
 #[test]
