@@ -138,7 +138,7 @@ fn values_are_told() {
 fn operands_are_told_from_the_top() {
     let body = format!("00 {}00 0B", "41 01 ".repeat(10));
     let said = yes(&["run", V, &body, "0", "10"]);
-    let shown = vec!["i32 1"; 8].join(", ");
+    let shown = ["i32 1"; 8].join(", ");
     assert!(said.contains(&format!("  operands  2 more, {shown}\n")), "{said}");
 }
 

@@ -25,7 +25,7 @@ pub fn steps(kind: &str) -> impl Iterator<Item = usize> {
         "objects" => &[STEPS_TO_A_FULL_HEAP],
         _ => &[1_000, 30_000, 1_000_000],
     };
-    steps.to_vec().into_iter()
+    steps.iter().copied()
 }
 
 pub fn input(kind: &'static str, steps: usize) -> Input {

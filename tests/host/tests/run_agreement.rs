@@ -172,9 +172,11 @@ fn tests_and_casts() -> Vec<u8> {
     code.concat()
 }
 
-/// Left by the branch, by the `end`, by the branch, by the branch of a cast that fails.
+/// Left by the branch, by the `end`, by the branch, by the branch of a cast that fails; all with an operand below, which
+/// stays there until the return.
 fn branching_casts() -> Vec<u8> {
-    let code: [&[u8]; 23] = [
+    let code: [&[u8]; 24] = [
+        &[0x41, 0x09],
         &[0x02, 0x63, 0x00],
         &[0x20, 0x01],
         &[0xFB, 0x18, 0x01, 0x00, 0x00, 0x02],
