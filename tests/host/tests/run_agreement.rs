@@ -23,9 +23,9 @@ fn agree(comparison: &mut Comparison, request: &Request) {
 #[test]
 fn they_agree_after_every_step() {
     let whole = run(&section(), 5, &body(), 1_000_000);
-    let Answer::Done(steps, 1) = ask_plain(&whole, SIZES).answer else {
-        panic!("the run is to come to its end with one result");
-    };
+    // Objects; tests and casts; branching casts, of which three skip their `end`; a loop of two turns and what follows it.
+    let steps = 17 + 27 + (24 - 3) + (6 + 5 + 1) + 4;
+    assert_eq!(ask_plain(&whole, SIZES).answer, Answer::Done(steps, 1));
     let mut comparison = Comparison::new(SEED);
     agree(&mut comparison, &whole);
     for budget in 0..steps {
