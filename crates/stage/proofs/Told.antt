@@ -24,6 +24,7 @@ use Rattle.ends.specs.Matching.{codeAt}
 use Rattle.ends.proofs.Codes.{code-here, code-refused, code-none}
 use Rattle.stage.specs.declared.Stage.{Stage}
 use Rattle.stage.specs.Machines.{Words, blockWord, lower, blockOf, blocksAt, machineAt, Valued, Opened, a-block, a-loop, Nested, outermost, Orderly, Closed}
+use Rattle.stage.specs.Written.{StateTold}
 use Rattle.stage.proofs.Open.{either-block, innermost, belows, all-operands, blocks-length}
 
 -- the place
@@ -83,14 +84,6 @@ module _ {s ends blocks : List ℕ} (operands : List ℕ) where
       rw (kind, place, height-told (suc d) n) (ap (λ (l : List ℕ). l ++ (blockWord blocks d 0 ∷ blockWord blocks d 1 ∷ blockWord blocks d 2 ∷ [])) (block-words d (a .nested) (omega arith)) ∙ sym (block-front blocks d room))
 
 -- all of it
-
-pub record StateTold (count : ℕ) (w : Words) (st : Stage) (told : StateWords) : Type 0 where
-  pub counts : told .counts ≡ st .place ∷ st .objects ∷ st .cells ∷ count ∷ (st .base + st .height) ∷ st .depth ∷ []
-  pub objects : told .objects ≡ take (4 * st .objects) (w .objects)
-  pub cells : told .cells ≡ take (2 * st .cells) (w .cells)
-  pub locals : told .locals ≡ take (2 * count) (w .locals)
-  pub operands : told .operands ≡ take (2 * (st .base + st .height)) (w .operands)
-  pub blocks : told .blocks ≡ take (3 * st .depth) (w .blocks)
 
 six : {a b c d e f a′ b′ c′ d′ e′ f′ : ℕ} → a ≡ a′ → b ≡ b′ → c ≡ c′ → d ≡ d′ → e ≡ e′ → f ≡ f′ → a ∷ b ∷ c ∷ d ∷ e ∷ f ∷ [] ≡ a′ ∷ b′ ∷ c′ ∷ d′ ∷ e′ ∷ f′ ∷ []
 six p q r s t u = cc

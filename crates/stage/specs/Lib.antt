@@ -2,3 +2,4 @@ pub mod Machines
 pub mod Moved
 pub mod Planned
 pub mod Controlled
+pub mod Written
