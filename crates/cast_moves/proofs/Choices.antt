@@ -17,23 +17,28 @@ use Rattle.stage.specs.declared.Move.{Move}
 use Rattle.stage.specs.declared.Move
 use Rattle.stage.specs.Moved.{MoveIs}
 use Rattle.stage.specs.Planned.{referenceAt}
-use Rattle.stage.proofs.Carries.{move-astray, move-traps}
 use Rattle.stage.proofs.Tops.{on-top, top-low, wrong-top, null-top, object-top}
+use Rattle.stage.proofs.Moving.{strays, trapping}
 use Rattle.cast_moves.specs.declared.Passing.{Passing}
 use Rattle.cast_moves.specs.declared.Passing
 use Rattle.cast_moves.specs.Passes.{Answers, PassesAs, PassesDescriptorAs, chosenOf, CastChosen, DescriptorChosen}
 
 module _ (p : Program) (codes : List ℕ) (m : Machine) {vs : List Value} {ask : Value → (Bool → Outcome) → Outcome} {passing : Passing} (a : Answers vs ask passing) (yes′ no′ : Move) (f : Value → List Value → Bool → Outcome) where
   -- the two moves are those of the two answers
-  choice : ((v : Value) → headOf vs ≡ some v → MoveIs p codes m (f v (drop 1 vs) true) yes′) → ((v : Value) → headOf vs ≡ some v → MoveIs p codes m (f v (drop 1 vs) false) no′) → MoveIs p codes m (onTaken vs (λ v below. ask v (f v below))) (chosenOf passing yes′ no′)
+  choice :
+      ((v : Value) → headOf vs ≡ some v → MoveIs p codes m (f v (drop 1 vs) true) yes′)
+      → ((v : Value) → headOf vs ≡ some v → MoveIs p codes m (f v (drop 1 vs) false) no′)
+      → MoveIs p codes m (onTaken vs (λ v below. ask v (f v below))) (chosenOf passing yes′ no′)
   choice yes-is no-is = go passing refl
     where
       go : (q : Passing) → passing ≡ q → MoveIs p codes m (onTaken vs (λ v below. ask v (f v below))) (chosenOf q yes′ no′)
-      go Passing.the-variants.Wrong e = move-astray (a .wrong e f)
+      go Passing.the-variants.Wrong e = strays (a .wrong e f)
       go (Passing.the-variants.Is true) e = let (v, top) = a .there true e in rw (a .is true e v top f) (yes-is v top)
       go (Passing.the-variants.Is false) e = let (v, top) = a .there false e in rw (a .is false e v top f) (no-is v top)
 
-pub cast-chosen : {rows codes objects : List ℕ} {n : ℕ} {first : Topmost} {nullToo : Bool} {h : ℕ} {passing : Passing} → PassesAs rows codes objects n first nullToo h passing → {yes′ no′ r : Move} → r ≡ chosenOf passing yes′ no′ → CastChosen rows codes objects n first nullToo h yes′ no′ r
+pub cast-chosen :
+    {rows codes objects : List ℕ} {n : ℕ} {first : Topmost} {nullToo : Bool} {h : ℕ} {passing : Passing} → PassesAs rows codes objects n first nullToo h passing
+    → {yes′ no′ r : Move} → r ≡ chosenOf passing yes′ no′ → CastChosen rows codes objects n first nullToo h yes′ no′ r
 cast-chosen {codes} {nullToo} {h} {passing} a {yes′} {no′} e =
     record {
       is = λ p m second cells total types knows f yes-is no-is.
@@ -51,17 +56,19 @@ module _ {objects : List ℕ} {n : ℕ} {first second : Topmost} {nullToo : Bool
   descriptor-wrong e =
       record {
         is = λ p codes m cells total knows f yes-is no-is.
-            move-astray (wrong-top (knows .top) is e (λ v. pastDescriptor (m .heap) nullToo f));
+            strays (wrong-top (knows .top) is e (λ v. pastDescriptor (m .heap) nullToo f));
       }
 
   pub descriptor-null : q ≡ Reference.the-variants.Null → DescriptorChosen objects n first second nullToo yes′ no′ (Move.the-variants.Traps 43)
   descriptor-null e =
       record {
         is = λ p codes m cells total knows f yes-is no-is.
-            move-traps 43 (on-top (m .operands) (null-top (knows .top) is e) (λ v others. onReference v (pastDescriptor (m .heap) nullToo f others)));
+            trapping (on-top (m .operands) (null-top (knows .top) is e) (λ v others. onReference v (pastDescriptor (m .heap) nullToo f others)));
       }
 
-  pub descriptor-chosen : {d : ℕ} → q ≡ Reference.the-variants.To d → {passing : Passing} → PassesDescriptorAs objects n second nullToo d passing → {r : Move} → r ≡ chosenOf passing yes′ no′ → DescriptorChosen objects n first second nullToo yes′ no′ r
+  pub descriptor-chosen :
+      {d : ℕ} → q ≡ Reference.the-variants.To d → {passing : Passing} → PassesDescriptorAs objects n second nullToo d passing → {r : Move} → r ≡ chosenOf passing yes′ no′
+      → DescriptorChosen objects n first second nullToo yes′ no′ r
   descriptor-chosen {d} e {passing} a g =
       record {
         is = λ p codes m cells total knows f yes-is no-is.

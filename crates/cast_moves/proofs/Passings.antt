@@ -16,9 +16,8 @@ use Rattle.table.specs.declared.Link.{Link}
 use Rattle.table.specs.declared.Link
 use Rattle.table.proofs.Codes.{heap-at-code}
 use Rattle.table.proofs.Laws.{link-nothing, link-to}
-use Rattle.cells.proofs.Numbered.{numbered-past}
 use Rattle.store.specs.Heap.{storeAt, objectAt, TypeOf, DescriptorOf}
-use Rattle.store.proofs.Packs.{store-there}
+use Rattle.store.proofs.Packs.{store-there, store-past}
 use Rattle.pile.specs.declared.Topmost.{Topmost}
 use Rattle.pile.specs.Pile.{headOf}
 use Rattle.stage.specs.declared.Reference.{Reference}
@@ -34,7 +33,9 @@ abbrev asks : Store → Bool → (Object → Bool) → Value → (Bool → Outco
 asks os nullToo test v f = onReference v (λ r. given r (f nullToo) (λ o. given (getElem? os o) stuck (λ x. f (test x))))
 
 -- a value that is there, and the answer of it
-answered : {vs : List Value} {ask : Value → (Bool → Outcome) → Outcome} {w : Value} (b : Bool) → headOf vs ≡ some w → ((f : Bool → Outcome) → ask w f ≡ f b) → Answers vs ask (Passing.the-variants.Is b)
+answered :
+    {vs : List Value} {ask : Value → (Bool → Outcome) → Outcome} {w : Value} (b : Bool) → headOf vs ≡ some w → ((f : Bool → Outcome) → ask w f ≡ f b)
+    → Answers vs ask (Passing.the-variants.Is b)
 answered {vs} {ask} {w} b e same =
     record {
       wrong = λ q. absurd (let z : _≡_ {A = ℕ} 0 1 = cc in omega arith);
@@ -46,7 +47,9 @@ answered {vs} {ask} {w} b e same =
     }
 
 -- no answer
-unanswered : {vs : List Value} {ask : Value → (Bool → Outcome) → Outcome} → ((f : Value → List Value → Bool → Outcome) → onTaken vs (λ v below. ask v (f v below)) ≡ stuck) → Answers vs ask Passing.the-variants.Wrong
+unanswered :
+    {vs : List Value} {ask : Value → (Bool → Outcome) → Outcome} → ((f : Value → List Value → Bool → Outcome) → onTaken vs (λ v below. ask v (f v below)) ≡ stuck)
+    → Answers vs ask Passing.the-variants.Wrong
 unanswered lost =
     record {
       wrong = λ q. lost;
@@ -65,7 +68,7 @@ module _ {top : Topmost} {q : Reference} (seen-as : q ≡ referenceAt top) {vs :
   module _ (objects cells : List ℕ) {n : ℕ} (nullToo : Bool) (test : Object → Bool) {o : ℕ} (e : q ≡ Reference.the-variants.To o) where
     ask-past : n ≤ o → Answers vs (asks (storeAt objects cells n) nullToo test) Passing.the-variants.Wrong
     ask-past h =
-        unanswered (λ f. on-top vs (object-top s seen-as e) (λ v below. asks (storeAt objects cells n) nullToo test v (f v below)) ∙ rw (numbered-past (objectAt objects cells) 0 n o h) refl)
+        unanswered (λ f. on-top vs (object-top s seen-as e) (λ v below. asks (storeAt objects cells n) nullToo test v (f v below)) ∙ rw (store-past objects cells n o h) refl)
 
     ask-object : o < n → {b : Bool} → test (objectAt objects cells o) ≡ b → Answers vs (asks (storeAt objects cells n) nullToo test) (Passing.the-variants.Is b)
     ask-object h {b} t =
@@ -87,7 +90,9 @@ module _ (rows codes objects : List ℕ) (n : ℕ) {top : Topmost} (nullToo : Bo
     pub cast-past : n ≤ o → PassesAs rows codes objects n top nullToo h Passing.the-variants.Wrong
     cast-past l = record { answers = λ vs cells s. ask-past seen-as s objects cells nullToo (belongs rows codes h) e l }
 
-    pub cast-object : o < n → {made : ℕ} → TypeOf objects o made → {below : Bool} → below ≡ heapBelow (view rows codes) (heapAtCode (11 + 2 * made)) (heapAtCode h) → PassesAs rows codes objects n top nullToo h (Passing.the-variants.Is below)
+    pub cast-object :
+        o < n → {made : ℕ} → TypeOf objects o made → {below : Bool} → below ≡ heapBelow (view rows codes) (heapAtCode (11 + 2 * made)) (heapAtCode h)
+        → PassesAs rows codes objects n top nullToo h (Passing.the-variants.Is below)
     cast-object l {made} t b =
         record {
           answers = λ vs cells s.

@@ -21,7 +21,8 @@ use Rattle.cast_moves.specs.declared.Passing
 pub record Answers (vs : List Value) (ask : Value → (Bool → Outcome) → Outcome) (r : Passing) : Type 0 where
   pub wrong : r ≡ Passing.the-variants.Wrong → (f : Value → List Value → Bool → Outcome) → onTaken vs (λ v below. ask v (f v below)) ≡ stuck
   pub there : (b : Bool) → r ≡ Passing.the-variants.Is b → (v : Value) × (headOf vs ≡ some v)
-  pub is : (b : Bool) → r ≡ Passing.the-variants.Is b → (v : Value) → headOf vs ≡ some v → (f : Value → List Value → Bool → Outcome) → onTaken vs (λ w below. ask w (f w below)) ≡ f v (drop 1 vs) b
+  pub is : (b : Bool) → r ≡ Passing.the-variants.Is b → (v : Value) → headOf vs ≡ some v → (f : Value → List Value → Bool → Outcome)
+      → onTaken vs (λ w below. ask w (f w below)) ≡ f v (drop 1 vs) b
 
 pub record PassesAs (rows codes objects : List ℕ) (n : ℕ) (top : Topmost) (null : Bool) (h : ℕ) (r : Passing) : Type 0 where
   pub answers : (vs : List Value) (cells : List ℕ) → Seen vs top → Answers vs (passes (view rows codes) (storeAt objects cells n) null (heapAtCode h)) r

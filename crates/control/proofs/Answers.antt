@@ -3,13 +3,18 @@ use Prim.Native.Nat.{ℕ}
 use mathlib.Core.Path.{_≡_, refl}
 use mathlib.Core.List.{List}
 use native.Mathlib.Omega.{arith}
-use Rattle.scope.specs.Machine.{Machine, Outcome}
+use Rattle.scope.specs.Machine.{Machine, Outcome, stuck}
 use Rattle.stage.specs.declared.Stage.{Stage}
 use Rattle.stage.specs.declared.Stepped.{Stepped}
 use Rattle.stage.specs.declared.Stepped
 use Rattle.stage.specs.Machines.{Framed, Closed}
-use Rattle.stage.specs.Moved.{Astray}
+use Rattle.stage.specs.Moved.{Astray, is-stuck}
 use Rattle.stage.specs.Controlled.{Piled, controlled, SameHeap, ControlIs}
+
+-- a later stage of the same heap
+abbrev pub after : Stage → ℕ → ℕ → ℕ → ℕ → Stage
+after st place base height depth =
+    record { place = place; objects = st .objects; cells = st .cells; base = base; height = height; depth = depth }
 
 module _ {s ends operands blocks : List ℕ} {st : Stage} {m : Machine} {want : Outcome} where
   -- the same outcome, said otherwise
@@ -30,7 +35,12 @@ module _ {s ends operands blocks : List ℕ} {st : Stage} {m : Machine} {want : 
         traps-not = λ n e. let z : _≡_ {A = ℕ} 0 1 = cc in omega arith;
       }
 
-  pub control-goes : (later : Stage) → controlled s operands blocks m (Stepped.the-variants.Goes later) ≡ want → Piled operands later → Framed s ends blocks later → SameHeap st later → ControlIs s ends operands blocks st m want (Stepped.the-variants.Goes later)
+  pub control-stuck : want ≡ stuck → ControlIs s ends operands blocks st m want Stepped.the-variants.Astray
+  control-stuck e = control-astray (rw e is-stuck)
+
+  pub control-goes :
+      (later : Stage) → controlled s operands blocks m (Stepped.the-variants.Goes later) ≡ want → Piled operands later → Framed s ends blocks later → SameHeap st later
+      → ControlIs s ends operands blocks st m want (Stepped.the-variants.Goes later)
   control-goes later is piled framed heap =
       record {
         is = λ n. is;
@@ -44,7 +54,9 @@ module _ {s ends operands blocks : List ℕ} {st : Stage} {m : Machine} {want : 
         traps-not = λ n e. let z : _≡_ {A = ℕ} 0 1 = cc in omega arith;
       }
 
-  pub control-ends : (later : Stage) → controlled s operands blocks m (Stepped.the-variants.Ends later) ≡ want → Piled operands later → Closed s later → SameHeap st later → ControlIs s ends operands blocks st m want (Stepped.the-variants.Ends later)
+  pub control-ends :
+      (later : Stage) → controlled s operands blocks m (Stepped.the-variants.Ends later) ≡ want → Piled operands later → Closed s later → SameHeap st later
+      → ControlIs s ends operands blocks st m want (Stepped.the-variants.Ends later)
   control-ends later is piled closed heap =
       record {
         is = λ n. is;

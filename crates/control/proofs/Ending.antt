@@ -9,7 +9,7 @@ use mir.Syntax.{w32}
 use mir.Val.{Fits}
 use Rattle.scope.specs.Instructions.{end}
 use Rattle.scope.specs.Bodies.{Code}
-use Rattle.scope.specs.Machine.{Value, Block, Machine, Program, Outcome, goes, ends, stuck, withControl, finish, close, doInstr}
+use Rattle.scope.specs.Machine.{Value, Block, Machine, Program, goes, ends, withControl, finish, close, doInstr}
 use Rattle.pile.specs.Pile.{pile, Lower, Moved}
 use Rattle.pile.proofs.Laws.{pile-join, split-some, split-none}
 use Rattle.ends.proofs.Codes.{code-none}
@@ -17,20 +17,16 @@ use Rattle.stage.specs.declared.Stage.{Stage}
 use Rattle.stage.specs.declared.Stepped.{Stepped}
 use Rattle.stage.specs.declared.Stepped
 use Rattle.stage.specs.Machines.{blockWord, lower, blockOf, blocksAt, atHeight}
-use Rattle.stage.specs.Moved.{Astray, is-stuck}
 use Rattle.stage.specs.Controlled.{Piled, controlled}
 use Rattle.stage.proofs.Open.{either-block, lower-more, charted-next, nested-end}
 use Rattle.control.specs.Control.{Finishes, Closable, Closes}
-use Rattle.control.proofs.Answers.{control-for, control-astray, control-goes, control-ends}
+use Rattle.control.proofs.Answers.{after, control-for, control-stuck, control-goes, control-ends}
 
 -- the run is done
 
-stuck-astray : {m : Machine} {want : Outcome} → want ≡ stuck → Astray m want
-stuck-astray e = rw e is-stuck
-
 pub finish-short : (operands : List ℕ) {st : Stage} {left results bytes : ℕ} → left < results → Finishes operands operands st left results bytes Stepped.the-variants.Astray
 finish-short operands {st} {left} {results} h =
-    record { is = λ s ends blocks p m r b. control-astray (stuck-astray (rw (r, split-none operands (st .base) h))) }
+    record { is = λ s ends blocks p m r b. control-stuck (rw (r, split-none operands (st .base) h)) }
 
 module _ {operands : List ℕ} (st : Stage) {left results : ℕ} (piled : Piled operands (atHeight st left)) (h : results ≤ left) where
   pub finish-fits : Fits w32 (st .base + (left - results))
@@ -39,7 +35,9 @@ module _ {operands : List ℕ} (st : Stage) {left results : ℕ} (piled : Piled 
   pub finish-lower : Lower operands (st .base + (left - results)) 0 results
   finish-lower = record { room = piled .room; few = omega (arith, piled .high); down = omega arith }
 
-  pub finish-done : {operands′ : List ℕ} {bytes : ℕ} → Moved operands operands′ (st .base + (left - results)) 0 results → Finishes operands operands′ st left results bytes (Stepped.the-variants.Ends (record { place = bytes; objects = st .objects; cells = st .cells; base = 0; height = results; depth = 0 }))
+  pub finish-done :
+      {operands′ : List ℕ} {bytes : ℕ} → Moved operands operands′ (st .base + (left - results)) 0 results
+      → Finishes operands operands′ st left results bytes (Stepped.the-variants.Ends (after st bytes 0 results 0))
   unfolding controlled blocksAt
   finish-done {operands′} {bytes} d =
       let all : st .base + (left - results) + results ≡ st .base + left = omega arith in
@@ -57,14 +55,18 @@ pub ruleset finish-exits = (finish-short, finish-fits, finish-lower, finish-done
 -- an end
 
 -- the innermost block is left, whatever its kind
-close-block : (s : List ℕ) (p : Program) (m : Machine) (kind at : ℕ) (below : List Value) (bs : List Block) → close p m (blockOf s kind at below ∷ bs) ≡ goes (withControl m (m .operands ++ below) bs (m .code))
+close-block :
+    (s : List ℕ) (p : Program) (m : Machine) (kind at : ℕ) (below : List Value) (bs : List Block)
+    → close p m (blockOf s kind at below ∷ bs) ≡ goes (withControl m (m .operands ++ below) bs (m .code))
 close-block s p m kind at below bs =
     either-block (λ b. close p m (b ∷ bs) ≡ goes (withControl m (m .operands ++ below) bs (m .code))) s kind at below (λ again. refl) (λ n. refl)
 
 pub close-piled : {operands blocks : List ℕ} {st : Stage} → Closable operands blocks st → Piled operands (atHeight st (st .height))
 close-piled c = record { room = c .piled .room; canon = c .piled .canon; high = c .piled .high }
 
-pub close-last : {operands operands′ : List ℕ} {st : Stage} {results bytes : ℕ} {r : Stepped} → st .depth ≡ 0 → Finishes operands operands′ st (st .height) results bytes r → (blocks : List ℕ) (next : ℕ) → Closes operands operands′ blocks st next results bytes r
+pub close-last :
+    {operands operands′ : List ℕ} {st : Stage} {results bytes : ℕ} {r : Stepped} → st .depth ≡ 0 → Finishes operands operands′ st (st .height) results bytes r
+    → (blocks : List ℕ) (next : ℕ) → Closes operands operands′ blocks st next results bytes r
 unfolding doInstr blocksAt
 close-last {operands} {st = st} e f blocks next =
     record {
@@ -80,7 +82,9 @@ module _ {operands blocks : List ℕ} {st : Stage} (c : Closable operands blocks
   pub close-high : Fits w32 (st .base - lowest + st .height)
   close-high = record { fits = omega (arith, c .piled .high) }
 
-  pub close-goes : (next results bytes : ℕ) → Closes operands operands blocks st next results bytes (Stepped.the-variants.Goes (record { place = next; objects = st .objects; cells = st .cells; base = lowest; height = st .base - lowest + st .height; depth = st .depth - 1 }))
+  pub close-goes :
+      (next results bytes : ℕ)
+      → Closes operands operands blocks st next results bytes (Stepped.the-variants.Goes (after st next lowest (st .base - lowest + st .height) (st .depth - 1)))
   unfolding doInstr blocksAt controlled
   close-goes next results bytes =
       record {

@@ -34,11 +34,10 @@ use Rattle.stage.specs.declared.Stage.{Stage}
 use Rattle.stage.specs.declared.Stepped.{Stepped}
 use Rattle.stage.specs.declared.Stepped
 use Rattle.stage.specs.Machines.{blockWord, lower, codeAfter, blockOf, blocksAt, Opened, a-block, a-loop, Framed}
-use Rattle.stage.specs.Moved.{is-stuck}
 use Rattle.stage.specs.Controlled.{Controls, controlled}
 use Rattle.stage.proofs.Open.{lower-more, charted-next, charted-end, opener-of, nested-first, operands-same, Around, around, blocks-length}
 use Rattle.control.specs.Control.{Finishes, Branchable, Leavable, LeavesTo, Descends, LeavesBlock, Branches}
-use Rattle.control.proofs.Answers.{control-for, control-astray, control-goes}
+use Rattle.control.proofs.Answers.{after, control-for, control-stuck, control-goes}
 
 -- how many values a label takes
 
@@ -83,11 +82,15 @@ module _ (p : Program) (m : Machine) (label : ℕ) (vs : List Value) where
   unfolding jump
   jump-last = refl
 
-  jump-block : (at n : ℕ) (below : List Value) (bs : List Block) → jump p m label (openBlock at n below ∷ bs) vs 0 ≡ given (splitTop n vs) stuck (λ s. goes (withControl m (s .0 ++ below) bs (past (suc label) (m .code))))
+  jump-block :
+      (at n : ℕ) (below : List Value) (bs : List Block)
+      → jump p m label (openBlock at n below ∷ bs) vs 0 ≡ given (splitTop n vs) stuck (λ s. goes (withControl m (s .0 ++ below) bs (past (suc label) (m .code))))
   unfolding jump
   jump-block at n below bs = refl
 
-  jump-loop : (at : ℕ) (below : List Value) (again : Code) (bs : List Block) → jump p m label (openLoop at below again ∷ bs) vs 0 ≡ goes (withControl m [] (openLoop at below again ∷ bs) again)
+  jump-loop :
+      (at : ℕ) (below : List Value) (again : Code) (bs : List Block)
+      → jump p m label (openLoop at below again ∷ bs) vs 0 ≡ goes (withControl m [] (openLoop at below again ∷ bs) again)
   unfolding jump
   jump-loop at below again bs = refl
 
@@ -109,31 +112,37 @@ abbrev lying : List ℕ → List ℕ → ℕ → List Value
 lying operands blocks d = pile operands (lower blocks d) (blockWord blocks d 2 - lower blocks d)
 
 -- to the label of block d
-module _ {s ends operands blocks : List ℕ} {st : Stage} (p : Program) (m : Machine) (d l : ℕ) (is : st .depth ≡ d + 1 + l) (f : Framed s ends blocks st) (c : Controls s operands blocks st m) where
+
+module _ {s ends blocks : List ℕ} {st : Stage} (d l : ℕ) (is : st .depth ≡ d + 1 + l) (f : Framed s ends blocks st) where
   target : Around s ends blocks d l (codeAt s (st .place))
   target = around d l (rw is at (f .nested))
 
   low-target : blockWord blocks d 2 ≤ st .base
   low-target = rw (f .base, is) (target .high)
 
+module _ {s ends operands blocks : List ℕ} {st : Stage} (p : Program) (m : Machine) (d l : ℕ) (is : st .depth ≡ d + 1 + l) (f : Framed s ends blocks st) (c : Controls s operands blocks st m) where
   reaches : (vs : List Value) → branch p m l vs ≡ jump p m l (blockOf s (blockWord blocks d 0) (blockWord blocks d 1) (lying operands blocks d) ∷ blocksAt s blocks operands d) vs 0
   unfolding blocksAt
   reaches vs =
       let one : d + 1 + l ≡ suc d + l = omega arith in
       ap (λ (bs : List Block). jump p m l bs vs l) (c .opened ∙ ap (blocksAt s blocks operands) (is ∙ one)) ∙ jump-over p m l vs s blocks operands (suc d) l
 
-  reaches-block : (vs : List Value) {rs : List Val} {next : ℕ} → instrAt s (blockWord blocks d 1) ≡ got (block rs) next → branch p m l vs ≡ given (splitTop (length rs) vs) stuck (λ parts. goes (withControl m (parts .0 ++ lying operands blocks d) (blocksAt s blocks operands d) (past (suc l) (m .code))))
+  reaches-block :
+      (vs : List Value) {rs : List Val} {next : ℕ} → instrAt s (blockWord blocks d 1) ≡ got (block rs) next
+      → branch p m l vs ≡ given (splitTop (length rs) vs) stuck (λ parts. goes (withControl m (parts .0 ++ lying operands blocks d) (blocksAt s blocks operands d) (past (suc l) (m .code))))
   reaches-block vs {rs} read =
       reaches vs
-      ∙ ap (λ (b : Block). jump p m l (b ∷ blocksAt s blocks operands d) vs 0) (opened-block (target .opened) read (lying operands blocks d))
+      ∙ ap (λ (b : Block). jump p m l (b ∷ blocksAt s blocks operands d) vs 0) (opened-block (target d l is f .opened) read (lying operands blocks d))
       ∙ jump-block p m l vs (blockWord blocks d 1) (length rs) (lying operands blocks d) (blocksAt s blocks operands d)
 
   -- the loop is kept open
-  reaches-loop : (vs : List Value) {rs : List Val} {next : ℕ} → instrAt s (blockWord blocks d 1) ≡ got (loop rs) next → branch p m l vs ≡ goes (withControl m [] (blocksAt s blocks operands (d + 1)) (codeAt s next))
+  reaches-loop :
+      (vs : List Value) {rs : List Val} {next : ℕ} → instrAt s (blockWord blocks d 1) ≡ got (loop rs) next
+      → branch p m l vs ≡ goes (withControl m [] (blocksAt s blocks operands (d + 1)) (codeAt s next))
   unfolding blocksAt
   reaches-loop vs {rs} {next} read =
       let one : d + 1 ≡ suc d = omega arith in
-      let it : blockOf s (blockWord blocks d 0) (blockWord blocks d 1) (lying operands blocks d) ≡ openLoop (blockWord blocks d 1) (lying operands blocks d) (codeAt s next) = opened-loop (target .opened) read (lying operands blocks d) in
+      let it : blockOf s (blockWord blocks d 0) (blockWord blocks d 1) (lying operands blocks d) ≡ openLoop (blockWord blocks d 1) (lying operands blocks d) (codeAt s next) = opened-loop (target d l is f .opened) read (lying operands blocks d) in
       reaches vs
       ∙ ap (λ (b : Block). jump p m l (b ∷ blocksAt s blocks operands d) vs 0) it
       ∙ jump-loop p m l vs (blockWord blocks d 1) (lying operands blocks d) (codeAt s next) (blocksAt s blocks operands d)
@@ -148,8 +157,7 @@ leave-short ends operands blocks {st} {left} d h =
           record {
             is = λ p m l is c.
                 let short : left < length rs = omega arith in
-                control-for (reaches-block p m d l is f c (pile operands (st .base) left) read ∙ (rw (split-none operands (st .base) short) refl))
-                (control-astray is-stuck);
+                control-stuck (reaches-block p m d l is f c (pile operands (st .base) left) read ∙ (rw (split-none operands (st .base) short) refl));
           };
     }
 
@@ -172,14 +180,14 @@ module _ {operands blocks : List ℕ} (st : Stage) {left d : ℕ} (e : Descends 
 
       pub leave-goes :
           {ends operands′ : List ℕ} {place to : ℕ} → WordAt blocks (3 * d + 1) place → WordAt ends place to → Moved operands operands′ (st .base + (left - takes)) below takes
-          → LeavesBlock ends operands operands′ blocks st left d takes (Stepped.the-variants.Goes (record { place = to; objects = st .objects; cells = st .cells; base = lowest; height = below - lowest + takes; depth = d }))
+          → LeavesBlock ends operands operands′ blocks st left d takes (Stepped.the-variants.Goes (after st to lowest (below - lowest + takes) d))
       unfolding controlled
       leave-goes {ends} {operands′} {place} {to} w v moved =
           record {
             is = λ s rs next f read many.
                 record {
                   is = λ p m l is c.
-                      let t = target p m d l is f c in
+                      let t = target d l is f in
                       let under : lowest ≤ below = descend-low in
                       let whole : lowest + (below - lowest) ≡ below = omega arith in
                       let high : lowest + (below - lowest + takes) ≡ below + takes = omega arith in
@@ -252,17 +260,15 @@ block-short : {rs : List Val} → Short (block rs) → length rs ≤ 1
 block-short (short-block h) = h
 
 module _ {s ends operands blocks : List ℕ} {st : Stage} {left d : ℕ} (a : Leavable s ends operands blocks st left d) where
+  within : st .depth ≡ d + 1 + (st .depth - 1 - d)
+  within = let inside : d < st .depth = a .there in omega arith
+
   around-now : Around s ends blocks d (st .depth - 1 - d) (codeAt s (st .place))
-  around-now =
-      let inside : d < st .depth = a .there in
-      let is : st .depth ≡ d + 1 + (st .depth - 1 - d) = omega arith in
-      around d (st .depth - 1 - d) (rw is at (a .branchable .framed .nested))
+  around-now = target d (st .depth - 1 - d) within (a .branchable .framed)
 
   pub leave-descends : Descends operands blocks st left d
   leave-descends =
-      let inside : d < st .depth = a .there in
-      let is : st .depth ≡ d + 1 + (st .depth - 1 - d) = omega arith in
-      record { piled = a .branchable .piled; low = around-now .low; high = rw (a .branchable .framed .base, is) (around-now .high) }
+      record { piled = a .branchable .piled; low = around-now .low; high = low-target d (st .depth - 1 - d) within (a .branchable .framed) }
 
   pub leave-deeper : Fits w32 (d + 1)
   leave-deeper = record { fits = omega (arith, a .there, a .branchable .framed .deep) }
@@ -281,7 +287,9 @@ module _ {s ends operands blocks : List ℕ} {st : Stage} {left d : ℕ} (a : Le
       pub leave-other : OneOf other-codes (tagOf the-type i) → LeavesTo s ends operands operands blocks st left d Stepped.the-variants.Astray
       leave-other h = let (j, read, same) = read-there in absurd (no-other read same (around-now .opened) h)
 
-      pub leave-out : {v : ℕ} → i ≡ Instruction.the-variants.Block v → {takes : ℕ} → takes ≡ length (blockResults v) → {operands′ : List ℕ} {answer : Stepped} → LeavesBlock ends operands operands′ blocks st left d takes answer → LeavesTo s ends operands operands′ blocks st left d answer
+      pub leave-out :
+          {v : ℕ} → i ≡ Instruction.the-variants.Block v → {takes : ℕ} → takes ≡ length (blockResults v) → {operands′ : List ℕ} {answer : Stepped}
+          → LeavesBlock ends operands operands′ blocks st left d takes answer → LeavesTo s ends operands operands′ blocks st left d answer
       leave-out {v} is {takes} many b =
           let (j, read, same) = read-there in
           let (rs, which, code) = as-block-read read same (around-now .opened) is in
@@ -291,7 +299,7 @@ module _ {s ends operands blocks : List ℕ} {st : Stage} {left d : ℕ} (a : Le
 
       pub leave-again :
           {v : ℕ} → i ≡ Instruction.the-variants.Loop v → {below : ℕ} → WordAt blocks (3 * d + 2) below
-          → LeavesTo s ends operands operands blocks st left d (Stepped.the-variants.Goes (record { place = next; objects = st .objects; cells = st .cells; base = below; height = 0; depth = d + 1 }))
+          → LeavesTo s ends operands operands blocks st left d (Stepped.the-variants.Goes (after st next below 0 (d + 1)))
       unfolding controlled pile
       leave-again is {below} b =
           let (j, read, same) = read-there in
@@ -301,14 +309,16 @@ module _ {s ends operands blocks : List ℕ} {st : Stage} {left d : ℕ} (a : Le
           f : Framed s ends blocks st
           f = a .branchable .framed
 
-          loop-again : (rs : List Val) → instrAt s (blockWord blocks d 1) ≡ got (loop rs) next → Opened s (blockWord blocks d 0) (blockWord blocks d 1) next → LeavesTo s ends operands operands blocks st left d (Stepped.the-variants.Goes (record { place = next; objects = st .objects; cells = st .cells; base = below; height = 0; depth = d + 1 }))
+          loop-again :
+              (rs : List Val) → instrAt s (blockWord blocks d 1) ≡ got (loop rs) next → Opened s (blockWord blocks d 0) (blockWord blocks d 1) next
+              → LeavesTo s ends operands operands blocks st left d (Stepped.the-variants.Goes (after st next below 0 (d + 1)))
           loop-again rs read opened =
               record {
                 is = λ p m l is c.
-                    let t = target p m d l is f c in
+                    let t = target d l is f in
                     let one : d + 1 ≡ suc d = omega arith in
                     let none : below + 0 ≡ below = omega arith in
-                    let inside : below ≤ st .base = omega (arith, low-target p m d l is f c, b .is) in
+                    let inside : below ≤ st .base = omega (arith, low-target d l is f, b .is) in
                     control-goes _
                     (sym (reaches-loop p m d l is f c (pile operands (st .base) left) read))
                     (record { room = a .branchable .piled .room; canon = rw none (all-less (a .branchable .piled .canon) (omega arith)); high = rw none (omega (arith, a .branchable .piled .high)) })
@@ -333,10 +343,12 @@ module _ {s ends operands blocks : List ℕ} {st : Stage} {left : ℕ} (a : Bran
       record {
         is = λ p m r c.
             let many : length (m .blocks) ≡ st .depth = ap length (c .opened) ∙ blocks-length s blocks operands (st .depth) in
-            control-for (jump-out p m label (pile operands (st .base) left) (m .blocks) label (omega arith)) (control-astray is-stuck);
+            control-stuck (jump-out p m label (pile operands (st .base) left) (m .blocks) label (omega arith));
       }
 
-  pub branch-last : st .depth ≡ label → {operands′ : List ℕ} {results : ℕ} {r : Stepped} → Finishes operands operands′ st left results (length s) r → Branches s ends operands operands′ blocks st left label results r
+  pub branch-last :
+      st .depth ≡ label → {operands′ : List ℕ} {results : ℕ} {r : Stepped} → Finishes operands operands′ st left results (length s) r
+      → Branches s ends operands operands′ blocks st left label results r
   unfolding blocksAt
   branch-last h b =
       record {
@@ -356,7 +368,9 @@ module _ {s ends operands blocks : List ℕ} {st : Stage} {left : ℕ} (a : Bran
     pub branch-leavable : Leavable s ends operands blocks st left (st .depth - 1 - label)
     branch-leavable = record { branchable = a; there = omega (arith, n) }
 
-    pub branch-leaves : {operands′ : List ℕ} {r : Stepped} → LeavesTo s ends operands operands′ blocks st left (st .depth - 1 - label) r → (results : ℕ) → Branches s ends operands operands′ blocks st left label results r
+    pub branch-leaves :
+        {operands′ : List ℕ} {r : Stepped} → LeavesTo s ends operands operands′ blocks st left (st .depth - 1 - label) r → (results : ℕ)
+        → Branches s ends operands operands′ blocks st left label results r
     branch-leaves b results = record { is = λ p m r c. b .is p m label (omega (arith, n)) c }
 
 pub ruleset branch-exits = (branch-far, branch-last, branch-inside, branch-leavable, branch-leaves)

@@ -22,7 +22,7 @@ use Rattle.stage.specs.Moved.{Astray, too-deep}
 use Rattle.stage.specs.Controlled.{Controls, controlled}
 use Rattle.stage.proofs.Open.{blocks-length, blocks-same, lower-same, lower-more, charted-next, opener-of, nested-same, nested-first, nested-opener}
 use Rattle.control.specs.Control.{OpensAs, as-block, as-loop, Low, Opens}
-use Rattle.control.proofs.Answers.{control-astray, control-goes}
+use Rattle.control.proofs.Answers.{after, control-astray, control-goes}
 
 -- too many are open
 
@@ -88,7 +88,7 @@ module _ {blocks blocks₁ blocks₂ blocks₃ : List ℕ} {d kind at below : �
 
 module _ (s ends operands : List ℕ) {blocks blocks′ : List ℕ} (st : Stage) {kind next : ℕ} {i : Instr} (w : Written blocks blocks′ (st .depth) kind (st .place) (st .base + st .height)) (f : Framed s ends blocks st) (read : instrAt s (st .place) ≡ got i next) (o : OpensAs kind i) where
   abbrev later : Stage
-  later = record { place = next; objects = st .objects; cells = st .cells; base = st .base + st .height; height = 0; depth = st .depth + 1 }
+  later = after st next (st .base + st .height) 0 (st .depth + 1)
 
   low : lower blocks′ (st .depth) ≡ st .base
   low = lower-same blocks blocks′ (st .depth) (w .others) ∙ sym (f .base)
@@ -124,8 +124,11 @@ module _ (s ends operands : List ℕ) {blocks blocks′ : List ℕ} (st : Stage)
       rw (new-blocks, ← c .values, ← c .opened) (block-of s p m (st .place) o read (c .code))
 
 pub open-goes :
-    {st : Stage} → Low st → st .depth < 63 → {blocks blocks₁ blocks₂ blocks₃ : List ℕ} {next kind : ℕ} → blocks₁ ≡ set blocks (3 * st .depth) (kind % 65_536) → blocks₂ ≡ set blocks₁ (3 * st .depth + 1) (st .place % 65_536) → blocks₃ ≡ set blocks₂ (3 * st .depth + 2) ((st .base + st .height) % 65_536)
-    → Opens blocks blocks₃ st next kind (Stepped.the-variants.Goes (record { place = next; objects = st .objects; cells = st .cells; base = st .base + st .height; height = 0; depth = st .depth + 1 }))
+    {st : Stage} → Low st → st .depth < 63 → {blocks blocks₁ blocks₂ blocks₃ : List ℕ} {next kind : ℕ}
+    → blocks₁ ≡ set blocks (3 * st .depth) (kind % 65_536)
+    → blocks₂ ≡ set blocks₁ (3 * st .depth + 1) (st .place % 65_536)
+    → blocks₃ ≡ set blocks₂ (3 * st .depth + 2) ((st .base + st .height) % 65_536)
+    → Opens blocks blocks₃ st next kind (Stepped.the-variants.Goes (after st next (st .base + st .height) 0 (st .depth + 1)))
 open-goes {st} low deep {blocks} {blocks₁} {blocks₂} {blocks₃} {next} {kind} e₁ e₂ e₃ =
     record {
       is = λ s ends operands i p m f piled read o c.

@@ -1,6 +1,6 @@
 -- Each way out of the instructions that look into an object: struct.get, struct.set and ref.get_desc.
 use Prim.Native.Nat.{ℕ, _+_, _*_, _^_, _≤_, _<_}
-use mathlib.Core.Path.{_≡_, refl, _∙_}
+use mathlib.Core.Path.{_≡_, _∙_}
 use mathlib.Core.Option.{none, some}
 use mathlib.Core.List.{List}
 use native.Mathlib.Omega.{arith}
@@ -13,10 +13,10 @@ use Rattle.scope.specs.Machine.{Value, Object, Store, Outcome, traps, stuck, on
 use Rattle.table.specs.declared.Link.{Link}
 use Rattle.table.specs.declared.Link
 use Rattle.table.proofs.Laws.{link-nothing, link-to}
-use Rattle.cells.proofs.Laws.{value-object, canon-object}
 use Rattle.store.specs.declared.Held.{Held}
 use Rattle.store.specs.declared.Held
 use Rattle.store.specs.Heap.{objectWord, objectAt, DescriptorOf, HeldField}
+use Rattle.store.proofs.Packs.{object-there, object-past}
 use Rattle.store.proofs.Asked.{fields-length, field-got, field-missed}
 use Rattle.pile.specs.declared.Topmost.{Topmost}
 use Rattle.pile.specs.declared.Topmost
@@ -25,7 +25,7 @@ use Rattle.stage.specs.declared.Reference.{Reference}
 use Rattle.stage.specs.declared.Reference
 use Rattle.stage.specs.Planned.{referenceAt, Seen, FieldPlans}
 use Rattle.stage.proofs.Tops.{on-top, on-none, top-low, two-low, value-top, no-top, wrong-top, null-top, object-top}
-use Rattle.stage.proofs.Moving.{strays, trapping, giving, setting-field, object-there, object-past}
+use Rattle.stage.proofs.Moving.{strays, trapping, giving, setting-field, giving-object}
 
 -- the topmost operand, looked into
 
@@ -134,7 +134,9 @@ module _ {objects cells : List ℕ} {n : ℕ} {first second : Topmost} (x i : �
             }
 
 -- the number of a field that is there is less than how many there are, which is one word
-pub field-fits : {objects cells : List ℕ} {o i : ℕ} {held : Held} → HeldField objects cells o i held → {k w : ℕ} → held ≡ Held.the-variants.Is k w → ((j : ℕ) → getD objects j 0 < 2 ^ 16) → Fits w32 i
+pub field-fits :
+    {objects cells : List ℕ} {o i : ℕ} {held : Held} → HeldField objects cells o i held → {k w : ℕ} → held ≡ Held.the-variants.Is k w → ((j : ℕ) → getD objects j 0 < 2 ^ 16)
+    → Fits w32 i
 field-fits {objects} {cells} {o} {i} b {k} {w} e words =
     let small = words (4 * o + 3) in
     let inside : i < objectWord objects o 3 = rw (fields-length objects cells o) at (b .inside k w e) in record { fits = omega arith }
@@ -172,11 +174,10 @@ module _ {objects cells : List ℕ} {n : ℕ} {first second : Topmost} (x : ℕ)
       desc-got {d} q =
           record {
             is = λ p codes m total a.
-                giving 1 6 d
+                giving-object 1 d
                 (look-there (a .top) is (m .heap) _ e (object-there objects cells (a .heap) h)
-                ∙ rw (link-to (objectAt objects cells o .descriptor) (b .is cells) q, value-object {k = 6} d refl))
-                (top-low (m .operands) (object-top (a .top) is e))
-                (canon-object d);
+                ∙ rw (link-to (objectAt objects cells o .descriptor) (b .is cells) q))
+                (top-low (m .operands) (object-top (a .top) is e));
           }
 
 pub ruleset field-exits = (get-wrong, get-null, get-past, get-missed, get-got, set-nothing, set-wrong, set-null, set-past, set-missed, set-got, desc-wrong, desc-null, desc-past, desc-missed, desc-got)

@@ -3,18 +3,16 @@ use Prim.Native.Nat.{ℕ, _+_, _-_, _%_, _≤_, _<_}
 use mathlib.Core.Path.{_≡_, refl, sym, ap, _∙_}
 use mathlib.Core.Bool.{Bool, true, false, not}
 use mathlib.Core.Option.{Option, none, some}
-use mathlib.Core.List.{List, [], _∷_, _++_, map, reverse}
+use mathlib.Core.List.{List, reverse}
 use native.Mathlib.Omega.{arith}
 use native.Mathlib.Nat.{mod-eq-of-lt}
-use lib.ListN.{length, take, drop, take-append-drop, length-drop, length-reverse, length-map}
+use lib.ListN.{length, take, drop, length-drop, length-reverse, length-map}
 use lib.Seq.{drop-drop, length-take-le}
 use borrow.Author.Tests.{not-true, not-false}
-use Rattle.scope.specs.Lists.{every}
-use Rattle.scope.specs.Syntax.{Val, num, ref, Field}
-use Rattle.scope.specs.BodyRules.{fieldsOf, holdsOf, hasDefault}
+use Rattle.scope.specs.Syntax.{Field}
+use Rattle.scope.specs.BodyRules.{fieldsOf, holdsOf}
 use Rattle.scope.specs.Instructions.{Op, struct-new, struct-new-default, struct-new-desc, struct-new-default-desc}
-use Rattle.scope.specs.Machine.{Value, Store, Machine, Program, traps, goes, stuck, splitTop, defaultsOf, hasRoom, make, makeGiven, makeDefault, doOp}
-use Rattle.scope.proofs.Taking.{split-top}
+use Rattle.scope.specs.Machine.{Value, Store, Machine, Program, traps, goes, stuck, hasRoom, make, makeGiven, makeDefault, doOp}
 use Rattle.table.specs.View.{view, linkAt, fieldAtCode, codesAt}
 use Rattle.table.specs.Answers.{shapeForm}
 use Rattle.table.specs.declared.Shape.{Shape}
@@ -22,43 +20,22 @@ use Rattle.table.specs.declared.Shape
 use Rattle.standing.proofs.Answers.{codes-length}
 use Rattle.struct_plans.specs.Structs.{allDefault}
 use Rattle.store.specs.Heap.{storeAt, Kept, RoomFor, startOf}
+use Rattle.store.proofs.Packs.{heap-length}
 use Rattle.store.proofs.Made.{link-more}
+use Rattle.store.proofs.Filling.{every-default, some-without}
 use Rattle.pile.specs.declared.Topmost.{Topmost}
-use Rattle.pile.proofs.Laws.{few-split}
+use Rattle.pile.proofs.Laws.{take-split, few-split}
 use Rattle.stage.specs.declared.Move.{Move}
 use Rattle.stage.specs.declared.Move
 use Rattle.stage.specs.declared.Reference.{Reference}
 use Rattle.stage.specs.declared.Reference
 use Rattle.stage.specs.Moved.{withObject, defaultsAt}
 use Rattle.stage.specs.Planned.{referenceAt, MakePlans}
-use Rattle.stage.proofs.Tops.{on-top, top-low, wrong-top, null-top, object-top}
-use Rattle.stage.proofs.Moving.{strays, dangles, trapping, making, making-default, same-want, head-there, store-length}
+use Rattle.stage.proofs.Tops.{on-top, top-low, head-there, wrong-top, null-top, object-top}
+use Rattle.stage.proofs.Moving.{strays, dangles, trapping, making, making-default, same-want}
 use Rattle.heap_moves.specs.Makes.{MakesGiven, MakesDefaults}
 
--- operands taken from the top
-
-split-take : (k : ℕ) (vs : List Value) → k ≤ length vs → splitTop k vs ≡ some (take k vs, drop k vs)
-split-take k vs h =
-    let long : length (take k vs) ≡ k = length-take-le k vs h in
-    ap (λ (l : List Value). splitTop k l) (sym (take-append-drop k vs))
-    ∙ ap (λ (j : ℕ). splitTop j (take k vs ++ drop k vs)) (sym long)
-    ∙ split-top (take k vs) (drop k vs)
-
 -- defaults
-
-every-default : (vs : List Val) → every hasDefault vs ≡ true → defaultsOf vs ≡ some (map startOf vs)
-unfolding defaultsOf
-every-default [] e = refl
-every-default (num k ∷ vs) e = rw (every-default vs e)
-every-default (ref true h ∷ vs) e = rw (every-default vs e)
-every-default (ref false h ∷ vs) e = absurd (let z : _≡_ {A = ℕ} 0 1 = cc in omega arith)
-
-some-without : (vs : List Val) → every hasDefault vs ≡ false → defaultsOf vs ≡ none
-unfolding defaultsOf
-some-without [] e = absurd (let z : _≡_ {A = ℕ} 0 1 = cc in omega arith)
-some-without (num k ∷ vs) e = rw (some-without vs e)
-some-without (ref true h ∷ vs) e = rw (some-without vs e)
-some-without (ref false h ∷ vs) e = refl
 
 defaults-length : (codes : List ℕ) (first k : ℕ) → length (defaultsAt codes first k) ≡ k
 defaults-length codes first k =
@@ -72,7 +49,9 @@ module _ {n total need : ℕ} {room : Bool} (a : RoomFor n total need room) (m :
   room-is : {b : Bool} → room ≡ b → hasRoom (m .heap) need ≡ b
   room-is e = ap (λ (os : Store). hasRoom os need) heap ∙ sym (a .is objects cells (kept .packed)) ∙ e
 
-make-room : (m : Machine) (x : ℕ) (d : Option ℕ) (fields below : List Value) (k : ℕ) → length fields ≡ k → hasRoom (m .heap) k ≡ true → make m x d fields below ≡ goes (withObject m x d fields below)
+make-room :
+    (m : Machine) (x : ℕ) (d : Option ℕ) (fields below : List Value) (k : ℕ) → length fields ≡ k → hasRoom (m .heap) k ≡ true
+    → make m x d fields below ≡ goes (withObject m x d fields below)
 make-room m x d fields below k long room = rw (long, room)
 
 make-none : (m : Machine) (x : ℕ) (d : Option ℕ) (fields below : List Value) (k : ℕ) → length fields ≡ k → hasRoom (m .heap) k ≡ false → make m x d fields below ≡ traps 45
@@ -91,7 +70,7 @@ module _ (rows codes : List ℕ) (p : Program) (types : p .types ≡ view rows c
 
 module _ (p : Program) (m : Machine) (x : ℕ) (d : Option ℕ) (vs : List Value) {fs : List Field} (fields : fieldsOf (p .types x .form) ≡ some fs) {k : ℕ} (long : length fs ≡ k) where
   given-all : k ≤ length vs → makeGiven p m x d vs ≡ make m x d (reverse (take k vs)) (drop k vs)
-  given-all h = let parts = split-take k vs h in rw (fields, long, parts)
+  given-all h = let parts = take-split k vs h in rw (fields, long, parts)
 
   given-few : length vs < k → makeGiven p m x d vs ≡ stuck
   given-few h = let parts = few-split vs k h in rw (fields, long, parts)
@@ -237,7 +216,7 @@ module _ {rows codes : List ℕ} {n total height : ℕ} {first : Topmost} (x : �
     desc-past h o =
         record {
           is = λ p m second objects cells types long knows.
-              let size = store-length objects cells (knows .heap) in
+              let size = heap-length objects cells (knows .heap) in
               dangles 0 d (head-there (m .operands) (object-top (knows .top) is e)) (omega arith);
         }
 

@@ -1,18 +1,18 @@
--- Each arm of the dispatch: the move that is told is what its instruction comes to, where it is what a move's contract says.
+-- Each arm of `move_of`: the move that it answers is what its instruction comes to, by the contract of the call that told it.
 use Prim.Native.Nat.{ℕ, _-_, _<_}
 use mathlib.Core.Path.{_≡_, refl, sym, ap, _∙_}
 use mathlib.Core.Bool.{Bool}
-use mathlib.Core.List.{List, _∷_}
+use mathlib.Core.List.{List}
 use native.Mathlib.Omega.{arith}
 use lib.ListN.{length, drop}
-use Rattle.scope.specs.Syntax.{i32}
 use Rattle.scope.specs.Instructions.{Op, op}
-use Rattle.scope.specs.Machine.{Value, Machine, Program, goes, withOperands, doOp}
+use Rattle.scope.specs.Machine.{Value, Machine, Program, doOp}
 use Rattle.table.specs.View.{view}
 use Rattle.immediates.specs.declared.Instruction.{Instruction}
 use Rattle.immediates.specs.declared.Instruction
 use Rattle.decoded.specs.Decoded.{instrOf}
-use Rattle.cells.proofs.Laws.{value-of-code, value-null, canon-number, canon-null, all-less}
+use Rattle.decoded.specs.Named.{numberOf, Modest}
+use Rattle.cells.proofs.Laws.{all-less}
 use Rattle.pile.specs.declared.Topmost.{Topmost}
 use Rattle.pile.specs.declared.Topmost
 use Rattle.pile.specs.Pile.{headOf, TopIs}
@@ -22,9 +22,8 @@ use Rattle.stage.specs.declared.Move.{Move}
 use Rattle.stage.specs.declared.Move
 use Rattle.stage.specs.Moved.{MoveIs}
 use Rattle.stage.specs.Planned.{Seen, Knows, Holds, TopPlans, LocalPlans, FieldPlans, MakePlans}
-use Rattle.stage.proofs.Carries.{move-traps, move-leaves, move-gives, move-branches, move-returns}
+use Rattle.stage.proofs.Moving.{trapping, leaving, branching, returning, giving-i32, giving-null}
 use Rattle.cast_moves.specs.Passes.{CastChosen, DescriptorChosen}
-use Rattle.decoded.specs.Named.{numberOf, Modest}
 use Rattle.moves.specs.Moving.{SecondIs, MoveOf}
 use Rattle.moves.proofs.CastWays.{test-is, cast-is, on-cast-is, on-cast-fail-is, descriptor-cast-is, on-descriptor-is, on-descriptor-fail-is}
 
@@ -70,118 +69,151 @@ module _ {m : Machine} {objects cells locals operands : List ℕ} {count : ℕ} 
 
 -- the arms
 
-module _ {rows codes objects cells locals operands : List ℕ} {count : ℕ} {st : Stage} {i : Instruction} {j : Instruction} (e : i ≡ j) where
-  -- an instruction that is told whatever it looks at
-  tells : {o : Op} {r : Move} → instrOf j ≡ op o → ((p : Program) (m : Machine) → p .types ≡ view rows codes → Holds m objects cells locals operands count st → MoveIs p codes m (doOp p m (m .operands) o) r) → MoveOf rows codes objects cells locals operands count st i r
-  tells {o} f told =
-      record {
-        is = λ p m o′ types holds g.
-            let both : op o ≡ op o′ = sym f ∙ ap instrOf (sym e) ∙ g in
-            let same : o′ ≡ o = cc in
-            rw same (told p m types holds);
-      }
+-- the memory is named, so that what the laws say and ask of it can be said in short
+module _ (rows codes objects cells locals operands : List ℕ) (count : ℕ) (st : Stage) where
+  abbrev Tells : Instruction → Move → Type 0
+  Tells i r = MoveOf rows codes objects cells locals operands count st i r
 
-  module _ {o : Op} {r : Move} {first : Topmost} where
-    pub by-locals : LocalPlans locals count first o r → TopIs operands (st .base) (st .height) first → instrOf j ≡ op o → MoveOf rows codes objects cells locals operands count st i r
-    by-locals a t f = tells f (λ p m types holds. a .is p codes m (holds .held) (holds .localCanon) (sees t holds))
+  abbrev First : Topmost → Type 0
+  First t = TopIs operands (st .base) (st .height) t
 
-    module _ {second : Topmost} where
-      pub by-tops : TopPlans first second o r → TopIs operands (st .base) (st .height) first → SecondIs operands (st .base) (st .height) second → instrOf j ≡ op o → MoveOf rows codes objects cells locals operands count st i r
-      by-tops a t u f = tells f (λ p m types holds. a .is p codes m (sees t holds) (sees-next t holds u))
+  abbrev Second : Topmost → Type 0
+  Second t = SecondIs operands (st .base) (st .height) t
 
-      pub by-fields : FieldPlans objects cells (st .objects) first second o r → TopIs operands (st .base) (st .height) first → SecondIs operands (st .base) (st .height) second → instrOf j ≡ op o → MoveOf rows codes objects cells locals operands count st i r
-      by-fields a t u f = tells f (λ p m types holds. a .is p codes m (st .cells) (knows t holds u))
+  abbrev ByType : Topmost → Bool → ℕ → Move → Move → Move → Type 0
+  ByType first nullToo h yes′ no′ r = CastChosen rows codes objects (st .objects) first nullToo h yes′ no′ r
 
-      pub by-making : MakePlans rows codes (st .objects) (st .cells) (st .height) first o r → TopIs operands (st .base) (st .height) first → SecondIs operands (st .base) (st .height) second → instrOf j ≡ op o → MoveOf rows codes objects cells locals operands count st i r
-      by-making a t u f =
-          tells f (λ p m types holds. a .is p m second objects cells types (as-high t holds) (knows t holds u))
+  abbrev ByDescriptor : Topmost → Topmost → Bool → Move → Move → Move → Type 0
+  ByDescriptor first second nullToo yes′ no′ r = DescriptorChosen objects (st .objects) first second nullToo yes′ no′ r
 
-module _ {rows codes objects cells locals operands : List ℕ} {count : ℕ} {st : Stage} {i : Instruction} where
-  -- a block is opened or closed: no operation, and nothing to tell
+  module _ {i j : Instruction} (e : i ≡ j) where
+    -- an instruction that is told whatever it looks at
+    tells :
+        {o : Op} {r : Move} → instrOf j ≡ op o
+        → ((p : Program) (m : Machine) → p .types ≡ view rows codes → Holds m objects cells locals operands count st → MoveIs p codes m (doOp p m (m .operands) o) r)
+        → Tells i r
+    tells {o} f told =
+        record {
+          is = λ p m o′ types holds g.
+              let both : op o ≡ op o′ = sym f ∙ ap instrOf (sym e) ∙ g in
+              let same : o′ ≡ o = cc in
+              rw same (told p m types holds);
+        }
 
-  no-operation : {j : Instruction} → i ≡ j → ((o : Op) → instrOf j ≡ op o → ⊥) → MoveOf rows codes objects cells locals operands count st i Move.the-variants.Astray
-  no-operation e other = record { is = λ p m o types holds f. absurd (other o (ap instrOf (sym e) ∙ f)) }
+    module _ {o : Op} {r : Move} {first : Topmost} where
+      pub by-locals : LocalPlans locals count first o r → First first → instrOf j ≡ op o → Tells i r
+      by-locals a t f = tells f (λ p m types holds. a .is p codes m (holds .held) (holds .localCanon) (sees t holds))
 
-  pub by-block : {w : ℕ} → i ≡ Instruction.the-variants.Block w → MoveOf rows codes objects cells locals operands count st i Move.the-variants.Astray
-  unfolding instrOf
-  by-block e = no-operation e (λ o f. let z : _≡_ {A = ℕ} 0 1 = cc in omega arith)
+      module _ {second : Topmost} where
+        pub by-tops : TopPlans first second o r → First first → Second second → instrOf j ≡ op o → Tells i r
+        by-tops a t u f = tells f (λ p m types holds. a .is p codes m (sees t holds) (sees-next t holds u))
 
-  pub by-loop : {w : ℕ} → i ≡ Instruction.the-variants.Loop w → MoveOf rows codes objects cells locals operands count st i Move.the-variants.Astray
-  unfolding instrOf
-  by-loop e = no-operation e (λ o f. let z : _≡_ {A = ℕ} 0 1 = cc in omega arith)
+        pub by-fields : FieldPlans objects cells (st .objects) first second o r → First first → Second second → instrOf j ≡ op o → Tells i r
+        by-fields a t u f = tells f (λ p m types holds. a .is p codes m (st .cells) (knows t holds u))
 
-  pub by-end : i ≡ Instruction.the-variants.End → MoveOf rows codes objects cells locals operands count st i Move.the-variants.Astray
-  unfolding instrOf
-  by-end e = no-operation e (λ o f. let z : _≡_ {A = ℕ} 0 1 = cc in omega arith)
+        pub by-making : MakePlans rows codes (st .objects) (st .cells) (st .height) first o r → First first → Second second → instrOf j ≡ op o → Tells i r
+        by-making a t u f =
+            tells f (λ p m types holds. a .is p m second objects cells types (as-high t holds) (knows t holds u))
 
-  -- what looks at nothing
+  module _ {i : Instruction} where
+    -- a block is opened or closed: no operation, and nothing to tell
 
-  pub by-unreachable : i ≡ Instruction.the-variants.Unreachable → MoveOf rows codes objects cells locals operands count st i (Move.the-variants.Traps 41)
-  unfolding instrOf doOp
-  by-unreachable e = tells e refl (λ p m types holds. move-traps 41 refl)
+    no-operation : {j : Instruction} → i ≡ j → ((o : Op) → instrOf j ≡ op o → ⊥) → Tells i Move.the-variants.Astray
+    no-operation e other = record { is = λ p m o types holds f. absurd (other o (ap instrOf (sym e) ∙ f)) }
 
-  pub by-nop : i ≡ Instruction.the-variants.Nop → MoveOf rows codes objects cells locals operands count st i (Move.the-variants.Leaves 0)
-  unfolding instrOf doOp
-  by-nop e = tells e refl (λ p m types holds. move-leaves 0 (omega arith) refl)
-
-  pub by-return : i ≡ Instruction.the-variants.Return → MoveOf rows codes objects cells locals operands count st i Move.the-variants.Returns
-  unfolding instrOf doOp
-  by-return e = tells e refl (λ p m types holds. move-returns refl)
-
-  pub by-branch : {l : ℕ} → i ≡ Instruction.the-variants.Br l → MoveOf rows codes objects cells locals operands count st i (Move.the-variants.Branches 0 l)
-  unfolding instrOf doOp
-  by-branch {l} e = tells e refl (λ p m types holds. move-branches 0 l (omega arith) refl)
-
-  pub by-const : {n : ℕ} → i ≡ Instruction.the-variants.I32Const n → MoveOf rows codes objects cells locals operands count st i (Move.the-variants.Gives 0 1 n)
-  unfolding instrOf doOp
-  by-const {n} e =
-      tells e refl
-      (λ p m types holds.
-      move-gives 0 1 n (omega arith) (canon-number n (omega arith) (omega arith))
-      (ap (λ (v : Value). goes (withOperands m (v ∷ m .operands))) (sym (value-of-code i32 n))))
-
-  pub by-null : {h : ℕ} → i ≡ Instruction.the-variants.RefNull h → MoveOf rows codes objects cells locals operands count st i (Move.the-variants.Gives 0 5 0)
-  unfolding instrOf doOp
-  by-null e =
-      tells e refl
-      (λ p m types holds.
-      move-gives 0 5 0 (omega arith) canon-null
-      (ap (λ (v : Value). goes (withOperands m (v ∷ m .operands))) (sym (value-null 0 refl))))
-
-  -- casts
-
-  module _ {nullToo : Bool} {h : ℕ} {first second : Topmost} {r : Move} where
-    pub by-test : i ≡ Instruction.the-variants.RefTest nullToo h → CastChosen rows codes objects (st .objects) first nullToo h (Move.the-variants.Gives 1 1 1) (Move.the-variants.Gives 1 1 0) r → TopIs operands (st .base) (st .height) first → SecondIs operands (st .base) (st .height) second → MoveOf rows codes objects cells locals operands count st i r
+    pub by-block : {w : ℕ} → i ≡ Instruction.the-variants.Block w → Tells i Move.the-variants.Astray
     unfolding instrOf
-    by-test e a t u = tells e refl (λ p m types holds. test-is types (knows t holds u) a)
+    by-block e = no-operation e (λ o f. let z : _≡_ {A = ℕ} 0 1 = cc in omega arith)
 
-    pub by-cast : i ≡ Instruction.the-variants.RefCast nullToo h → CastChosen rows codes objects (st .objects) first nullToo h (Move.the-variants.Leaves 0) (Move.the-variants.Traps 44) r → TopIs operands (st .base) (st .height) first → SecondIs operands (st .base) (st .height) second → MoveOf rows codes objects cells locals operands count st i r
+    pub by-loop : {w : ℕ} → i ≡ Instruction.the-variants.Loop w → Tells i Move.the-variants.Astray
     unfolding instrOf
-    by-cast e a t u = tells e refl (λ p m types holds. cast-is types (knows t holds u) a)
+    by-loop e = no-operation e (λ o f. let z : _≡_ {A = ℕ} 0 1 = cc in omega arith)
 
-    pub by-descriptor-cast : i ≡ Instruction.the-variants.RefCastDescEq nullToo h → DescriptorChosen objects (st .objects) first second nullToo (Move.the-variants.Leaves 1) (Move.the-variants.Traps 44) r → TopIs operands (st .base) (st .height) first → SecondIs operands (st .base) (st .height) second → MoveOf rows codes objects cells locals operands count st i r
+    pub by-end : i ≡ Instruction.the-variants.End → Tells i Move.the-variants.Astray
     unfolding instrOf
-    by-descriptor-cast e a t u = tells e refl (λ p m types holds. descriptor-cast-is h (knows t holds u) a)
+    by-end e = no-operation e (λ o f. let z : _≡_ {A = ℕ} 0 1 = cc in omega arith)
 
-    module _ {l : ℕ} {sourceNull : Bool} {source : ℕ} where
-      pub by-on-cast : i ≡ Instruction.the-variants.BrOnCast l sourceNull source nullToo h → CastChosen rows codes objects (st .objects) first nullToo h (Move.the-variants.Branches 0 l) (Move.the-variants.Leaves 0) r → TopIs operands (st .base) (st .height) first → SecondIs operands (st .base) (st .height) second → MoveOf rows codes objects cells locals operands count st i r
-      unfolding instrOf
-      by-on-cast e a t u = tells e refl (λ p m types holds. on-cast-is types (knows t holds u) sourceNull source a)
+    -- what looks at nothing
 
-      pub by-on-cast-fail : i ≡ Instruction.the-variants.BrOnCastFail l sourceNull source nullToo h → CastChosen rows codes objects (st .objects) first nullToo h (Move.the-variants.Leaves 0) (Move.the-variants.Branches 0 l) r → TopIs operands (st .base) (st .height) first → SecondIs operands (st .base) (st .height) second → MoveOf rows codes objects cells locals operands count st i r
-      unfolding instrOf
-      by-on-cast-fail e a t u =
-          tells e refl (λ p m types holds. on-cast-fail-is types (knows t holds u) sourceNull source a)
+    pub by-unreachable : i ≡ Instruction.the-variants.Unreachable → Tells i (Move.the-variants.Traps 41)
+    unfolding instrOf doOp
+    by-unreachable e = tells e refl (λ p m types holds. trapping refl)
 
-      pub by-on-descriptor : i ≡ Instruction.the-variants.BrOnCastDescEq l sourceNull source nullToo h → DescriptorChosen objects (st .objects) first second nullToo (Move.the-variants.Branches 1 l) (Move.the-variants.Leaves 1) r → TopIs operands (st .base) (st .height) first → SecondIs operands (st .base) (st .height) second → MoveOf rows codes objects cells locals operands count st i r
-      unfolding instrOf
-      by-on-descriptor e a t u =
-          tells e refl (λ p m types holds. on-descriptor-is h (knows t holds u) sourceNull source a)
+    pub by-nop : i ≡ Instruction.the-variants.Nop → Tells i (Move.the-variants.Leaves 0)
+    unfolding instrOf doOp
+    by-nop e = tells e refl (λ p m types holds. leaving 0 refl (omega arith))
 
-      pub by-on-descriptor-fail : i ≡ Instruction.the-variants.BrOnCastDescEqFail l sourceNull source nullToo h → DescriptorChosen objects (st .objects) first second nullToo (Move.the-variants.Leaves 1) (Move.the-variants.Branches 1 l) r → TopIs operands (st .base) (st .height) first → SecondIs operands (st .base) (st .height) second → MoveOf rows codes objects cells locals operands count st i r
+    pub by-return : i ≡ Instruction.the-variants.Return → Tells i Move.the-variants.Returns
+    unfolding instrOf doOp
+    by-return e = tells e refl (λ p m types holds. returning refl)
+
+    pub by-branch : {l : ℕ} → i ≡ Instruction.the-variants.Br l → Tells i (Move.the-variants.Branches 0 l)
+    unfolding instrOf doOp
+    by-branch {l} e = tells e refl (λ p m types holds. branching 0 l refl (omega arith))
+
+    pub by-const : {n : ℕ} → i ≡ Instruction.the-variants.I32Const n → Tells i (Move.the-variants.Gives 0 1 n)
+    unfolding instrOf doOp
+    by-const {n} e =
+        tells e refl (λ p m types holds. giving-i32 0 n refl (omega arith))
+
+    pub by-null : {h : ℕ} → i ≡ Instruction.the-variants.RefNull h → Tells i (Move.the-variants.Gives 0 5 0)
+    unfolding instrOf doOp
+    by-null e =
+        tells e refl (λ p m types holds. giving-null 0 refl (omega arith))
+
+    -- casts
+
+    module _ {nullToo : Bool} {h : ℕ} {first second : Topmost} {r : Move} where
+      pub by-test :
+          i ≡ Instruction.the-variants.RefTest nullToo h → ByType first nullToo h (Move.the-variants.Gives 1 1 1) (Move.the-variants.Gives 1 1 0) r → First first → Second second
+          → Tells i r
       unfolding instrOf
-      by-on-descriptor-fail e a t u =
-          tells e refl (λ p m types holds. on-descriptor-fail-is h (knows t holds u) sourceNull source a)
+      by-test e a t u = tells e refl (λ p m types holds. test-is types (knows t holds u) a)
+
+      pub by-cast :
+          i ≡ Instruction.the-variants.RefCast nullToo h → ByType first nullToo h (Move.the-variants.Leaves 0) (Move.the-variants.Traps 44) r → First first → Second second
+          → Tells i r
+      unfolding instrOf
+      by-cast e a t u = tells e refl (λ p m types holds. cast-is types (knows t holds u) a)
+
+      pub by-descriptor-cast :
+          i ≡ Instruction.the-variants.RefCastDescEq nullToo h
+          → ByDescriptor first second nullToo (Move.the-variants.Leaves 1) (Move.the-variants.Traps 44) r → First first → Second second
+          → Tells i r
+      unfolding instrOf
+      by-descriptor-cast e a t u = tells e refl (λ p m types holds. descriptor-cast-is h (knows t holds u) a)
+
+      module _ {l : ℕ} {sourceNull : Bool} {source : ℕ} where
+        pub by-on-cast :
+            i ≡ Instruction.the-variants.BrOnCast l sourceNull source nullToo h
+            → ByType first nullToo h (Move.the-variants.Branches 0 l) (Move.the-variants.Leaves 0) r → First first → Second second
+            → Tells i r
+        unfolding instrOf
+        by-on-cast e a t u = tells e refl (λ p m types holds. on-cast-is types (knows t holds u) sourceNull source a)
+
+        pub by-on-cast-fail :
+            i ≡ Instruction.the-variants.BrOnCastFail l sourceNull source nullToo h
+            → ByType first nullToo h (Move.the-variants.Leaves 0) (Move.the-variants.Branches 0 l) r → First first → Second second
+            → Tells i r
+        unfolding instrOf
+        by-on-cast-fail e a t u =
+            tells e refl (λ p m types holds. on-cast-fail-is types (knows t holds u) sourceNull source a)
+
+        pub by-on-descriptor :
+            i ≡ Instruction.the-variants.BrOnCastDescEq l sourceNull source nullToo h
+            → ByDescriptor first second nullToo (Move.the-variants.Branches 1 l) (Move.the-variants.Leaves 1) r → First first → Second second
+            → Tells i r
+        unfolding instrOf
+        by-on-descriptor e a t u =
+            tells e refl (λ p m types holds. on-descriptor-is h (knows t holds u) sourceNull source a)
+
+        pub by-on-descriptor-fail :
+            i ≡ Instruction.the-variants.BrOnCastDescEqFail l sourceNull source nullToo h
+            → ByDescriptor first second nullToo (Move.the-variants.Leaves 1) (Move.the-variants.Branches 1 l) r → First first → Second second
+            → Tells i r
+        unfolding instrOf
+        by-on-descriptor-fail e a t u =
+            tells e refl (λ p m types holds. on-descriptor-fail-is h (knows t holds u) sourceNull source a)
 
 -- the type of which an object is made
 pub by-number : {i j : Instruction} {x : ℕ} → Modest i → i ≡ j → numberOf j ≡ x → x < 65_536

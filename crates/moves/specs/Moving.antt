@@ -22,4 +22,6 @@ pub record SecondIs (operands : List ℕ) (base height : ℕ) (r : Topmost) : Ty
 
 -- the move of an instruction that neither opens nor closes a block; of those two nothing is said
 pub record MoveOf (rows codes objects cells locals operands : List ℕ) (count : ℕ) (st : Stage) (i : Instruction) (r : Move) : Type 0 where
-  pub is : (p : Program) (m : Machine) (o : Op) → p .types ≡ view rows codes → Holds m objects cells locals operands count st → instrOf i ≡ op o → MoveIs p codes m (doOp p m (m .operands) o) r
+  pub is : (p : Program) (m : Machine) (o : Op)
+      → p .types ≡ view rows codes → Holds m objects cells locals operands count st → instrOf i ≡ op o
+      → MoveIs p codes m (doOp p m (m .operands) o) r

@@ -25,9 +25,15 @@ pub local-there : (locals : List ℕ) (count x : ℕ) → x < count → getElem?
 unfolding entryIn
 local-there locals count x h = numbered-there (entryIn heldAt locals) 0 count x h ∙ ap (λ (k : ℕ). some (entryIn heldAt locals k)) (zero-add x)
 
+pub local-past : (locals : List ℕ) (count x : ℕ) → count ≤ x → getElem? (heldFrom locals 0 count) x ≡ none
+local-past locals count x h = numbered-past (entryIn heldAt locals) 0 count x h
+
+pub locals-length : (locals : List ℕ) (count : ℕ) → length (heldFrom locals 0 count) ≡ count
+locals-length locals count = numbered-length (entryIn heldAt locals) 0 count
+
 pub local-absent : (locals : List ℕ) {count x : ℕ} → count ≤ x → LocalIs locals count x HeldLocal.the-variants.Absent
 local-absent locals {count} {x} h =
-    record { is = sym (numbered-past (entryIn heldAt locals) 0 count x h); canon = λ k n z. absurd (let y : _≡_ {A = ℕ} 0 1 = cc in omega arith) }
+    record { is = sym (local-past locals count x h); canon = λ k n z. absurd (let y : _≡_ {A = ℕ} 0 1 = cc in omega arith) }
 
 module _ {locals : List ℕ} {count x k : ℕ} (h : x < count) (a : Word64At locals (2 * x) k) where
   pub local-unset : k ≡ 0 → LocalIs locals count x HeldLocal.the-variants.Unset
@@ -90,7 +96,7 @@ module _ (m : List ℕ) (j k n : ℕ) where
 
 pub local-set-past : (locals : List ℕ) {count x : ℕ} (k n : ℕ) → count ≤ x → LocalSet locals locals count x k n
 local-set-past locals {count} {x} k n h =
-    let past : length (heldFrom locals 0 count) ≤ x = rw (numbered-length (entryIn heldAt locals) 0 count) h in
+    let past : length (heldFrom locals 0 count) ≤ x = rw (locals-length locals count) h in
     record { is = λ c. sym (set-out (heldFrom locals 0 count) x (some (valueAt k n)) past); canon = λ c all. all; size = refl }
 
 pub local-set-there : {locals locals′ : List ℕ} {x k n : ℕ} → locals′ ≡ setValue locals x k n → {count : ℕ} → x < count → LocalRoom locals count → LocalSet locals locals′ count x k n

@@ -5,7 +5,8 @@ use mathlib.Core.Option.{none, some}
 use mathlib.Core.List.{List, [], _∷_, _++_, map, reverse, reverse-cons}
 use native.Mathlib.Omega.{arith}
 use native.Mathlib.Numerals.{add-one}
-use lib.ListN.{length, getD, take}
+use lib.ListN.{length, getD, take, drop, take-append-drop}
+use lib.Seq.{length-take-le}
 use Rattle.scope.specs.Lists.{joined}
 use Rattle.scope.specs.Machine.{Value, splitTop}
 use Rattle.scope.specs.Memory.{valueWords}
@@ -53,18 +54,27 @@ pile-join m base h (suc k) =
     let place : base + h + k ≡ base + (h + k) = omega arith in
     rw (same, place) (ap (λ (vs : List Value). entryIn valueAt m (base + (h + k)) ∷ vs) (pile-join m base h k))
 
-pub split-some : (m : List ℕ) (base : ℕ) {h n : ℕ} → n ≤ h → splitTop n (pile m base h) ≡ some (pile m (base + (h - n)) n, pile m base (h - n))
-split-some m base {h} {n} l =
-    let all : h - n + n ≡ h = omega arith in
-    let tops = pile m (base + (h - n)) n in
-    let parts : pile m base h ≡ tops ++ pile m base (h - n) = ap (pile m base) (sym all) ∙ sym (pile-join m base (h - n) n) in
-    ap₂ splitTop (sym (pile-length m (base + (h - n)) n)) parts ∙ split-top tops (pile m base (h - n))
+-- so many values taken from the top: all of them are there, or none is taken
+
+pub take-split : (n : ℕ) (vs : List Value) → n ≤ length vs → splitTop n vs ≡ some (take n vs, drop n vs)
+take-split n vs h =
+    let long : length (take n vs) ≡ n = length-take-le n vs h in
+    ap₂ splitTop (sym long) (sym (take-append-drop n vs)) ∙ split-top (take n vs) (drop n vs)
 
 pub few-split : (vs : List Value) (n : ℕ) → length vs < n → splitTop n vs ≡ none
 unfolding splitTop
 few-split vs zero h = absurd (omega arith)
 few-split [] (suc n) h = refl
 few-split (v ∷ vs) (suc n) h = rw (few-split vs n (omega arith))
+
+-- the same of the operands that the words say
+
+pub split-some : (m : List ℕ) (base : ℕ) {h n : ℕ} → n ≤ h → splitTop n (pile m base h) ≡ some (pile m (base + (h - n)) n, pile m base (h - n))
+split-some m base {h} {n} l =
+    let all : h - n + n ≡ h = omega arith in
+    let tops = pile m (base + (h - n)) n in
+    let parts : pile m base h ≡ tops ++ pile m base (h - n) = ap (pile m base) (sym all) ∙ sym (pile-join m base (h - n) n) in
+    ap₂ splitTop (sym (pile-length m (base + (h - n)) n)) parts ∙ split-top tops (pile m base (h - n))
 
 pub split-none : (m : List ℕ) (base : ℕ) {h n : ℕ} → h < n → splitTop n (pile m base h) ≡ none
 split-none m base {h} {n} l = few-split (pile m base h) n (rw (pile-length m base h) l)

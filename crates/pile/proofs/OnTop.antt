@@ -1,18 +1,17 @@
 -- The operand on top, read and put.
 use Prim.Native.Nat.{ℕ, _+_, _-_, _*_, _<_}
-use mathlib.Core.Path.{_≡_, refl, sym, ap, ap₂, _∙_}
-use mathlib.Core.Option.{none, some}
-use mathlib.Core.List.{List, [], _∷_}
+use mathlib.Core.Path.{_≡_, sym, ap, ap₂, _∙_}
+use mathlib.Core.Option.{some}
+use mathlib.Core.List.{List, _∷_}
 use native.Mathlib.Omega.{arith}
 use lib.ListN.{length, getD}
 use mir.Syntax.{w32}
 use mir.Val.{Fits}
-use Rattle.scope.specs.Machine.{Value}
 use Rattle.cells.specs.Values.{Word64At, valueAt, setValue, entryIn}
 use Rattle.cells.proofs.Laws.{put-long, put-beside, put-here, put-all-more}
 use Rattle.pile.specs.declared.Topmost.{Topmost}
 use Rattle.pile.specs.declared.Topmost
-use Rattle.pile.specs.Pile.{pile, Room, headOf, TopIs, Pushed}
+use Rattle.pile.specs.Pile.{Room, headOf, TopIs, Pushed}
 use Rattle.pile.proofs.Laws.{pile-none, pile-more, pile-some, pile-same}
 
 -- read
@@ -31,32 +30,6 @@ top-there {m} {base} {h} {k} {n} d a b =
           let right : n ≡ y = cc in
           rw (← left, ← right, a .is, b .is) (c .each (base + (h - 1)) (omega (arith, d)));
     }
-
--- what the answer tells
-
-module _ {m : List ℕ} {base h : ℕ} {r : Topmost} where
-  pub top-missed : r ≡ Topmost.the-variants.Nothing → TopIs m base h r → pile m base h ≡ []
-  top-missed e a = go (pile m base h) (rw e at (a .is))
-    where
-      go : (vs : List Value) → none ≡ headOf vs → vs ≡ []
-      go [] z = refl
-      go (v ∷ vs) z = absurd (let y : _≡_ {A = ℕ} 0 1 = cc in omega arith)
-
-  module _ {k n : ℕ} (e : r ≡ Topmost.the-variants.Is k n) (a : TopIs m base h r) where
-    is-some : some (valueAt k n) ≡ headOf (pile m base h)
-    is-some = rw e at (a .is)
-
-    pub top-high : h ≡ 0 → ⊥
-    top-high z =
-        let none′ : some (valueAt k n) ≡ none = is-some ∙ ap headOf (pile-none m base z) in
-        absurd (let y : _≡_ {A = ℕ} 0 1 = cc in omega arith)
-
-    pub top-got : pile m base h ≡ valueAt k n ∷ pile m base (h - 1)
-    top-got =
-        let parts : pile m base h ≡ entryIn valueAt m (base + (h - 1)) ∷ pile m base (h - 1) = pile-some m base top-high in
-        let same : some (valueAt k n) ≡ some (entryIn valueAt m (base + (h - 1))) = is-some ∙ ap headOf parts in
-        let value : entryIn valueAt m (base + (h - 1)) ≡ valueAt k n = cc in
-        parts ∙ ap (λ (v : Value). v ∷ pile m base (h - 1)) value
 
 -- put
 

@@ -69,7 +69,9 @@ module _ (c : Context) (few : c .count ≤ 256) where
   op-back here (br-on-cast-desc-eq k) = in-reach (cast-read bound) (λ j. op (br-on-cast-desc-eq j)) k _
   op-back here (br-on-cast-desc-eq-fail k) = in-reach (cast-read bound) (λ j. op (br-on-cast-desc-eq-fail j)) k _
 
-  results-back : {B C : Type 0} (make : List Val → C) (rs : List Val) → length rs ≤ 1 → (more : Ruled B) → Allows (λ x. make (blockResults (resultCode rs)) ≡ make rs) (reached c (joined (map valNames rs)) more)
+  results-back :
+      {B C : Type 0} (make : List Val → C) (rs : List Val) → length rs ≤ 1 → (more : Ruled B)
+      → Allows (λ x. make (blockResults (resultCode rs)) ≡ make rs) (reached c (joined (map valNames rs)) more)
   results-back make [] h more = anyhow refl
   results-back make (v ∷ []) h more =
       rw (one-result v) (simp append-nil (in-reach (val-read bound) (λ w. make (w ∷ [])) v more))

@@ -86,7 +86,7 @@ module _ {s rows codes ends′ : List ℕ} {count : ℕ} {w₀ : Words} {results
   going-spent h =
       let none : budget - steps ≡ 0 = omega arith in
       let rest = g .rest ∙ ap (λ (left : ℕ). run (programAt rows codes results) left steps (machineAt s count (words o c l p b) st)) none in
-      record { is = sym rest; told = state-words (g .orderly) some-code }
+      record { is = sym rest; told = state-words (g .orderly) some-code; valued = g .orderly .valued; low = omega (arith, g .orderly .framed .room, g .orderly .framed .deep) }
 
   pub going-may : Readable s ends′ count (words o c l p b) st
   unfolding machineAt
@@ -133,7 +133,7 @@ module _ {s rows codes ends′ : List ℕ} {count : ℕ} {w₀ : Words} {results
       going-done {later} e =
           let n : r ≡ Stepped.the-variants.Astray → ⊥ = λ a. let z : _≡_ {A = ℕ} 0 1 = cc in omega arith in
           let is : step (programAt rows codes results) (machineAt s count (words o c l p b) st) ≡ ends (machineAt s count (words o′ c′ l′ p′ b′) later) = sym (stepped .is .is n) ∙ ap (outcomeAt s count (words o′ c′ l′ p′ b′)) e in
-          record { is = sym (comes is); told = last-state-words (stepped .is .valued later e) (stepped .is .closed later e) }
+          record { is = sym (comes is); told = last-state-words (stepped .is .valued later e) (stepped .is .closed later e); valued = stepped .is .valued later e; low = omega (arith, stepped .is .closed later e .depth) }
 
       pub going-trapped : {number : ℕ} → r ≡ Stepped.the-variants.Traps number → RanFrom s rows codes count w₀ (words o′ c′ l′ p′ b′) results first budget (Ending.the-variants.Trapped number st (steps + 1))
       unfolding outcomeAt endingAt
@@ -141,6 +141,6 @@ module _ {s rows codes ends′ : List ℕ} {count : ℕ} {w₀ : Words} {results
           let n : r ≡ Stepped.the-variants.Astray → ⊥ = λ a. let z : _≡_ {A = ℕ} 0 1 = cc in omega arith in
           let is : step (programAt rows codes results) (machineAt s count (words o c l p b) st) ≡ traps number = sym (stepped .is .is n) ∙ ap (outcomeAt s count (words o′ c′ l′ p′ b′)) e in
           let same : words o′ c′ l′ p′ b′ ≡ words o c l p b = stepped .is .same number e in
-          rw same (record { is = sym (comes is); told = state-words (g .orderly) some-code })
+          rw same (record { is = sym (comes is); told = state-words (g .orderly) some-code; valued = g .orderly .valued; low = omega (arith, g .orderly .framed .room, g .orderly .framed .deep) })
 
 pub ruleset run-exits = (going-first, going-spent, going-may, going-astray, steps-fit, going-turn, going-done, going-trapped)

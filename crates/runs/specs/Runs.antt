@@ -1,7 +1,8 @@
 -- What a trial run in lent memory comes to: the ending of the written machine's run, and the state that the words then say.
-use Prim.Native.Nat.{ℕ}
+use Prim.Native.Nat.{ℕ, _*_, _≤_}
 use mathlib.Core.Path.{_≡_}
 use mathlib.Core.List.{List, []}
+use lib.ListN.{length}
 use Rattle.scope.specs.Reading.{got}
 use Rattle.scope.specs.Instructions.{Instr, instrAt}
 use Rattle.scope.specs.Running as running
@@ -11,7 +12,7 @@ use Rattle.immediates.specs.Coding.{instructionOf}
 use Rattle.decoded.specs.Decoded.{instrOf}
 use Rattle.ends.specs.Matching.{codeAt}
 use Rattle.stage.specs.declared.Stage.{Stage}
-use Rattle.stage.specs.Machines.{Words, machineAt, programAt, Orderly}
+use Rattle.stage.specs.Machines.{Words, machineAt, programAt, Valued, Orderly}
 use Rattle.stage.specs.Written.{StateTold}
 use Rattle.reached.specs.Sound.{Sound}
 use Rattle.runs.specs.declared.Ending.{Ending}
@@ -47,3 +48,5 @@ endingAt s count w first Ending.the-variants.Astray = wrong 0 (machineAt s count
 pub record RanFrom (s rows codes : List ℕ) (count : ℕ) (w w′ : Words) (results first budget : ℕ) (r : Ending) : Type 0 where
   pub is : endingAt s count w′ first r ≡ run (programAt rows codes results) budget 0 (machineAt s count w (startStage first))
   pub told : StateTold count w′ (stageOf first r) (stateWords s (machineAt s count w′ (stageOf first r)))
+  pub valued : Valued count w′ (stageOf first r)
+  pub low : 3 * stageOf first r .depth ≤ length (w′ .blocks)

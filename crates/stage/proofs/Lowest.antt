@@ -6,13 +6,13 @@ use native.Mathlib.Omega.{arith}
 use Rattle.words.specs.Words.{WordAt}
 use Rattle.stage.specs.Machines.{lower}
 
-pub lower-first : (blocks : List ℕ) {depth : ℕ} → depth ≡ 0 → 0 ≡ lower blocks depth
+pub lower-none : (blocks : List ℕ) {depth : ℕ} → depth ≡ 0 → 0 ≡ lower blocks depth
 unfolding lower
-lower-first blocks e = rw e refl
+lower-none blocks e = rw e refl
 
-pub lower-more : {blocks : List ℕ} {depth r : ℕ} → (depth ≡ 0 → ⊥) → WordAt blocks (3 * (depth - 1) + 2) r → r ≡ lower blocks depth
+pub lower-some : {blocks : List ℕ} {depth r : ℕ} → (depth ≡ 0 → ⊥) → WordAt blocks (3 * (depth - 1) + 2) r → r ≡ lower blocks depth
 unfolding lower
-lower-more {depth = zero} n w = absurd (n refl)
-lower-more {depth = suc d} n w = let less : suc d - 1 ≡ d = omega arith in rw less at w .is
+lower-some {depth = zero} n w = absurd (n refl)
+lower-some {depth = suc d} n w = let less : suc d - 1 ≡ d = omega arith in rw less at w .is
 
-pub ruleset lower-exits = (lower-first, lower-more)
+pub ruleset lower-exits = (lower-none, lower-some)

@@ -76,7 +76,9 @@ pub record Around (s ends blocks : List ℕ) (d l : ℕ) (code : Code) : Type 0 
   pub high : blockWord blocks d 2 ≤ lower blocks (d + 1 + l)
 
 -- a block that is read from its words is a block or a loop
-pub either-block : (P : Block → Type 0) (s : List ℕ) (kind at : ℕ) (vs : List Value) → ((again : Code) → P (openLoop at vs again)) → ((n : ℕ) → P (openBlock at n vs)) → P (blockOf s kind at vs)
+pub either-block :
+    (P : Block → Type 0) (s : List ℕ) (kind at : ℕ) (vs : List Value) → ((again : Code) → P (openLoop at vs again)) → ((n : ℕ) → P (openBlock at n vs))
+    → P (blockOf s kind at vs)
 unfolding blockOf
 either-block P s kind at vs as-loop as-block = go (eqb kind 2)
   where
@@ -136,7 +138,9 @@ module _ {s ends blocks : List ℕ} where
       }
 
   -- where the code of block d begins
-  pub nested-first : {d next : ℕ} → Charted s ends (blockWord blocks d 1) → Opened s (blockWord blocks d 0) (blockWord blocks d 1) next → lower blocks d ≤ blockWord blocks d 2 → Nested s ends blocks d (codeAt s (getD ends (blockWord blocks d 1) 0)) → Nested s ends blocks (suc d) (codeAt s next)
+  pub nested-first :
+      {d next : ℕ} → Charted s ends (blockWord blocks d 1) → Opened s (blockWord blocks d 0) (blockWord blocks d 1) next → lower blocks d ≤ blockWord blocks d 2
+      → Nested s ends blocks d (codeAt s (getD ends (blockWord blocks d 1) 0)) → Nested s ends blocks (suc d) (codeAt s next)
   nested-first c o low n = inside c o low (sym (charted-lands c (opener-of o))) n
 
   -- an instruction that neither opens nor closes a block
@@ -158,7 +162,9 @@ module _ {s ends blocks : List ℕ} where
       two (is-loop {rs} e) = ap (past 1) (code-here s at e) ∙ past-loop at 0 (codeAt s next) rs
 
   -- words of operands that lie below all of them
-  pub operands-same : (operands operands′ : List ℕ) (d : ℕ) {code : Code} → Nested s ends blocks d code → ((i : ℕ) → i < 2 * lower blocks d → getD operands′ i 0 ≡ getD operands i 0) → blocksAt s blocks operands′ d ≡ blocksAt s blocks operands d
+  pub operands-same :
+      (operands operands′ : List ℕ) (d : ℕ) {code : Code} → Nested s ends blocks d code → ((i : ℕ) → i < 2 * lower blocks d → getD operands′ i 0 ≡ getD operands i 0)
+      → blocksAt s blocks operands′ d ≡ blocksAt s blocks operands d
   unfolding blocksAt lower
   operands-same operands operands′ zero n same = refl
   operands-same operands operands′ (suc d) n same =
@@ -196,7 +202,9 @@ framed-op {st = st} f e =
       nested = nested-op (st .place) e (f .nested);
     }
 
-pub all-operands : {s ends : List ℕ} (count : ℕ) (w : Words) (st : Stage) {code : Code} → Nested s ends (w .blocks) (st .depth) code → st .base ≡ lower (w .blocks) (st .depth) → allOperands (machineAt s count w st) ≡ pile (w .operands) 0 (st .base + st .height)
+pub all-operands :
+    {s ends : List ℕ} (count : ℕ) (w : Words) (st : Stage) {code : Code} → Nested s ends (w .blocks) (st .depth) code → st .base ≡ lower (w .blocks) (st .depth)
+    → allOperands (machineAt s count w st) ≡ pile (w .operands) 0 (st .base + st .height)
 unfolding machineAt
 all-operands count w st n base =
     let start : 0 + st .base ≡ st .base = omega arith in

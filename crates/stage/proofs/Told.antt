@@ -13,13 +13,13 @@ use Rattle.scope.specs.Bodies.{Code}
 use Rattle.scope.specs.Machine.{Value, Block}
 use Rattle.scope.specs.Running.{placeOf}
 use Rattle.scope.specs.Memory.{valueWords, belowOf, blockKind, blockPlace, heightOf, blockWords, StateWords, stateWords}
-use Rattle.cells.specs.Values.{valueAt, heldAt, entryIn}
+use Rattle.cells.specs.Values.{valueAt, entryIn}
 use Rattle.cells.proofs.Numbered.{numbered-length}
 use Rattle.cells.proofs.Laws.{held-canon-words}
-use Rattle.store.specs.Heap.{objectAt}
-use Rattle.store.proofs.Packs.{packed-fields, objects-words, cells-words}
+use Rattle.store.proofs.Packs.{store-length, packed-fields, objects-words, cells-words}
 use Rattle.pile.specs.Pile.{pile}
 use Rattle.pile.proofs.Laws.{pile-length, pile-words}
+use Rattle.pile.proofs.Held.{locals-length}
 use Rattle.ends.specs.Matching.{codeAt}
 use Rattle.ends.proofs.Codes.{code-here, code-refused, code-none}
 use Rattle.stage.specs.declared.Stage.{Stage}
@@ -52,7 +52,9 @@ heights [] = refl
 heights (b ∷ bs) = ap (λ (n : ℕ). length (belowOf b) + n) (heights bs) ∙ sym (length-append (belowOf b) (joined (map belowOf bs)))
 
 -- the words of block d come after those of the blocks around it
-block-front : (blocks : List ℕ) (d : ℕ) → 3 * suc d ≤ length blocks → take (3 * suc d) blocks ≡ take (3 * d) blocks ++ (blockWord blocks d 0 ∷ blockWord blocks d 1 ∷ blockWord blocks d 2 ∷ [])
+block-front :
+    (blocks : List ℕ) (d : ℕ) → 3 * suc d ≤ length blocks
+    → take (3 * suc d) blocks ≡ take (3 * d) blocks ++ (blockWord blocks d 0 ∷ blockWord blocks d 1 ∷ blockWord blocks d 2 ∷ [])
 block-front blocks d room =
     let three : 3 * suc d ≡ 3 * d + 3 = omega arith in
     let first : 3 * d ≡ 3 * d + 0 = omega arith in
@@ -97,9 +99,9 @@ module _ {s ends : List ℕ} {count : ℕ} {w : Words} {st : Stage} (v : Valued 
       record {
         counts =
             six place
-            (numbered-length (objectAt (w .objects) (w .cells)) 0 (st .objects))
+            (store-length (w .objects) (w .cells) (st .objects))
             (ap length (packed-fields (v .heap .packed) (w .cells)) ∙ numbered-length (entryIn valueAt (w .cells)) 0 (st .cells))
-            (numbered-length (entryIn heldAt (w .locals)) 0 count)
+            (locals-length (w .locals) count)
             (ap length (all-operands count w st n base) ∙ pile-length (w .operands) 0 (st .base + st .height))
             (blocks-length s (w .blocks) (w .operands) (st .depth));
         objects = sym (objects-words (v .heap .packed) (w .cells) (omega (arith, v .heap .objectRoom, v .heap .few)));
@@ -110,7 +112,9 @@ module _ {s ends : List ℕ} {count : ℕ} {w : Words} {st : Stage} (v : Valued 
       }
 
 -- between two instructions
-pub state-words : {s ends : List ℕ} {count : ℕ} {w : Words} {st : Stage} → Orderly s ends count w st → (codeAt s (st .place) ≡ [] → ⊥) → StateTold count w st (stateWords s (machineAt s count w st))
+pub state-words :
+    {s ends : List ℕ} {count : ℕ} {w : Words} {st : Stage} → Orderly s ends count w st → (codeAt s (st .place) ≡ [] → ⊥)
+    → StateTold count w st (stateWords s (machineAt s count w st))
 state-words {s} {st = st} o some =
     told-by (o .valued) (place-there s (st .place) some) (o .framed .nested) (o .framed .base) (omega (arith, o .framed .room, o .framed .deep))
 

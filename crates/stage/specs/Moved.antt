@@ -1,13 +1,13 @@
 -- What a move means, by the machine of document 01; when a machine is astray; and what a step answers.
 use Prim.Native.Nat.{ℕ, _+_, _≤_, _<_}
 use mathlib.Core.Path.{_≡_}
-use mathlib.Core.Bool.{Bool, true}
-use mathlib.Core.Option.{Option, none, some}
+use mathlib.Core.Bool.{true}
+use mathlib.Core.Option.{Option, some}
 use mathlib.Core.List.{List, [], _∷_, _++_, map, reverse}
 use lib.ListN.{length, getElem?, set, take, drop}
 use Rattle.scope.specs.Reading.{given}
 use Rattle.scope.specs.BodyRules.{holdsOf}
-use Rattle.scope.specs.Machine.{Value, object, Object, Store, Machine, Program, Outcome, goes, ends, traps, stuck, withOperands, withHeap, withLocals, withField, hasRoom, finish, branch}
+use Rattle.scope.specs.Machine.{Value, object, Object, Machine, Program, Outcome, goes, ends, traps, stuck, withOperands, withHeap, withLocals, withField, hasRoom, finish, branch}
 use Rattle.scope.specs.Memory.{allOperands}
 use Rattle.table.specs.View.{linkAt, fieldAtCode, codesAt}
 use Rattle.cells.specs.Values.{valueAt, Canon}

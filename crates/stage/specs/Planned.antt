@@ -39,19 +39,27 @@ pub record Knows (m : Machine) (first second : Topmost) (objects cells : List �
 
 -- the move of an instruction, by what it looks at: operands
 pub record TopPlans (first second : Topmost) (o : Op) (r : Move) : Type 0 where
-  pub is : (p : Program) (codes : List ℕ) (m : Machine) → Seen (m .operands) first → Seen (drop 1 (m .operands)) second → MoveIs p codes m (doOp p m (m .operands) o) r
+  pub is : (p : Program) (codes : List ℕ) (m : Machine)
+      → Seen (m .operands) first → Seen (drop 1 (m .operands)) second
+      → MoveIs p codes m (doOp p m (m .operands) o) r
 
 -- locals
 pub record LocalPlans (locals : List ℕ) (count : ℕ) (first : Topmost) (o : Op) (r : Move) : Type 0 where
-  pub is : (p : Program) (codes : List ℕ) (m : Machine) → m .locals ≡ heldFrom locals 0 count → AllHeldCanon locals count → Seen (m .operands) first → MoveIs p codes m (doOp p m (m .operands) o) r
+  pub is : (p : Program) (codes : List ℕ) (m : Machine)
+      → m .locals ≡ heldFrom locals 0 count → AllHeldCanon locals count → Seen (m .operands) first
+      → MoveIs p codes m (doOp p m (m .operands) o) r
 
 -- objects and their fields
 pub record FieldPlans (objects cells : List ℕ) (n : ℕ) (first second : Topmost) (o : Op) (r : Move) : Type 0 where
-  pub is : (p : Program) (codes : List ℕ) (m : Machine) (total : ℕ) → Knows m first second objects cells n total → MoveIs p codes m (doOp p m (m .operands) o) r
+  pub is : (p : Program) (codes : List ℕ) (m : Machine) (total : ℕ)
+      → Knows m first second objects cells n total
+      → MoveIs p codes m (doOp p m (m .operands) o) r
 
 -- the table, how many objects, cells and operands there are, and the topmost of these
 pub record MakePlans (rows codes : List ℕ) (n total height : ℕ) (first : Topmost) (o : Op) (r : Move) : Type 0 where
-  pub is : (p : Program) (m : Machine) (second : Topmost) (objects cells : List ℕ) → p .types ≡ view rows codes → length (m .operands) ≡ height → Knows m first second objects cells n total → MoveIs p codes m (doOp p m (m .operands) o) r
+  pub is : (p : Program) (m : Machine) (second : Topmost) (objects cells : List ℕ)
+      → p .types ≡ view rows codes → length (m .operands) ≡ height → Knows m first second objects cells n total
+      → MoveIs p codes m (doOp p m (m .operands) o) r
 
 -- the memory from which a machine's values are read
 pub record Holds (m : Machine) (objects cells locals operands : List ℕ) (count : ℕ) (st : Stage) : Type 0 where

@@ -18,7 +18,7 @@ use Rattle.cells.proofs.Laws.{put-long}
 use Rattle.store.specs.declared.Held.{Held}
 use Rattle.store.specs.declared.Held
 use Rattle.store.specs.Heap.{objectWord, objectAt, TypeOf, DescriptorOf, FieldCount, heldOption, HeldField, FieldSet, RoomFor}
-use Rattle.store.proofs.Packs.{packed-within, packed-cells, store-set, set-canon}
+use Rattle.store.proofs.Packs.{store-length, packed-within, packed-cells, store-set, set-canon}
 
 module _ {objects : List ℕ} {o : ℕ} where
   pub type-is : {r : ℕ} → WordAt objects (4 * o + 0) r → TypeOf objects o r
@@ -120,7 +120,7 @@ module _ {n total need : ℕ} where
   pub room-none : 1_024 ≤ n → RoomFor n total need false
   room-none h =
       record {
-        is = λ objects cells p. rw (numbered-length (objectAt objects cells) 0 n, le-ltb n 1_024 h);
+        is = λ objects cells p. rw (store-length objects cells n, le-ltb n 1_024 h);
         few = λ e. absurd (let z : _≡_ {A = ℕ} 0 1 = cc in omega arith);
         most = λ e. absurd (let z : _≡_ {A = ℕ} 0 1 = cc in omega arith);
       }
@@ -128,7 +128,7 @@ module _ {n total need : ℕ} where
   pub room-by : n < 1_024 → RoomFor n total need (leb (total + need) 4_096)
   room-by h =
       record {
-        is = λ objects cells p. rw (numbered-length (objectAt objects cells) 0 n, lt-ltb n 1_024 h, packed-cells p cells);
+        is = λ objects cells p. rw (store-length objects cells n, lt-ltb n 1_024 h, packed-cells p cells);
         few = λ e. h;
         most = λ e. leb-true (total + need) 4_096 e;
       }

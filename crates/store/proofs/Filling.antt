@@ -2,17 +2,17 @@
 use Prim.Native.Nat.{ℕ, zero, suc, _+_, _*_, _/_, _≤_, _<_}
 use mathlib.Core.Path.{_≡_, refl, sym, ap, ap₂, _∙_}
 use mathlib.Core.Bool.{Bool, true, false}
-use mathlib.Core.Option.{Option, none, some}
+use mathlib.Core.Option.{none, some}
 use mathlib.Core.List.{List, [], _∷_, _++_, map, map-append}
 use native.Mathlib.Omega.{arith}
 use lib.ListN.{length, getD}
 use mir.Syntax.{w32, w64}
 use mir.Val.{Fits}
-use Rattle.scope.specs.Reading.{given}
 use Rattle.scope.specs.Syntax.{Number, i32, i64, f32, f64, Val, num, ref}
 use Rattle.scope.specs.Order.{numberCode}
-use Rattle.scope.specs.BodyRules.{holdsOf}
-use Rattle.scope.specs.Machine.{Value, number, null, defaultsOf}
+use Rattle.scope.specs.Lists.{every}
+use Rattle.scope.specs.BodyRules.{holdsOf, hasDefault}
+use Rattle.scope.specs.Machine.{Value, defaultsOf}
 use Rattle.words.specs.Words.{WordAt}
 use Rattle.table.specs.View.{valAtCode, fieldAtCode, codesAt}
 use Rattle.table.specs.Answers.{valIs}
@@ -137,17 +137,20 @@ starts-more codes first i =
     ∙ ap (map startOf) (map-append (λ f. f .holds) (codesAt fieldAtCode codes first i) (fieldAtCode (getD codes (first + i) 0) ∷ []))
     ∙ map-append startOf (holdsOf (codesAt fieldAtCode codes first i)) (valAtCode (getD codes (first + i) 0 / 2) ∷ [])
 
-starts-cons : (v : Value) (vs : List Val) (o : Option (List Value)) {ds : List Value} → ((es : List Value) → o ≡ some es → map startOf vs ≡ es) → given o none (λ es. some (v ∷ es)) ≡ some ds → v ∷ map startOf vs ≡ ds
-starts-cons v vs none more e = absurd (let z : _≡_ {A = ℕ} 0 1 = cc in omega arith)
-starts-cons v vs (some es) more e = let rest : map startOf vs ≡ es = more es refl in cc
-
--- where every type has a default, these are the defaults
-pub starts-are : (vs : List Val) {ds : List Value} → defaultsOf vs ≡ some ds → map startOf vs ≡ ds
+-- where every type has a default, these are the defaults; where one has none, there are none
+pub every-default : (vs : List Val) → every hasDefault vs ≡ true → defaultsOf vs ≡ some (map startOf vs)
 unfolding defaultsOf
-starts-are [] e = cc
-starts-are (num k ∷ vs) e = starts-cons (number k 0) vs (defaultsOf vs) (λ es f. starts-are vs f) e
-starts-are (ref true h ∷ vs) e = starts-cons null vs (defaultsOf vs) (λ es f. starts-are vs f) e
-starts-are (ref false h ∷ vs) e = absurd (let z : _≡_ {A = ℕ} 0 1 = cc in omega arith)
+every-default [] e = refl
+every-default (num k ∷ vs) e = rw (every-default vs e)
+every-default (ref true h ∷ vs) e = rw (every-default vs e)
+every-default (ref false h ∷ vs) e = absurd (let z : _≡_ {A = ℕ} 0 1 = cc in omega arith)
+
+pub some-without : (vs : List Val) → every hasDefault vs ≡ false → defaultsOf vs ≡ none
+unfolding defaultsOf
+some-without [] e = absurd (let z : _≡_ {A = ℕ} 0 1 = cc in omega arith)
+some-without (num k ∷ vs) e = rw (some-without vs e)
+some-without (ref true h ∷ vs) e = rw (some-without vs e)
+some-without (ref false h ∷ vs) e = refl
 
 pub record DefaultSoFar (codes cells₀ cells : List ℕ) (first k total i : ℕ) : Type 0 where
   pub most : i ≤ k

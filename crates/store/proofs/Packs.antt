@@ -4,7 +4,7 @@ use Prim.Native.Nat.{ℕ, zero, suc, _+_, _-_, _*_, _≤_, _<_}
 use mathlib.Core.Path.{_≡_, refl, sym, ap, ap₂, _∙_}
 use mathlib.Core.Logic.{_⊎_, inl, inr}
 use mathlib.Core.Bool.{true, false}
-use mathlib.Core.Option.{some}
+use mathlib.Core.Option.{none, some}
 use mathlib.Core.List.{List, [], _∷_, _++_, map, append-assoc, append-nil}
 use native.Mathlib.Omega.{arith}
 use lib.ListN.{length, getElem?, set, take, drop, length-append}
@@ -17,17 +17,36 @@ use Rattle.scope.specs.Memory.{orZero, valueWords, objectsFrom, cellValues}
 use Rattle.scope.proofs.Truths.{decided}
 use Rattle.table.specs.View.{linkAt}
 use Rattle.cells.specs.Values.{numbered, valueAt, entryIn, valuesFrom, setValue, Canon, AllCanon}
-use Rattle.cells.proofs.Numbered.{numbered-length, numbered-there, numbered-append, numbered-more, numbered-same, numbered-set}
+use Rattle.cells.proofs.Numbered.{numbered-length, numbered-there, numbered-past, numbered-append, numbered-more, numbered-same, numbered-set}
 use Rattle.cells.proofs.Laws.{canon-words, put-other, put-among, put-all}
 use Rattle.store.specs.Heap.{objectWord, objectWith, objectAt, storeAt, cellsBelow, Packed}
 
 -- objects by number
 
-module _ (objects cells : List ℕ) (n o : ℕ) where
-  pub store-there : o < n → getElem? (storeAt objects cells n) o ≡ some (objectAt objects cells o)
-  store-there h =
-      let same : 0 + o ≡ o = omega arith in
-      numbered-there (objectAt objects cells) 0 n o h ∙ ap (λ (k : ℕ). some (objectAt objects cells k)) same
+module _ (objects cells : List ℕ) (n : ℕ) where
+  pub store-length : length (storeAt objects cells n) ≡ n
+  store-length = numbered-length (objectAt objects cells) 0 n
+
+  module _ (o : ℕ) where
+    pub store-there : o < n → getElem? (storeAt objects cells n) o ≡ some (objectAt objects cells o)
+    store-there h =
+        let same : 0 + o ≡ o = omega arith in
+        numbered-there (objectAt objects cells) 0 n o h ∙ ap (λ (k : ℕ). some (objectAt objects cells k)) same
+
+    pub store-past : n ≤ o → getElem? (storeAt objects cells n) o ≡ none
+    store-past h = numbered-past (objectAt objects cells) 0 n o h
+
+-- the same of a heap that is what the words say
+module _ {os : Store} (objects cells : List ℕ) {n : ℕ} (heap : os ≡ storeAt objects cells n) where
+  pub heap-length : length os ≡ n
+  heap-length = ap length heap ∙ store-length objects cells n
+
+  module _ {o : ℕ} where
+    pub object-there : o < n → getElem? os o ≡ some (objectAt objects cells o)
+    object-there h = ap (λ (l : Store). getElem? l o) heap ∙ store-there objects cells n o h
+
+    pub object-past : n ≤ o → getElem? os o ≡ none
+    object-past h = ap (λ (l : Store). getElem? l o) heap ∙ store-past objects cells n o h
 
 -- cells below an object
 

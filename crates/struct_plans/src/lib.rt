@@ -70,7 +70,7 @@ fn field_of(rows: &[u16], codes: &[u16], types: u16, x: u64, i: u64) -> Field
 }
 
 // Numbers and nullable references have a default.
-fn has_default(code: u64) -> bool
+pub fn has_default(code: u64) -> bool
     ensures { λ r. ⌜ r ≡ hasDefault (valAtCode code) ⌝ }
 {
     let val = table::val_of(code);

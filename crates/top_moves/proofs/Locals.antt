@@ -8,14 +8,13 @@ use lib.ListN.{length, getElem?, set, drop}
 use Rattle.scope.specs.Reading.{given}
 use Rattle.scope.specs.Instructions.{local-get, local-set, local-tee}
 use Rattle.scope.specs.Machine.{Value, Machine, Outcome, goes, stuck, withOperands, withLocals, onSet, doOp}
-use Rattle.cells.specs.Values.{valueAt, heldAt, heldFrom, entryIn}
-use Rattle.cells.proofs.Numbered.{numbered-length, numbered-past}
+use Rattle.cells.specs.Values.{valueAt, heldFrom}
 use Rattle.pile.specs.declared.Topmost.{Topmost}
 use Rattle.pile.specs.declared.Topmost
 use Rattle.pile.specs.declared.HeldLocal.{HeldLocal}
 use Rattle.pile.specs.declared.HeldLocal
 use Rattle.pile.specs.Pile.{LocalIs}
-use Rattle.pile.proofs.Held.{local-there, local-missed, local-empty, local-got}
+use Rattle.pile.proofs.Held.{local-there, local-past, locals-length, local-missed, local-empty, local-got}
 use Rattle.stage.specs.declared.Move
 use Rattle.stage.specs.Planned.{LocalPlans}
 use Rattle.stage.proofs.Tops.{on-top, on-none, top-low, value-top, no-top}
@@ -37,20 +36,22 @@ module _ {locals : List ℕ} {count x : ℕ} {first : Topmost} {r : HeldLocal} (
   get-held {k} {b} e =
       record { is = λ p codes m same canon top. giving 0 k b (found m (ap (λ (l : List (Option Value)). getElem? l x) same ∙ local-got e a)) (omega arith) (a .canon k b e canon) }
     where
-      found : (m : Machine) → getElem? (m .locals) x ≡ some (some (valueAt k b)) → given (getElem? (m .locals) x) stuck (λ held. given held stuck (λ v. goes (withOperands m (v ∷ m .operands)))) ≡ goes (withOperands m (valueAt k b ∷ m .operands))
+      found :
+          (m : Machine) → getElem? (m .locals) x ≡ some (some (valueAt k b))
+          → given (getElem? (m .locals) x) stuck (λ held. given held stuck (λ v. goes (withOperands m (v ∷ m .operands)))) ≡ goes (withOperands m (valueAt k b ∷ m .operands))
       found m e = rw e
 
 -- local.set and local.tee
 
 module _ (locals : List ℕ) {count x : ℕ} (m : Machine) (same : m .locals ≡ heldFrom locals 0 count) (v : Value) (f : Machine → Outcome) where
   set-past : count ≤ x → onSet m x v f ≡ stuck
-  set-past h = let past : getElem? (m .locals) x ≡ none = rw same (numbered-past (entryIn heldAt locals) 0 count x h) in rw past
+  set-past h = let past : getElem? (m .locals) x ≡ none = rw same (local-past locals count x h) in rw past
 
   set-there : x < count → onSet m x v f ≡ f (withLocals m (set (m .locals) x (some v)))
   set-there h = let there = ap (λ (l : List (Option Value)). getElem? l x) same ∙ local-there locals count x h in rw there
 
 local-within : (locals : List ℕ) {count x : ℕ} (m : Machine) → m .locals ≡ heldFrom locals 0 count → x < count → x < length (m .locals)
-local-within locals {count} m same h = rw (same, numbered-length (entryIn heldAt locals) 0 count) h
+local-within locals {count} m same h = rw (same, locals-length locals count) h
 
 module _ {locals : List ℕ} {count : ℕ} {first : Topmost} (x : ℕ) where
   pub set-nothing : first ≡ Topmost.the-variants.Nothing → LocalPlans locals count first (local-set x) Move.the-variants.Astray

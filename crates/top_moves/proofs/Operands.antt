@@ -15,7 +15,7 @@ use Rattle.scope.specs.Instructions.{drop-value, br-if, ref-is-null, ref-eq, re
 use Rattle.scope.specs.Machine.{Value, number, null, object, Machine, Program, Outcome, goes, stuck, onI32, onTaken, onReference, truth, sameReference, withOperands, doOp}
 use Rattle.scope.proofs.Truths.{decided}
 use Rattle.cells.specs.Values.{valueAt, Canon}
-use Rattle.cells.proofs.Laws.{value-null, value-object, value-number, value-of-code, canon-kind, canon-number, canon-object}
+use Rattle.cells.proofs.Laws.{value-null, value-object, value-number, value-of-code, canon-kind}
 use Rattle.pile.specs.declared.Topmost.{Topmost}
 use Rattle.pile.specs.declared.Topmost
 use Rattle.pile.specs.Pile.{headOf}
@@ -24,8 +24,8 @@ use Rattle.stage.specs.declared.Reference.{Reference}
 use Rattle.stage.specs.declared.Reference
 use Rattle.stage.specs.Moved.{MoveIs}
 use Rattle.stage.specs.Planned.{referenceAt, Seen, TopPlans}
-use Rattle.stage.proofs.Tops.{on-top, on-none, top-low, two-low, value-top, no-top, wrong-top, null-top, object-top}
-use Rattle.stage.proofs.Moving.{strays, trapping, leaving, giving, branching, looked-first}
+use Rattle.stage.proofs.Tops.{on-top, on-none, top-low, two-low, value-top, no-top, looked-first, wrong-top, null-top, object-top}
+use Rattle.stage.proofs.Moving.{strays, trapping, leaving, branching, giving-i32, giving-object}
 
 -- drop
 
@@ -41,8 +41,8 @@ module _ {first second : Topmost} where
 
 -- br_if
 
-it-is : {k : ℕ} (b : ℕ) → k ≡ 1 → valueAt k b ≡ number i32 b
-it-is b e = rw e (value-of-code i32 b)
+as-i32 : {k : ℕ} (b : ℕ) → k ≡ 1 → valueAt k b ≡ number i32 b
+as-i32 b e = rw e (value-of-code i32 b)
 
 other-number : (x y : Bool) (b : ℕ) (f : ℕ → Outcome) → onI32 (number (cond x i64 (cond y f32 f64)) b) f ≡ stuck
 other-number true y b f = refl
@@ -78,7 +78,7 @@ module _ {first second : Topmost} (label : ℕ) where
       branch-zero z =
           record {
             is = λ p codes m top next.
-                let head = value-top top e ∙ ap some (it-is b one) in
+                let head = value-top top e ∙ ap some (as-i32 b one) in
                 leaving 1 (on-top (m .operands) head _ ∙ rw (eq-eqb b 0 z)) (top-low (m .operands) head);
           }
 
@@ -87,18 +87,9 @@ module _ {first second : Topmost} (label : ℕ) where
       branch-more z =
           record {
             is = λ p codes m top next.
-                let head = value-top top e ∙ ap some (it-is b one) in
+                let head = value-top top e ∙ ap some (as-i32 b one) in
                 branching 1 label (on-top (m .operands) head _ ∙ rw (ne-eqb b 0 z)) (top-low (m .operands) head);
           }
-
--- truth values
-
-truth-words : (b : ℕ) → number i32 b ≡ valueAt 1 b
-unfolding valueAt
-truth-words b = refl
-
-truth-canon : (b : ℕ) → Canon 1 b
-truth-canon b = canon-number b (omega arith) (omega arith)
 
 -- ref.is_null and ref.as_non_null
 
@@ -112,10 +103,7 @@ module _ {first second : Topmost} {r : Reference} (is : r ≡ referenceAt first)
   is-null-null e =
       record {
         is = λ p codes m top next.
-            giving 1 1 1
-            (on-top (m .operands) (null-top top is e) _ ∙ ap (λ (v : Value). goes (withOperands m (v ∷ drop 1 (m .operands)))) (truth-words 1))
-            (top-low (m .operands) (null-top top is e))
-            (truth-canon 1);
+            let head = null-top top is e in giving-i32 1 1 (on-top (m .operands) head _) (top-low (m .operands) head);
       }
 
   pub is-null-object : {o : ℕ} → r ≡ Reference.the-variants.To o → TopPlans first second ref-is-null (Move.the-variants.Gives 1 1 0)
@@ -123,10 +111,7 @@ module _ {first second : Topmost} {r : Reference} (is : r ≡ referenceAt first)
   is-null-object e =
       record {
         is = λ p codes m top next.
-            giving 1 1 0
-            (on-top (m .operands) (object-top top is e) _ ∙ ap (λ (v : Value). goes (withOperands m (v ∷ drop 1 (m .operands)))) (truth-words 0))
-            (top-low (m .operands) (object-top top is e))
-            (truth-canon 0);
+            let head = object-top top is e in giving-i32 1 0 (on-top (m .operands) head _) (top-low (m .operands) head);
       }
 
   pub as-non-null-wrong : r ≡ Reference.the-variants.Wrong → TopPlans first second ref-as-non-null Move.the-variants.Astray
@@ -142,10 +127,7 @@ module _ {first second : Topmost} {r : Reference} (is : r ≡ referenceAt first)
   as-non-null-object {o} e =
       record {
         is = λ p codes m top next.
-            giving 1 6 o
-            (on-top (m .operands) (object-top top is e) _ ∙ rw (value-object {k = 6} o refl))
-            (top-low (m .operands) (object-top top is e))
-            (canon-object o);
+            let head = object-top top is e in giving-object 1 o (on-top (m .operands) head _) (top-low (m .operands) head);
       }
 
 -- ref.eq
@@ -164,18 +146,21 @@ module _ (p : Program) (codes : List ℕ) (m : Machine) (x : Option ℕ) (top : 
   unfolding doOp
   eq-next = looked-first (m .operands) _ ∙ on-top (m .operands) top _ ∙ on-refer x _
 
-  eq-missing : {second : Topmost} {other : Reference} → Seen (drop 1 (m .operands)) second → other ≡ referenceAt second → other ≡ Reference.the-variants.Wrong → MoveIs p codes m (doOp p m (m .operands) ref-eq) Move.the-variants.Astray
+  eq-missing :
+      {second : Topmost} {other : Reference} → Seen (drop 1 (m .operands)) second → other ≡ referenceAt second → other ≡ Reference.the-variants.Wrong
+      → MoveIs p codes m (doOp p m (m .operands) ref-eq) Move.the-variants.Astray
   eq-missing next is e = strays (eq-next ∙ wrong-top next is e _)
 
-  eq-told : (y : Option ℕ) {b : ℕ} → headOf (drop 1 (m .operands)) ≡ some (refer y) → cond (sameReference x y) 1 0 ≡ b → MoveIs p codes m (doOp p m (m .operands) ref-eq) (Move.the-variants.Gives 2 1 b)
+  eq-told :
+      (y : Option ℕ) {b : ℕ} → headOf (drop 1 (m .operands)) ≡ some (refer y) → cond (sameReference x y) 1 0 ≡ b
+      → MoveIs p codes m (doOp p m (m .operands) ref-eq) (Move.the-variants.Gives 2 1 b)
   eq-told y {b} next e =
-      giving 2 1 b
+      giving-i32 2 b
       (eq-next
       ∙ on-top (drop 1 (m .operands)) next _
       ∙ on-refer y _
-      ∙ ap₂ (λ (v : Value) (below : List Value). goes (withOperands m (v ∷ below))) (ap (number i32) e ∙ truth-words b) (drop-drop 1 1 (m .operands)))
+      ∙ ap₂ (λ (n : ℕ) (below : List Value). goes (withOperands m (number i32 n ∷ below))) e (drop-drop 1 1 (m .operands)))
       (two-low (m .operands) top next)
-      (truth-canon b)
 
 module _ {first second : Topmost} {one other : Reference} (a : one ≡ referenceAt first) (b : other ≡ referenceAt second) where
   pub eq-wrong : one ≡ Reference.the-variants.Wrong → TopPlans first second ref-eq Move.the-variants.Astray
