@@ -123,7 +123,7 @@ module _ {rows codes : List ℕ} {n total height taken x d : ℕ} {shape : Shape
 
 -- of defaults
 
-module _ (p : Program) (m : Machine) (x : ℕ) (d : Option ℕ) (vs : List Value) (codes : List ℕ) (f k : ℕ) (fields : fieldsOf (p .types x .form) ≡ some (codesAt fieldAtCode codes f k)) {all : Bool} (defaults : all ≡ allDefault codes f k) where
+module _ (p : Program) (m : Machine) (x : ℕ) (d : Option ℕ) (vs : List Value) (codes : List ℕ) (f k : ℕ) (fields : fieldsOf (p .types x .form) ≡ some (codesAt fieldAtCode codes f k)) {all : Bool} (defaults : all ≡ allDefault true codes f k) where
   default-all : not all ≡ false → makeDefault p m x d vs ≡ make m x d (defaultsAt codes f k) vs
   unfolding allDefault
   default-all q =
@@ -138,7 +138,7 @@ module _ {rows codes : List ℕ} {n total taken x d : ℕ} {shape : Shape} (form
   pub default-func : {f k s l : ℕ} → shape ≡ Shape.the-variants.Func f k s l → MakesDefaults rows codes n total taken x d Move.the-variants.Astray
   default-func e = record { is = λ p m objects cells types low heap kept. strays (rw (fields-none rows codes p types x form e)) }
 
-  module _ {f k : ℕ} (e : shape ≡ Shape.the-variants.Struct f k) {all : Bool} (defaults : all ≡ allDefault codes f k) where
+  module _ {f k : ℕ} (e : shape ≡ Shape.the-variants.Struct f k) {all : Bool} (defaults : all ≡ allDefault true codes f k) where
     pub default-without : not all ≡ true → MakesDefaults rows codes n total taken x d Move.the-variants.Astray
     default-without q =
         record {

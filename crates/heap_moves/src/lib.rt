@@ -149,7 +149,7 @@ fn default_move(rows: &[u16], codes: &[u16], n: u32, total: u32, taken: u32, x: 
     match shape {
         Shape::Func(_, _, _, _) => Move::Astray,
         Shape::Struct(first, k) => {
-            if !struct_plans::all_default(codes, first, k) {
+            if !struct_plans::all_default(codes, first, k, true) {
                 return Move::Astray;
             }
             if store::room_for(n, total, k) {

@@ -22,7 +22,7 @@ use Rattle.standing.specs.declared.Planned
 use Rattle.standing.specs.Standing.{wantsAt, valuesOf, plannedOf}
 use Rattle.planning.specs.Planning.{Takes, CodeIs}
 use Rattle.planning.proofs.Words.{wants-none, gives-value}
-use Rattle.struct_plans.specs.Structs.{allDefault, Defaulted}
+use Rattle.struct_plans.specs.Structs.{typeOf, allDefault, Defaulted}
 
 -- has_default
 
@@ -35,44 +35,52 @@ module _ (v : Val) {u : ValKind} (e : u ≡ valIs v) where
 
 -- all_default
 
-none-left : (codes : List ℕ) (at left : ℕ) → left ≤ 0 → allDefault codes at left ≡ true
+pub type-field : {fields : Bool} (w : ℕ) → fields ≡ true → w / 2 ≡ typeOf fields w
+type-field w e = rw e refl
+
+pub type-plain : {fields : Bool} (w : ℕ) → fields ≡ false → w ≡ typeOf fields w
+type-plain w e = rw e refl
+
+none-left : (fields : Bool) (codes : List ℕ) (at left : ℕ) → left ≤ 0 → allDefault fields codes at left ≡ true
 unfolding allDefault
-none-left codes at left h = rw (no-codes fieldAtCode codes at left h)
+none-left true codes at left h = rw (no-codes fieldAtCode codes at left h)
+none-left false codes at left h = rw (no-codes valAtCode codes at left h)
 
-first-first : (codes : List ℕ) (at left : ℕ) {c : ℕ} → 0 < left → WordAt codes at c → allDefault codes at left ≡ (hasDefault (valAtCode (c / 2)) && allDefault codes (at + 1) (left - 1))
+first-first : (fields : Bool) (codes : List ℕ) (at left : ℕ) {c : ℕ} → 0 < left → WordAt codes at c → allDefault fields codes at left ≡ (hasDefault (valAtCode (typeOf fields c)) && allDefault fields codes (at + 1) (left - 1))
 unfolding allDefault fieldAtCode
-first-first codes at left h w = rw (first-code fieldAtCode codes at left h w)
+first-first true codes at left h w = rw (first-code fieldAtCode codes at left h w)
+first-first false codes at left h w = rw (first-code valAtCode codes at left h w)
 
-pub record Walk (codes : List ℕ) (first n at left : ℕ) : Type 0 where
-  pub same : allDefault codes first n ≡ allDefault codes at left
+pub record Walk (fields : Bool) (codes : List ℕ) (first n at left : ℕ) : Type 0 where
+  pub same : allDefault fields codes first n ≡ allDefault fields codes at left
   pub near : at + left < 2 ^ 33
 
-pub walk-first : (codes : List ℕ) (first n : ℕ) → Fits w32 first → Fits w32 n → Walk codes first n first n
-walk-first codes first n a b =
+pub walk-first : (fields : Bool) (codes : List ℕ) (first n : ℕ) → Fits w32 first → Fits w32 n → Walk fields codes first n first n
+walk-first fields codes first n a b =
     let p : first < 2 ^ 32 = a .fits in let q : n < 2 ^ 32 = b .fits in record { same = refl; near = omega arith }
 
-module _ {codes : List ℕ} {first n at left : ℕ} (w : Walk codes first n at left) where
-  pub walk-done : left ≤ 0 → true ≡ allDefault codes first n
-  walk-done h = sym (w .same ∙ none-left codes at left h)
+module _ {fields : Bool} {codes : List ℕ} {first n at left : ℕ} (w : Walk fields codes first n at left) where
+  pub walk-done : left ≤ 0 → true ≡ allDefault fields codes first n
+  walk-done h = sym (w .same ∙ none-left fields codes at left h)
 
   pub next-fits : Fits w64 (at + 1)
   next-fits = let h : at + left < 2 ^ 33 = w .near in record { fits = omega arith }
 
-  module _ (h : 0 < left) {c : ℕ} (p : WordAt codes at c) {r : Bool} (e : r ≡ hasDefault (valAtCode (c / 2))) where
-    whole : allDefault codes first n ≡ (r && allDefault codes (at + 1) (left - 1))
-    whole = w .same ∙ first-first codes at left h p ∙ ap (λ (t : Bool). t && allDefault codes (at + 1) (left - 1)) (sym e)
+  module _ (h : 0 < left) {c : ℕ} (p : WordAt codes at c) {k : ℕ} (q : k ≡ typeOf fields c) {r : Bool} (e : r ≡ hasDefault (valAtCode k)) where
+    whole : allDefault fields codes first n ≡ (r && allDefault fields codes (at + 1) (left - 1))
+    whole = w .same ∙ first-first fields codes at left h p ∙ ap (λ (t : Bool). t && allDefault fields codes (at + 1) (left - 1)) (sym (e ∙ ap (λ (v : ℕ). hasDefault (valAtCode v)) q))
 
-    pub walk-stopped : not r ≡ true → false ≡ allDefault codes first n
-    walk-stopped t = sym (whole ∙ ap (λ (b : Bool). b && allDefault codes (at + 1) (left - 1)) (not-true r t))
+    pub walk-stopped : not r ≡ true → false ≡ allDefault fields codes first n
+    walk-stopped t = sym (whole ∙ ap (λ (b : Bool). b && allDefault fields codes (at + 1) (left - 1)) (not-true r t))
 
-    pub walk-turn : not r ≡ false → Walk codes first n (at + 1) (left - 1)
+    pub walk-turn : not r ≡ false → Walk fields codes first n (at + 1) (left - 1)
     walk-turn t =
         let near : at + left < 2 ^ 33 = w .near in
-        record { same = whole ∙ ap (λ (b : Bool). b && allDefault codes (at + 1) (left - 1)) (not-false r t); near = omega arith }
+        record { same = whole ∙ ap (λ (b : Bool). b && allDefault fields codes (at + 1) (left - 1)) (not-false r t); near = omega arith }
 
 -- defaulted
 
-module _ {codes : List ℕ} {first n : ℕ} (top x : ℕ) {r : Bool} (e : r ≡ allDefault codes first n) where
+module _ {codes : List ℕ} {first n : ℕ} (top x : ℕ) {r : Bool} (e : r ≡ allDefault true codes first n) where
   pub defaulted-not : not r ≡ true → Defaulted codes first n top x (Planned.the-variants.Fault 29)
   unfolding plannedOf
   defaulted-not t = record { is = rw (← e, not-true r t) }
@@ -82,4 +90,4 @@ module _ {codes : List ℕ} {first n : ℕ} (top x : ℕ) {r : Bool} (e : r ≡ 
   defaulted-all t {k} made {p} takes =
       record { is = rw (← e, not-false r t, takes .is codes, wants-none, gives-value (made .small), made .is, append-nil (wantsAt top)) }
 
-pub ruleset default-exits = (number-defaults, reference-defaults, walk-first, walk-done, next-fits, walk-stopped, walk-turn, defaulted-not, defaulted-all)
+pub ruleset default-exits = (type-field, type-plain, number-defaults, reference-defaults, walk-first, walk-done, next-fits, walk-stopped, walk-turn, defaulted-not, defaulted-all)

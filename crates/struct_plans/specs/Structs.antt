@@ -1,16 +1,16 @@
 -- What the questions about structs answer, by scope's BodyRules.antt over what the table says.
-use Prim.Native.Nat.{ℕ, _<_}
+use Prim.Native.Nat.{ℕ, _/_, _<_}
 use mathlib.Core.Path.{_≡_}
-use mathlib.Core.Bool.{Bool, true, _&&_}
+use mathlib.Core.Bool.{Bool, true, false, cond, _&&_}
 use mathlib.Core.List.{List, [], _∷_}
 use lib.ListN.{getElem?}
 use lib.Dec.{ltb}
 use Rattle.scope.specs.Refusals.{outOfReach, badStruct, noDefault}
 use Rattle.scope.specs.Lists.{every, isNone}
-use Rattle.scope.specs.Syntax.{exact, nonNull, Types}
+use Rattle.scope.specs.Syntax.{exact, Val, nonNull, Types}
 use Rattle.scope.specs.Syntax
 use Rattle.scope.specs.BodyRules.{values, Ruled, allowed, fault, test, need, andRuled, takes, fieldsOf, holdsOf, hasDefault}
-use Rattle.table.specs.View.{fieldAtCode, codesAt}
+use Rattle.table.specs.View.{valAtCode, fieldAtCode, codesAt}
 use Rattle.standing.specs.declared.Planned.{Planned}
 use Rattle.standing.specs.Standing.{wantsAt, plannedOf}
 use Rattle.struct_plans.specs.declared.Fields.{Fields}
@@ -64,10 +64,19 @@ pub record Described (codes : List ℕ) (ts : Types) (count x : ℕ) (r : Pair) 
   pub is : pairRuled codes r ≡ describedAt ts count x
   pub low : (first n y : ℕ) → r ≡ Pair.the-variants.Are first n y → (x < count) × (y < 65_536)
 
--- each of n fields has a default
-unfoldable pub allDefault : List ℕ → ℕ → ℕ → Bool
-allDefault codes first n = every hasDefault (holdsOf (codesAt fieldAtCode codes first n))
+-- the types of n fields, or n types
+abbrev pub typesIn : Bool → List ℕ → ℕ → ℕ → List Val
+typesIn true codes first n = holdsOf (codesAt fieldAtCode codes first n)
+typesIn false codes first n = codesAt valAtCode codes first n
+
+-- the code of such a type, by the word of the table
+abbrev pub typeOf : Bool → ℕ → ℕ
+typeOf fields w = cond fields (w / 2) w
+
+-- each of them has a default
+unfoldable pub allDefault : Bool → List ℕ → ℕ → ℕ → Bool
+allDefault fields codes first n = every hasDefault (typesIn fields codes first n)
 
 -- 29; what is taken is one word's
 pub record Defaulted (codes : List ℕ) (first n top x : ℕ) (r : Planned) : Type 0 where
-  pub is : plannedOf codes r ≡ test (allDefault codes first n) noDefault (takes (wantsAt top) (values (nonNull (exact x) ∷ [])))
+  pub is : plannedOf codes r ≡ test (allDefault true codes first n) noDefault (takes (wantsAt top) (values (nonNull (exact x) ∷ [])))

@@ -17,7 +17,7 @@ ghost use Rattle.scope.specs.Instructions.{struct-new, struct-new-default, stru
 ghost use Rattle.scope.specs.BodyRules.{hasDefault};
 ghost use Rattle.table.specs.View.{valAtCode, view};
 ghost use Rattle.planning.specs.Planning.{Follows};
-ghost use Rattle.struct_plans.specs.Structs.{StructOf, FieldOf, allDefault, Defaulted, Undescribed, Described};
+ghost use Rattle.struct_plans.specs.Structs.{StructOf, FieldOf, typeOf, allDefault, Defaulted, Undescribed, Described};
 
 // Where the codes of a struct's fields start and how many there are; or a refusal's number.
 pub enum Fields {
@@ -70,7 +70,7 @@ fn field_of(rows: &[u16], codes: &[u16], types: u16, x: u64, i: u64) -> Field
 }
 
 // Numbers and nullable references have a default.
-pub fn has_default(code: u64) -> bool
+fn has_default(code: u64) -> bool
     ensures { λ r. ⌜ r ≡ hasDefault (valAtCode code) ⌝ }
 {
     let val = table::val_of(code);
@@ -80,15 +80,26 @@ pub fn has_default(code: u64) -> bool
     }
 }
 
-// Whether each of the n fields whose codes start at `first` has a default.
-pub fn all_default(codes: &[u16], first: u32, n: u32) -> bool
-    ensures { λ r. ⌜ r ≡ allDefault (now (codes .entry)) first n ⌝ }
+// The code of the value type that a word of the table says: a field's, or a type's.
+fn type_of(fields: bool, word: u64) -> u64
+    ensures { λ r. ⌜ r ≡ typeOf fields word ⌝ }
+{
+    if fields {
+        return word / 2;
+    }
+    word
+}
+
+// Whether each of n fields, or of n types, whose codes start at `first` has a default.
+pub fn all_default(codes: &[u16], first: u32, n: u32, fields: bool) -> bool
+    ensures { λ r. ⌜ r ≡ allDefault fields (now (codes .entry)) first n ⌝ }
 {
     let mut at = first as u64;
     let mut left = n as u64;
     while 0 < left {
-        let field = words::word(codes, at);
-        if !has_default(field / 2) {
+        let word = words::word(codes, at);
+        let code = type_of(fields, word);
+        if !has_default(code) {
             return false;
         }
         at = at + 1;
@@ -133,7 +144,7 @@ fn defaulted(codes: &[u16], first: u32, n: u32, top: u64, x: u64) -> Planned
     requires { ⌜ x < 65536 ⌝ }
     ensures { λ r. ⌜ Defaulted (now (codes .entry)) first n top x r ⌝ }
 {
-    if !all_default(codes, first, n) {
+    if !all_default(codes, first, n, true) {
         return Planned::Fault(NO_DEFAULT);
     }
     let made = planning::exact_code(false, x);

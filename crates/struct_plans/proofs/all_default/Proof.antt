@@ -1,20 +1,23 @@
--- `struct_plans::all_default` meets its contract: each turn takes the first field off.
+-- `struct_plans::all_default` meets its contract: each turn takes the first type off.
 use borrow.Author.Needs.{needs}
 use Rattle.struct_plans.proofs.Defaults.{Walk, default-exits}
 use Rattle.struct_plans.proofs.all_default.Statement.{statement}
 use Rattle.struct_plans.proofs.all_default.Tie as tie
 
 abbrev Inv-loop : tie.InvT-loop
-Inv-loop codes first n at₀ left₀ at left = Walk codes first n at left
+Inv-loop codes first n fields at₀ left₀ at left = Walk fields codes first n at left
 
 abbrev μ-loop : tie.MeasureT-loop
-μ-loop codes first n at₀ left₀ at left = left
+μ-loop codes first n fields at₀ left₀ at left = left
 
 loop-holds : tie.Need-loop-holds Inv-loop μ-loop
 loop-holds c = search (default-exits, needs)
 
 word-requires : tie.Need-word-requires Inv-loop μ-loop
 word-requires c κs = search (default-exits, needs)
+
+type-of-requires : tie.Need-type-of-requires Inv-loop μ-loop
+type-of-requires c κs = search (default-exits, needs)
 
 has-default-requires : tie.Need-has-default-requires Inv-loop μ-loop
 has-default-requires c κs = search (default-exits, needs)
@@ -45,6 +48,7 @@ all-default-spec =
     μ-loop
     loop-holds
     word-requires
+    type-of-requires
     has-default-requires
     returns
     add-at
