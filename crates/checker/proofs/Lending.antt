@@ -59,7 +59,7 @@ pub record Bounded (ds : List Definition) : Type 0 where
   pub types : length ds ≤ 256
   pub parameters : (x : ℕ) (ps rs : List Val) → typesOf ds x .form ≡ func ps rs → length ps ≤ 64
 
-accepted-bounded : (section : List ℕ) {ds : List Definition} → judgeSection section ≡ accepted ds → Bounded ds
+pub accepted-bounded : (section : List ℕ) {ds : List Definition} → judgeSection section ≡ accepted ds → Bounded ds
 unfolding judgeSection
 accepted-bounded section e =
     let (gs, end, read, same) = accepted-read (readSection section) e in

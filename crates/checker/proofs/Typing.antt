@@ -70,17 +70,17 @@ read-verdict ds f s ls (refused n p) = refl
 
 -- the locals, as they were read
 
-started-got : (params : ℕ) (o : Read (List Val)) {r : Started} {locals next : ℕ} → r ≡ startedIs params o → r ≡ Started.the-variants.Is locals next → (vs : List Val) × (o ≡ got vs next) × (locals ≡ params + length vs)
+pub started-got : (params : ℕ) (o : Read (List Val)) {r : Started} {locals next : ℕ} → r ≡ startedIs params o → r ≡ Started.the-variants.Is locals next → (vs : List Val) × (o ≡ got vs next) × (locals ≡ params + length vs)
 started-got params (got vs m) {next = next} p q = let e : m ≡ next = cc in (vs, ap (got vs) e, cc)
 started-got params (refused n m) p q = absurd (let z : _≡_ {A = ℕ} 0 1 = cc in omega arith)
 
-started-refused : (params : ℕ) (o : Read (List Val)) {r : Started} {n place : ℕ} → r ≡ startedIs params o → r ≡ Started.the-variants.Refused n place → o ≡ refused n place
+pub started-refused : (params : ℕ) (o : Read (List Val)) {r : Started} {n place : ℕ} → r ≡ startedIs params o → r ≡ Started.the-variants.Refused n place → o ≡ refused n place
 started-refused params (got vs m) p q = absurd (let z : _≡_ {A = ℕ} 0 1 = cc in omega arith)
 started-refused params (refused m k) p q = cc
 
 -- the function's type
 
-form-is : (rows codes : List ℕ) (x : ℕ) (shape : Shape) → view rows codes x .form ≡ shapeForm codes shape → (ds : List Definition) → view rows codes ≡ typesOf ds → typesOf ds x .form ≡ shapeForm codes shape
+pub form-is : (rows codes : List ℕ) (x : ℕ) (shape : Shape) → view rows codes x .form ≡ shapeForm codes shape → (ds : List Definition) → view rows codes ≡ typesOf ds → typesOf ds x .form ≡ shapeForm codes shape
 form-is rows codes x shape a ds v = ap (λ (ts : ℕ → Definition). ts x .form) (sym v) ∙ a
 
 module _ {rows codes work s : List ℕ} {types x : ℕ} (t : Typing rows codes work s types x) {shape : Shape} where

@@ -23,7 +23,7 @@ pub record Modest (before : ℕ) (vs : List Val) : Type 0 where
   pub few : before + length vs ≤ 256
   pub kept : map keptVal vs ≡ vs
 
-gives-tested : {A : Type 0} {P : A → Type 0} (t : Bool) {a b : Read A} → (t ≡ true → Gives P a) → Gives P b → Gives P (cond t a b)
+pub gives-tested : {A : Type 0} {P : A → Type 0} (t : Bool) {a b : Read A} → (t ≡ true → Gives P a) → Gives P b → Gives P (cond t a b)
 gives-tested true k b = k refl
 gives-tested false k b = b
 

@@ -11,7 +11,7 @@ ghost use mathlib.Core.Path.{_≡_};
 ghost use Rattle.scope.specs.Answers.{RunTried};
 ghost use Rattle.states.specs.States.{stateOf};
 ghost use Rattle.runs.specs.Runs.{stageOf};
-ghost use Rattle.trial.specs.Trial.{tellOf, allDefault, Startable, RunStarted, Placed, RunLocated, Shaped, RunShaped, Judged, RunJudged, Zeroed, RunAllowed, Lent, RunLent, RunEnough, memory, ScratchCleared};
+ghost use Rattle.trial.specs.Trial.{tellOf, Startable, RunStarted, Placed, RunLocated, Shaped, RunShaped, Typed, RunTyped, Allowed, RunJudged, Lent, RunLent, scratchLent, Zeroed, memory, RunEnough, ScratchCleared};
 
 // "a budget of at most 1,000,000"
 const MOST_BUDGET: u64 = 1000000;
@@ -159,23 +159,6 @@ fn run_located(
     )
 }
 
-// Whether each of n types, whose codes stand in the table from `first` on, has a default.
-fn all_default(codes: &[u16], first: u32, n: u32) -> bool
-    ensures { λ r. ⌜ r ≡ allDefault (now (codes .entry)) first n ⌝ }
-{
-    let mut at = first as u64;
-    let mut left = n as u64;
-    while 0 < left {
-        let code = words::word(codes, at);
-        if !struct_plans::has_default(code) {
-            return false;
-        }
-        at = at + 1;
-        left = left - 1;
-    }
-    true
-}
-
 // The locals, which an accepted body has, and then 29 where a parameter has no default.
 fn run_shaped(
     s: &[u8],
@@ -202,7 +185,7 @@ fn run_shaped(
     match started {
         Started::Refused(number, place) => Ran::Refused(number, place as u64),
         Started::Is(count, next) => {
-            if !all_default(codes, first, params) {
+            if !struct_plans::all_default(codes, first, params, false) {
                 return Ran::Refused(NO_DEFAULT, 0);
             }
             run_located(
@@ -287,7 +270,7 @@ fn run_judged(
     operands: &mut [u64],
     blocks: &mut [u16],
 ) -> Ran
-    requires { ⌜ Judged (now section) (now s) number (now rows) (now codes) (now work) (now ends) (stateOf (now counts) (now objects) (now cells) (now locals) (now operands) (now blocks)) ⌝ }
+    requires { ⌜ Allowed (now section) (now s) number (now rows) (now codes) (now work) (now ends) (stateOf (now counts) (now objects) (now cells) (now locals) (now operands) (now blocks)) ⌝ }
     ensures { λ r. ⌜ RunJudged (now (section .entry)) (now (s .entry)) number budget (stateOf (now (counts .entry)) (now (objects .entry)) (now (cells .entry)) (now (locals .entry)) (now (operands .entry)) (now (blocks .entry))) (stateOf (now (counts .exit)) (now (objects .exit)) (now (cells .exit)) (now (locals .exit)) (now (operands .exit)) (now (blocks .exit))) r ⌝ }
 {
     let judged = loader::judge_section(section, rows, codes);
@@ -357,4 +340,115 @@ fn run_lent(
             )
         }
     }
+}
+
+// Whether each buffer of the scratch has its one size.
+fn scratch_enough(rows: &[u16], codes: &[u16], work: &[u32], ends: &[u16]) -> bool
+    ensures { λ r. ⌜ r ≡ scratchLent (now (rows .entry)) (now (codes .entry)) (now (work .entry)) (now (ends .entry)) ⌝ }
+{
+    if rows.len() < loader::ROWS {
+        return false;
+    }
+    if codes.len() < loader::CODES {
+        return false;
+    }
+    if work.len() < checker::WORK {
+        return false;
+    }
+    ENDS <= ends.len()
+}
+
+// 14 first.
+fn run_enough(
+    section: &[u8],
+    s: &[u8],
+    number: u64,
+    budget: u64,
+    rows: &mut [u16],
+    codes: &mut [u16],
+    work: &mut [u32],
+    ends: &mut [u16],
+    counts: &mut [u64],
+    objects: &mut [u16],
+    cells: &mut [u64],
+    locals: &mut [u64],
+    operands: &mut [u64],
+    blocks: &mut [u16],
+) -> Ran
+    requires { ⌜ Zeroed (stateOf (now counts) (now objects) (now cells) (now locals) (now operands) (now blocks)) ⌝ }
+    ensures { λ r. ⌜ RunEnough (now (section .entry)) (now (s .entry)) number budget (memory (now (rows .entry)) (now (codes .entry)) (now (work .entry)) (now (ends .entry)) (stateOf (now (counts .entry)) (now (objects .entry)) (now (cells .entry)) (now (locals .entry)) (now (operands .entry)) (now (blocks .entry)))) (stateOf (now (counts .exit)) (now (objects .exit)) (now (cells .exit)) (now (locals .exit)) (now (operands .exit)) (now (blocks .exit))) r ⌝ }
+{
+    if !scratch_enough(rows, codes, work, ends) {
+        return Ran::Refused(BUFFER_TOO_SMALL, 0);
+    }
+    if !states::is_enough(counts, objects, cells, locals, operands, blocks) {
+        return Ran::Refused(BUFFER_TOO_SMALL, 0);
+    }
+    run_lent(
+        section,
+        s,
+        number,
+        budget,
+        rows,
+        codes,
+        work,
+        ends,
+        counts,
+        objects,
+        cells,
+        locals,
+        operands,
+        blocks,
+    )
+}
+
+// Zero in every word of the scratch.
+fn clear_scratch(rows: &mut [u16], codes: &mut [u16], used: &mut [u32], ends: &mut [u16])
+    ensures { λ r. ⌜ ScratchCleared (now (rows .entry)) (now (codes .entry)) (now (used .entry)) (now (ends .entry)) (now (rows .exit)) (now (codes .exit)) (now (used .exit)) (now (ends .exit)) ⌝ }
+{
+    words::wipe(rows);
+    words::wipe(codes);
+    scratch::wipe32(used);
+    words::wipe(ends);
+}
+
+// Runs a body of a function type's number from an empty heap, for at most so many steps: how it ended and after how many of
+// them, with the state after exactly those steps in the six buffers from `counts` on; or the refusal's number and place.
+pub fn try_run(
+    section: &[u8],
+    body: &[u8],
+    number: u64,
+    budget: u64,
+    rows: &mut [u16],
+    codes: &mut [u16],
+    work: &mut [u32],
+    ends: &mut [u16],
+    counts: &mut [u64],
+    objects: &mut [u16],
+    cells: &mut [u64],
+    locals: &mut [u64],
+    operands: &mut [u64],
+    blocks: &mut [u16],
+) -> Ran
+    ensures { λ r. ⌜ RunTried (now (section .entry)) (now (body .entry)) number budget (memory (now (rows .entry)) (now (codes .entry)) (now (work .entry)) (now (ends .entry)) (stateOf (now (counts .entry)) (now (objects .entry)) (now (cells .entry)) (now (locals .entry)) (now (operands .entry)) (now (blocks .entry)))) (memory (now (rows .exit)) (now (codes .exit)) (now (work .exit)) (now (ends .exit)) (stateOf (now (counts .exit)) (now (objects .exit)) (now (cells .exit)) (now (locals .exit)) (now (operands .exit)) (now (blocks .exit)))) r ⌝ }
+{
+    states::clear(counts, objects, cells, locals, operands, blocks);
+    let ran = run_enough(
+        section,
+        body,
+        number,
+        budget,
+        rows,
+        codes,
+        work,
+        ends,
+        counts,
+        objects,
+        cells,
+        locals,
+        operands,
+        blocks,
+    );
+    clear_scratch(rows, codes, work, ends);
+    ran
 }
