@@ -2,11 +2,11 @@
 use Prim.Native.Nat.{ℕ, _+_, _^_, _≤_, _<_}
 use mathlib.Core.Path.{_≡_, refl, sym, ap, _∙_}
 use mathlib.Core.Bool.{Bool, true}
-use mathlib.Core.List.{List, _++_}
+use mathlib.Core.List.{List}
 use native.Mathlib.Omega.{arith}
 use lib.ListN.{length, replicate}
 use Rattle.scope.specs.Reading.{got}
-use Rattle.scope.specs.Syntax.{Val, func, Definition, typesOf}
+use Rattle.scope.specs.Syntax.{Val, func}
 use Rattle.scope.specs.Judging.{accepted}
 use Rattle.scope.specs.Bodies.{Body}
 use Rattle.scope.specs.Answers.{tableLent, verdictOf, sectionCall, SectionJudged}
@@ -27,6 +27,14 @@ use Rattle.loader.proofs.Asking.{viewed}
 use Rattle.checker.proofs.Typing.{started-got, started-refused, form-is}
 use Rattle.trial.specs.Parts.{Parts, TypesAgain, FunctionAgain, LocalsAgain}
 use Rattle.trial.proofs.Bodily.{few-types, few-parameters}
+
+-- what the sizes of its parts allow
+
+pub may-start-again : {b : Body} {rows codes : List ℕ} {types first n second m : ℕ} → TypesAgain b rows codes types → FunctionAgain b codes first n second m → {work : List ℕ} → work ≡ replicate (length work) 0 → 4_096 ≤ length work → Starting work types n
+may-start-again t f zero room = record { zero = zero; room = omega arith; few = f .few; known = t .few }
+
+pub may-hold-locals : {b : Body} {s work : List ℕ} {count next : ℕ} → LocalsAgain b s work count next → {locals : List ℕ} → 512 ≤ length locals → LocalRoom locals count
+may-hold-locals l room = record { room = room; few = l .few }
 
 module _ {section s : List ℕ} {x : ℕ} {b : Body} (p : Parts section s x b) where
   -- the section
@@ -70,9 +78,6 @@ module _ {section s : List ℕ} {x : ℕ} {b : Body} (p : Parts section s x b) w
   -- the locals
 
   module _ {rows codes : List ℕ} {types first n second m : ℕ} (t : TypesAgain b rows codes types) (f : FunctionAgain b codes first n second m) where
-    pub may-start-again : {work : List ℕ} → work ≡ replicate (length work) 0 → 4_096 ≤ length work → Starting work types n
-    may-start-again zero room = record { zero = zero; room = omega arith; few = f .few; known = t .few }
-
     read-again : localsFirst types n s ≡ got (b .locals) (p .first)
     read-again = rw (t .many, f .manyParameters) (p .read)
 
@@ -102,9 +107,6 @@ module _ {section s : List ℕ} {x : ℕ} {b : Body} (p : Parts section s x b) w
   -- the matching ends
 
   module _ {work : List ℕ} {count next : ℕ} (l : LocalsAgain b s work count next) where
-    pub may-hold-locals : {locals : List ℕ} → 512 ≤ length locals → LocalRoom locals count
-    may-hold-locals room = record { room = room; few = l .few }
-
     pub may-fill-again : {ends : List ℕ} → 32_768 ≤ length ends → Fillable s ends next
     may-fill-again room = record { short = p .short; room = omega (arith, p .short); inside = l .inside }
 

@@ -1,3 +1,4 @@
 pub mod Bodily
 pub mod Again
 pub mod Startable
+pub mod Inner

@@ -2,15 +2,13 @@
 -- soundness says of that run holds of the run in this memory.
 use Prim.Native.Nat.{ℕ, _≤_}
 use mathlib.Core.Path.{_≡_, refl, sym, ap, ap₂, _∙_}
-use mathlib.Core.List.{List, [], _++_, map}
+use mathlib.Core.List.{List, [], map}
 use native.Mathlib.Omega.{arith}
 use lib.ListN.{length}
-use Rattle.scope.specs.Syntax.{typesOf}
 use Rattle.scope.specs.Bodies.{Body}
 use Rattle.scope.specs.Machine.{Machine, Program, defaultOf}
 use Rattle.scope.specs.Running.{run, startOf, programOf, trialOf}
 use Rattle.scope.proofs.Soundness.{Runs}
-use Rattle.table.specs.View.{view}
 use Rattle.cells.specs.Values.{numbered}
 use Rattle.store.proofs.Made.{kept-none}
 use Rattle.pile.specs.Pile.{pile, Started}
