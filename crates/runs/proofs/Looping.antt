@@ -1,21 +1,20 @@
 -- Step after step: the run from where it stands, with the steps before it counted, is the whole run; and soundness says that
 -- no step is astray.
-use Prim.Native.Nat.{ℕ, zero, suc, _+_, _-_, _≤_, _<_}
-use mathlib.Core.Path.{_≡_, refl, sym, ap, subst, _∙_}
-use mathlib.Core.List.{List, [], _∷_}
+use Prim.Native.Nat.{ℕ, suc, _+_, _-_, _≤_, _<_}
+use mathlib.Core.Path.{_≡_, refl, sym, ap, _∙_}
+use mathlib.Core.List.{List, []}
 use native.Mathlib.Omega.{arith}
 use lib.ListN.{length}
 use mir.Syntax.{w64}
 use mir.Val.{Fits}
-use Rattle.scope.specs.Reading.{Read, got, refused}
-use Rattle.scope.specs.Instructions.{Instr, instrAt}
+use Rattle.scope.specs.Instructions.{instrAt}
 use Rattle.scope.specs.Machine.{Machine, Program, Outcome, goes, ends, traps, step}
-use Rattle.scope.specs.Running.{run, onOutcome, done, trapped, spent}
+use Rattle.scope.specs.Running.{run, onOutcome}
 use Rattle.scope.proofs.Soundness.{Reaches, atFirst, oneMore}
 use Rattle.immediates.specs.declared.Instruction.{Instruction}
 use Rattle.immediates.specs.declared.InstructionRead.{InstructionRead}
 use Rattle.immediates.specs.declared.InstructionRead
-use Rattle.immediates.specs.Coding.{instructionOf, instructionIs}
+use Rattle.immediates.specs.Coding.{instructionIs}
 use Rattle.immediates.proofs.Laws.{instruction-got, instruction-refused}
 use Rattle.decoded.specs.Decoded.{instrOf}
 use Rattle.ends.specs.Matching.{codeAt}
@@ -24,10 +23,10 @@ use Rattle.stage.specs.declared.Stage.{Stage}
 use Rattle.stage.specs.declared.Stepped.{Stepped}
 use Rattle.stage.specs.declared.Stepped
 use Rattle.stage.specs.Machines.{Words, words, machineAt, programAt, Orderly}
-use Rattle.stage.specs.Moved.{outcomeAt, StepIs}
+use Rattle.stage.specs.Moved.{outcomeAt}
 use Rattle.stage.proofs.Told.{state-words, last-state-words}
 use Rattle.reached.specs.Sound.{Sound}
-use Rattle.steps.specs.Carried.{ReadHere, Steppable, StepOf}
+use Rattle.steps.specs.Carried.{Steppable, StepOf}
 use Rattle.runs.specs.declared.Ending.{Ending}
 use Rattle.runs.specs.declared.Ending
 use Rattle.runs.specs.Runs.{startStage, Readable, Runnable, endingAt, RanFrom}

@@ -4,9 +4,9 @@ use mathlib.Core.Path.{_≡_, refl, sym, ap, ap₂, subst, _∙_}
 use mathlib.Core.Logic.{_⊎_, inl, inr}
 use mathlib.Core.Bool.{Bool, true, false}
 use mathlib.Core.Option.{Option, none, some}
-use mathlib.Core.List.{List, [], _∷_, _++_, map, reverse}
+use mathlib.Core.List.{List, _∷_, _++_, map, reverse}
 use native.Mathlib.Omega.{arith}
-use lib.ListN.{length, getD, getElem?, set, take, drop, length-append, length-drop}
+use lib.ListN.{length, getElem?, set, take, drop, length-append, length-drop}
 use lib.Seq.{take-at}
 use lib.Dec.{ltb, leb}
 use borrow.Author.Tests.{ltb-true, ltb-false, leb-true, leb-false}
@@ -30,7 +30,7 @@ use Rattle.stage.specs.declared.Move.{Move}
 use Rattle.stage.specs.declared.Move
 use Rattle.stage.specs.declared.Stepped.{Stepped}
 use Rattle.stage.specs.declared.Stepped
-use Rattle.stage.specs.Machines.{Words, words, lower, blocksAt, machineAt, atHeight, Valued, Framed, Orderly, Closed}
+use Rattle.stage.specs.Machines.{Words, words, lower, blocksAt, machineAt, atHeight, Valued, Framed, Orderly}
 use Rattle.stage.specs.Moved.{withObject, defaultsAt, moved, Taking, Giving, SettingLocal, SettingField, Making, Ready, Astray, is-stuck, too-high, outcomeAt, StepIs}
 use Rattle.stage.proofs.Open.{operands-same, belows}
 use Rattle.steps.specs.Carried.{madeStage, Makable, MakableGiven, Made, MadeIs, Movable, Carried}

@@ -1,20 +1,17 @@
 -- A step that opens, closes or leaves a block: the heap and the locals stay as they are, so what it does to the operands, the
 -- open blocks and the code is the whole step.
-use Prim.Native.Nat.{ℕ, _-_, _≤_}
-use mathlib.Core.Path.{_≡_, refl, sym, ap, subst, _∙_}
+use Prim.Native.Nat.{ℕ, _-_}
+use mathlib.Core.Path.{_≡_, refl, _∙_}
 use mathlib.Core.List.{List}
-use native.Mathlib.Omega.{arith}
-use lib.ListN.{length}
-use Rattle.scope.specs.Machine.{Machine, Program, Outcome, goes, ends, branch}
+use Rattle.scope.specs.Machine.{Outcome, goes, ends}
 use Rattle.cells.specs.Values.{heldFrom}
-use Rattle.cells.proofs.Laws.{all-less}
-use Rattle.store.specs.Heap.{storeAt, Kept}
+use Rattle.store.specs.Heap.{storeAt}
 use Rattle.pile.specs.Pile.{pile}
 use Rattle.ends.specs.Matching.{codeAt}
 use Rattle.stage.specs.declared.Stage.{Stage}
 use Rattle.stage.specs.declared.Stepped.{Stepped}
 use Rattle.stage.specs.declared.Stepped
-use Rattle.stage.specs.Machines.{Words, words, blocksAt, machineAt, atPlace, Valued, Framed, Orderly, Closed}
+use Rattle.stage.specs.Machines.{Words, words, blocksAt, machineAt, atPlace, Valued}
 use Rattle.stage.specs.Moved.{Astray, is-stuck, too-high, too-deep, dangling, outcomeAt, StepIs}
 use Rattle.stage.specs.Controlled.{Piled, controlled, SameHeap, ControlIs}
 

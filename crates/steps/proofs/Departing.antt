@@ -1,10 +1,10 @@
 -- Each way out of carrying out a branch or a return.
-use Prim.Native.Nat.{ℕ, _+_, _-_, _≤_}
-use mathlib.Core.Path.{_≡_, refl, sym, ap, subst}
+use Prim.Native.Nat.{ℕ, _-_, _≤_}
+use mathlib.Core.Path.{_≡_, refl, ap, subst}
 use mathlib.Core.List.{List}
 use native.Mathlib.Omega.{arith}
 use lib.ListN.{length}
-use Rattle.scope.specs.Machine.{Value, Program, Outcome, branch, finish}
+use Rattle.scope.specs.Machine.{Program, branch}
 use Rattle.cells.proofs.Laws.{all-less}
 use Rattle.pile.specs.Pile.{pile}
 use Rattle.pile.proofs.Laws.{pile-length}
@@ -12,9 +12,9 @@ use Rattle.stage.specs.declared.Stage.{Stage}
 use Rattle.stage.specs.declared.Move.{Move}
 use Rattle.stage.specs.declared.Move
 use Rattle.stage.specs.declared.Stepped.{Stepped}
-use Rattle.stage.specs.Machines.{Words, words, machineAt, atHeight, Valued, Framed, Orderly}
-use Rattle.stage.specs.Moved.{moved, Taking, Ready, StepIs}
-use Rattle.stage.specs.Controlled.{Controls, Piled, ControlIs}
+use Rattle.stage.specs.Machines.{Words, words, machineAt, atHeight, Valued}
+use Rattle.stage.specs.Moved.{moved, Taking, Ready}
+use Rattle.stage.specs.Controlled.{Controls, Piled}
 use Rattle.control.specs.Control.{Finishes, Branchable, Branches}
 use Rattle.steps.specs.Carried.{Movable, Carried}
 use Rattle.steps.proofs.Carrying.{drop-pile}

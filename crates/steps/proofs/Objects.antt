@@ -1,5 +1,5 @@
 -- Each way out of making an object: its cells are filled, its row is put after the others', and its reference is pushed.
-use Prim.Native.Nat.{ℕ, _+_, _*_, _^_, _≤_, _<_}
+use Prim.Native.Nat.{ℕ, _+_, _^_, _<_}
 use mathlib.Core.Path.{_≡_, refl, sym, ap, _∙_}
 use mathlib.Core.Bool.{Bool, true, false}
 use mathlib.Core.List.{List}
@@ -11,15 +11,14 @@ use lib.Dec.{leb}
 use borrow.Author.Tests.{leb-true, leb-false}
 use Rattle.scope.specs.Machine.{Value}
 use Rattle.cells.specs.Values.{valuesFrom, AllCanon}
-use Rattle.cells.proofs.Laws.{all-less}
-use Rattle.store.specs.Heap.{Kept, withRow, RowPut, CellRoom, Filled, CellsCopied, CellsDefault}
+use Rattle.store.specs.Heap.{withRow, CellRoom, Filled, CellsCopied, CellsDefault}
 use Rattle.store.proofs.Made.{row-put}
 use Rattle.pile.specs.Pile.{Room, Pushed}
 use Rattle.stage.specs.declared.Stage.{Stage}
 use Rattle.stage.specs.declared.Stepped.{Stepped}
 use Rattle.stage.specs.declared.Stepped
 use Rattle.stage.specs.Moved.{defaultsAt}
-use Rattle.steps.specs.Carried.{PutRoom, madeStage, PutMade, Makable, MakableGiven, Made, MadeIs}
+use Rattle.steps.specs.Carried.{PutRoom, madeStage, PutMade, Makable, MakableGiven, MadeIs}
 
 module _ {objects operands : List ℕ} {st : Stage} {left k : ℕ} (room : PutRoom objects operands st left k) where
   pub reference-room : Room operands (st .base) left 1

@@ -2,19 +2,18 @@
 use Prim.Native.Nat.{ℕ, zero, suc, _-_, _≤_}
 use mathlib.Core.Path.{_≡_, refl, sym, ap, subst, _∙_}
 use mathlib.Core.Logic.{_⊎_, inl, inr}
-use mathlib.Core.List.{List, _∷_}
+use mathlib.Core.List.{List}
 use native.Mathlib.Omega.{arith}
 use lib.ListN.{length}
 use types.Run.{OneOf}
 use denote.Enum.Declared.{tagOf}
 use Rattle.scope.specs.Reading.{got}
 use Rattle.scope.specs.Instructions.{Op, Instr, block, loop, end, op, instrAt}
-use Rattle.scope.specs.Machine.{Machine, Program, Outcome, stuck, doOp, doInstr, step, stepOn}
+use Rattle.scope.specs.Machine.{Machine, Program, Outcome, stuck, doInstr, step, stepOn}
 use Rattle.immediates.specs.declared.Instruction.{Instruction}
 use Rattle.immediates.specs.declared.Instruction
-use Rattle.immediates.specs.Coding.{instructionOf}
 use Rattle.immediates.proofs.Instruction.{the-type}
-use Rattle.decoded.specs.Decoded.{blockResults, instrOf}
+use Rattle.decoded.specs.Decoded.{instrOf}
 use Rattle.ends.specs.declared.Kind.{Kind}
 use Rattle.ends.specs.declared.Kind
 use Rattle.ends.specs.Matching.{codeAt}
@@ -26,7 +25,7 @@ use Rattle.stage.specs.declared.Move.{Move}
 use Rattle.stage.specs.declared.Move
 use Rattle.stage.specs.declared.Stepped.{Stepped}
 use Rattle.stage.specs.declared.Stepped
-use Rattle.stage.specs.Machines.{Words, words, lower, blockWord, machineAt, programAt, atPlace, Nested, Valued, Framed, Orderly}
+use Rattle.stage.specs.Machines.{Words, words, lower, machineAt, programAt, atPlace, Nested, Framed, Orderly}
 use Rattle.stage.specs.Moved.{moved, Astray, MoveIs, outcomeAt, StepIs}
 use Rattle.stage.specs.Planned.{Holds}
 use Rattle.stage.specs.Controlled.{Controls, Piled, ControlIs}
@@ -35,7 +34,7 @@ use Rattle.control.specs.Control.{Low, OpensAs, as-block, as-loop, Opens, Closa
 use Rattle.decoded.specs.Named.{Modest}
 use Rattle.moves.specs.Moving.{MoveOf}
 use Rattle.decoded.proofs.Naming.{modest}
-use Rattle.steps.specs.Carried.{Movable, Carried, Inside, InsideIs, ReadHere, Steppable, StepOf}
+use Rattle.steps.specs.Carried.{Movable, Carried, Inside, InsideIs, Steppable, StepOf}
 use Rattle.steps.proofs.Controlling.{astray-here, controlled-step}
 
 -- a move that is what the instruction comes to, carried out

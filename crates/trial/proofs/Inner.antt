@@ -1,8 +1,8 @@
 -- Each way out of the run and of what leads to it: the state that the run leaves, the locals, the function's type, the section.
 use Prim.Native.Nat.{ℕ, _+_, _-_, _*_, _^_, _≤_, _<_}
-use mathlib.Core.Path.{_≡_, refl, sym, ap, subst, _∙_}
-use mathlib.Core.Bool.{Bool, true, false, not, cond, false≢true}
-use mathlib.Core.List.{List, [], _∷_, _++_}
+use mathlib.Core.Path.{_≡_, refl, sym, ap, _∙_}
+use mathlib.Core.Bool.{Bool, true, false, not, false≢true}
+use mathlib.Core.List.{List, _∷_, _++_}
 use native.Mathlib.Omega.{arith}
 use lib.ListN.{length, replicate}
 use Rattle.scope.specs.declared.Ran.{Ran}
@@ -12,17 +12,16 @@ use Rattle.scope.specs.declared.Verdict
 use borrow.Author.Tests.{not-true, not-false}
 use Rattle.scope.specs.Lists.{every}
 use Rattle.scope.specs.BodyRules.{hasDefault}
-use Rattle.scope.specs.Judging.{Judged, accepted, rejected}
+use Rattle.scope.specs.Judging.{accepted}
 use Rattle.scope.specs.Bodies.{Body, judgeBody}
 use Rattle.scope.specs.Running as running
-use Rattle.scope.specs.Running.{Trial, trialOf, withParameters, placeOf}
+use Rattle.scope.specs.Running.{trialOf, withParameters}
 use Rattle.scope.specs.Memory.{StateWords, stateWords, filled}
 use Rattle.scope.specs.Answers.{SectionJudged, machineOf, endedAs}
-use Rattle.scope.proofs.Soundness.{Runs}
 use Rattle.table.specs.declared.Shape.{Shape}
 use Rattle.table.specs.declared.Shape
 use Rattle.table.specs.Answers.{shapeForm}
-use Rattle.table.specs.View.{valAtCode, codesAt, view}
+use Rattle.table.specs.View.{view}
 use Rattle.struct_plans.specs.Structs.{allDefault}
 use Rattle.starting.specs.declared.Started as begin
 use Rattle.starting.specs.Beginning.{localsFirst, Starting, StartedAs}
@@ -32,16 +31,17 @@ use Rattle.pile.proofs.Laws.{pile-length}
 use Rattle.stage.specs.declared.Stage.{Stage}
 use Rattle.stage.specs.Machines.{Words, words, machineAt, Valued}
 use Rattle.stage.specs.Written.{StateTold}
-use Rattle.states.specs.States.{stateOf, Settling, Settled, Written}
+use Rattle.states.specs.States.{stateOf, Settling, Settled}
 use Rattle.states.proofs.Settles.{settled-told}
 use Rattle.runs.specs.declared.Ending.{Ending}
 use Rattle.runs.specs.declared.Ending
 use Rattle.runs.specs.Runs.{startStage, stageOf, endingAt, RanFrom}
-use Rattle.trial.specs.Parts.{Parts, TypesAgain, FunctionAgain, LocalsAgain}
-use Rattle.trial.specs.Trial.{Zeroed, Waiting, Tried, tellOf, Startable, runHere, RunStarted, Placing, Placed, RunLocated, Shaping, Shaped, RunShaped, Typing, Typed, RunTyped, Allowed, RunJudged}
+use Rattle.trial.specs.Parts.{Parts}
+use Rattle.trial.specs.Trial.{tellOf, Startable, runHere, RunStarted, Placing, Placed, RunLocated, Shaping, Shaped, RunShaped, Typing, Typed, RunTyped, Allowed, RunJudged}
 use Rattle.trial.proofs.Bodily.{parts}
 use Rattle.trial.proofs.Again.{section-unrefused, section-again, count-fits, shape-not-struct, shape-again, may-start-again, start-unrefused, start-again, may-hold-locals, may-fill-again, ends-told, ends-again}
 use Rattle.trial.proofs.Startable.{trial-is, runnable}
+use Rattle.trial.proofs.Outer.{refused-tried}
 
 -- how a run ended
 
@@ -71,20 +71,6 @@ module _ (first : ℕ) {ended : Ending} where
   tell-astray e = rw e refl
 
 pub ruleset ending-exits = (stage-done, stage-trapped, stage-spent, stage-astray, tell-done, tell-trapped, tell-spent, tell-astray)
-
--- a refusal leaves the state zero
-pub tried-refused : {s : List ℕ} {want : Judged Trial} {n place : ℕ} → want ≡ rejected n place → {c o e l p b c′ o′ e′ l′ p′ b′ : List ℕ} → Zeroed (stateOf c o e l p b) → c′ ≡ c → o′ ≡ o → e′ ≡ e → l′ ≡ l → p′ ≡ p → b′ ≡ b → Tried s want (stateOf c o e l p b) (stateOf c′ o′ e′ l′ p′ b′) (Ran.the-variants.Refused n place)
-tried-refused is z f g h i j k =
-    rw is
-    (record {
-      answer = refl;
-      counts = f ∙ z .counts;
-      objects = g ∙ z .objects;
-      cells = h ∙ z .cells;
-      locals = i ∙ z .locals;
-      operands = j ∙ z .operands;
-      blocks = k ∙ z .blocks;
-    })
 
 -- the run
 
@@ -216,7 +202,7 @@ module _ {s rows codes work ends : List ℕ} {c o e l p b : List ℕ} {types fir
 
       pub no-default : not all ≡ true → {c′ o′ e′ l′ p′ b′ : List ℕ} → c′ ≡ c → o′ ≡ o → e′ ≡ e → l′ ≡ l → p′ ≡ p → b′ ≡ b → {budget : ℕ} → RunShaped s rows codes (stateOf c o e l p b) (stateOf c′ o′ e′ l′ p′ b′) types first params results budget (Ran.the-variants.Refused 29 0)
       no-default n f g h i j k {budget} =
-          record { is = λ body sh. let none-all : every hasDefault (body .function .parameters) ≡ false = defaults sh ∙ not-true all n in tried-refused (rw none-all refl) (may .waiting .zero) f g h i j k }
+          record { is = λ body sh. let none-all : every hasDefault (body .function .parameters) ≡ false = defaults sh ∙ not-true all n in refused-tried (rw none-all refl) (may .waiting .zero) f g h i j k }
 
       module _ (yes-all : not all ≡ false) where
         placing-of : (body : Body) → Shaping s rows codes types first params results body → Placing s rows codes work₁ count results next body

@@ -1,4 +1,5 @@
 pub mod Bodily
 pub mod Again
 pub mod Startable
+pub mod Outer
 pub mod Inner
