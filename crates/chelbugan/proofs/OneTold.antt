@@ -1,9 +1,11 @@
 -- One statement, one answer: each part of what a host is told, and of the lent memory, is an equation with a value that the
--- input fixes.
+-- input fixes; a run's answer is fixed by scope's `one-run`.
 use Prim.Native.Nat.{ℕ}
-use mathlib.Core.Path.{_≡_, sym, _∙_}
+use mathlib.Core.Path.{_≡_, sym, ap, _∙_}
 use mathlib.Core.List.{List}
-use Rattle.chelbugan.specs.Told.{SectionTold, TypeTold, BodyTold}
+use Rattle.scope.specs.Answers.{RunMemory}
+use Rattle.scope.proofs.OneAnswer.{one-run}
+use Rattle.chelbugan.specs.Told.{ranKind, ranValues, SectionTold, TypeTold, BodyTold, RunTold}
 
 pub one-section-told : {s rows codes rows₁ codes₁ rows₂ codes₂ answer₁ answer₂ : List ℕ} {r q : ℕ} → SectionTold s rows codes rows₁ codes₁ r answer₁ → SectionTold s rows codes rows₂ codes₂ q answer₂ → (r ≡ q) × (answer₁ ≡ answer₂) × (rows₁ ≡ rows₂) × (codes₁ ≡ codes₂)
 one-section-told a b = (a .kind ∙ sym (b .kind), a .values ∙ sym (b .values), a .rowsAfter ∙ sym (b .rowsAfter), a .codesAfter ∙ sym (b .codesAfter))
@@ -13,3 +15,12 @@ one-type-told a b = (a .kind ∙ sym (b .kind), a .values ∙ sym (b .values), a
 
 pub one-body-told : {section s rows codes work rows₁ codes₁ work₁ rows₂ codes₂ work₂ answer₁ answer₂ : List ℕ} {x r q : ℕ} → BodyTold section s x rows codes work rows₁ codes₁ work₁ r answer₁ → BodyTold section s x rows codes work rows₂ codes₂ work₂ q answer₂ → (r ≡ q) × (answer₁ ≡ answer₂) × (rows₁ ≡ rows₂) × (codes₁ ≡ codes₂) × (work₁ ≡ work₂)
 one-body-told a b = (a .kind ∙ sym (b .kind), a .values ∙ sym (b .values), a .rowsAfter ∙ sym (b .rowsAfter), a .codesAfter ∙ sym (b .codesAfter), a .workAfter ∙ sym (b .workAfter))
+
+pub one-run-told : {section s : List ℕ} {x budget : ℕ} {m m₁ m₂ : RunMemory} {r q : ℕ} {answer₁ answer₂ : List ℕ} → RunTold section s x budget m m₁ r answer₁ → RunTold section s x budget m m₂ q answer₂ → (r ≡ q) × (answer₁ ≡ answer₂) × (m₁ ≡ m₂)
+one-run-told a b =
+    let (answer, memory) = one-run (a .tried) (b .tried)
+    in (
+      a .told .kind ∙ ap ranKind answer ∙ sym (b .told .kind),
+      a .told .values ∙ ap ranValues answer ∙ sym (b .told .values),
+      memory,
+    )
