@@ -1,5 +1,7 @@
 // One line for each case: its name; `yes` with the count of instructions, or `no` with the refusal's number and place; and
 // `zero` or `not zero`, for what lent memory holds afterwards. Every element of it holds rubbish before the call.
+use case_words::zero;
+use case_words::zero32;
 use libc::STDOUT_FILENO;
 use scope::Verdict;
 
@@ -8,28 +10,6 @@ pub struct Lent {
     pub rows: u64,
     pub codes: u64,
     pub work: u64,
-}
-
-fn zero(m: &[u16]) -> bool {
-    let mut i: usize = 0;
-    while i < m.len() {
-        if m[i] != 0 {
-            return false;
-        }
-        i += 1;
-    }
-    true
-}
-
-fn zero32(m: &[u32]) -> bool {
-    let mut i: usize = 0;
-    while i < m.len() {
-        if m[i] != 0 {
-            return false;
-        }
-        i += 1;
-    }
-    true
 }
 
 // A space, and a number.

@@ -4,10 +4,10 @@
 // and anything else a case: its name, and the bytes of its body.
 use crate::judging::Lent;
 use crate::judging::judged;
-use crate::reading::bytes;
-use crate::reading::decimal;
-use crate::reading::find;
-use crate::reading::part;
+use case_words::bytes;
+use case_words::decimal;
+use case_words::find;
+use case_words::part;
 
 const SPACE: u8 = b' ';
 

@@ -2,7 +2,6 @@
 // lines.rt explains; the file stdout has the answers, worked out by hand from document 01 and never copied from a run.
 mod judging;
 mod lines;
-mod reading;
 
 fn main() {
     let mut text = [0u8; 131072];

@@ -6,7 +6,7 @@ use mathlib.Core.List.{List, [], _∷_, _++_, map, reverse, reverse-cons}
 use native.Mathlib.Omega.{arith}
 use native.Mathlib.Numerals.{add-one}
 use lib.ListN.{length, getD, take, drop, take-append-drop}
-use lib.Seq.{length-take-le}
+use lib.Seq.{length-take-le, take-at}
 use Rattle.scope.specs.Lists.{joined}
 use Rattle.scope.specs.Machine.{Value, splitTop}
 use Rattle.scope.specs.Memory.{valueWords}
@@ -54,6 +54,13 @@ pile-join m base h (suc k) =
     let place : base + h + k ≡ base + (h + k) = omega arith in
     rw (same, place) (ap (λ (vs : List Value). entryIn valueAt m (base + (h + k)) ∷ vs) (pile-join m base h k))
 
+-- without the highest n
+pub drop-pile : (m : List ℕ) (base h n : ℕ) → n ≤ h → drop n (pile m base h) ≡ pile m base (h - n)
+unfolding pile
+drop-pile m base h zero l = let same : h - 0 ≡ h = omega arith in rw same refl
+drop-pile m base zero (suc n) l = absurd (omega arith)
+drop-pile m base (suc h) (suc n) l = let same : suc h - suc n ≡ h - n = omega arith in rw same (drop-pile m base h n (omega arith))
+
 -- so many values taken from the top: all of them are there, or none is taken
 
 pub take-split : (n : ℕ) (vs : List Value) → n ≤ length vs → splitTop n vs ≡ some (take n vs, drop n vs)
@@ -89,6 +96,14 @@ pile-reverse m base (suc h) =
     ∙ ap (λ (vs : List Value). vs ++ (entryIn valueAt m (base + h) ∷ [])) (pile-reverse m base h)
     ∙ sym (numbered-more (entryIn valueAt m) base h)
     ∙ ap (numbered (entryIn valueAt m) base) (add-one h)
+
+-- the k values above the lowest `left`, the lowest first
+pub values-above : (m : List ℕ) (base left n k : ℕ) → reverse (take k (drop n (pile m base (left + k + n)))) ≡ valuesFrom m (base + left) k
+values-above m base left n k =
+    let high : left + k + n - n ≡ left + k = omega arith in
+    let rest : drop n (pile m base (left + k + n)) ≡ pile m (base + left) k ++ pile m base left = drop-pile m base (left + k + n) n (omega arith) ∙ ap (pile m base) high ∙ sym (pile-join m base left k) in
+    let top : take k (pile m (base + left) k ++ pile m base left) ≡ pile m (base + left) k = take-at (pile m (base + left) k) (pile m base left) k (pile-length m (base + left) k) in
+    ap (λ (vs : List Value). reverse (take k vs)) rest ∙ ap reverse top ∙ pile-reverse m (base + left) k
 
 -- all operands, written: the words themselves
 pub pile-words : {m : List ℕ} {n : ℕ} → AllCanon m n → 2 * n ≤ length m → joined (map valueWords (reverse (pile m 0 n))) ≡ take (2 * n) m

@@ -8,7 +8,7 @@ use lib.ListN.{length}
 use mir.Syntax.{w64}
 use mir.Val.{Fits}
 use Rattle.scope.specs.Instructions.{instrAt}
-use Rattle.scope.specs.Machine.{Machine, Program, Outcome, goes, ends, traps, step}
+use Rattle.scope.specs.Machine.{Machine, Program, Outcome, step}
 use Rattle.scope.specs.Running.{run, onOutcome}
 use Rattle.scope.proofs.Soundness.{Reaches, atFirst, oneMore}
 use Rattle.immediates.specs.declared.Instruction.{Instruction}
@@ -48,13 +48,17 @@ pub record Going (s rows codes ends′ : List ℕ) (count : ℕ) (w₀ : Words) 
   pub few : steps ≤ budget
   pub sizes : Sizes w₀ w
 
-pub going-first : {s rows codes ends′ : List ℕ} {count : ℕ} {w : Words} {results first : ℕ} (budget : ℕ) → Runnable s rows codes ends′ count w results first → Going s rows codes ends′ count w results first budget w (startStage first) 0
+pub going-first :
+    {s rows codes ends′ : List ℕ} {count : ℕ} {w : Words} {results first : ℕ} (budget : ℕ) → Runnable s rows codes ends′ count w results first
+    → Going s rows codes ends′ count w results first budget w (startStage first) 0
 going-first budget may =
     let all : budget - 0 ≡ budget = omega arith in
     record { sound = may .sound; orderly = may .orderly; reaches = atFirst; rest = rw all refl; few = omega arith; sizes = record { objects = refl; cells = refl; locals = refl; operands = refl; blocks = refl } }
 
 -- one step of the written run
-one-step : (p : Program) (budget steps : ℕ) (m : Machine) → steps < budget → run p (budget - steps) steps m ≡ onOutcome (step p m) steps m (λ later. run p (budget - (steps + 1)) (steps + 1) later)
+one-step :
+    (p : Program) (budget steps : ℕ) (m : Machine) → steps < budget
+    → run p (budget - steps) steps m ≡ onOutcome (step p m) steps m (λ later. run p (budget - (steps + 1)) (steps + 1) later)
 unfolding run
 one-step p budget steps m h =
     let more : budget - steps ≡ suc (budget - (steps + 1)) = omega arith in
@@ -62,8 +66,11 @@ one-step p budget steps m h =
 
 -- the instruction at the place
 
-module _ {s ends′ : List ℕ} {count : ℕ} {w : Words} {st : Stage} (may : Readable s ends′ count w st) {read : InstructionRead} (is : read ≡ instructionIs (instrAt s (st .place))) where
-  pub none-read : {n place : ℕ} → read ≡ InstructionRead.the-variants.Refused n place → {rows codes : List ℕ} {w′ : Words} {results : ℕ} → StepOf s rows codes ends′ count w w′ st results Stepped.the-variants.Astray
+module _ {s ends′ : List ℕ} {count : ℕ} {w : Words} {st : Stage} (may : Readable s ends′ count w st) {read : InstructionRead}
+    (is : read ≡ instructionIs (instrAt s (st .place))) where
+  pub none-read :
+      {n place : ℕ} → read ≡ InstructionRead.the-variants.Refused n place → {rows codes : List ℕ} {w′ : Words} {results : ℕ}
+      → StepOf s rows codes ends′ count w w′ st results Stepped.the-variants.Astray
   none-read e = absurd (may .more (code-refused s (st .place) (instruction-refused (instrAt s (st .place)) is e)))
 
   pub one-read : {i : Instruction} {next : ℕ} → read ≡ InstructionRead.the-variants.Is i next → Steppable s ends′ count w st i next
@@ -75,7 +82,8 @@ pub ruleset read-exits = (none-read, one-read)
 
 -- the run
 
-module _ {s rows codes ends′ : List ℕ} {count : ℕ} {w₀ : Words} {results first budget : ℕ} {o c l p b : List ℕ} {st : Stage} {steps : ℕ} (g : Going s rows codes ends′ count w₀ results first budget (words o c l p b) st steps) where
+module _ {s rows codes ends′ : List ℕ} {count : ℕ} {w₀ : Words} {results first budget : ℕ} {o c l p b : List ℕ} {st : Stage} {steps : ℕ}
+    (g : Going s rows codes ends′ count w₀ results first budget (words o c l p b) st steps) where
   some-code : codeAt s (st .place) ≡ [] → ⊥
   unfolding machineAt
   some-code e = g .sound .more (g .reaches) e
@@ -95,9 +103,17 @@ module _ {s rows codes ends′ : List ℕ} {count : ℕ} {w₀ : Words} {results
     pub going-astray : r ≡ Stepped.the-variants.Astray → {w″ : Words} → RanFrom s rows codes count w₀ w″ results first budget Ending.the-variants.Astray
     going-astray e = absurd (g .sound .never (g .reaches) (stepped .is .astray e))
 
+    -- what the step came to, by its answer
+    came :
+        {answer : Stepped} → r ≡ answer → (answer ≡ Stepped.the-variants.Astray → ⊥)
+        → step (programAt rows codes results) (machineAt s count (words o c l p b) st) ≡ outcomeAt s count (words o′ c′ l′ p′ b′) answer
+    came e n = sym (stepped .is .is (λ a. n (sym e ∙ a))) ∙ ap (outcomeAt s count (words o′ c′ l′ p′ b′)) e
+
     module _ (h : steps < budget) where
       -- the whole run, by what the step came to
-      comes : {out : Outcome} → step (programAt rows codes results) (machineAt s count (words o c l p b) st) ≡ out → run (programAt rows codes results) budget 0 (machineAt s count w₀ (startStage first)) ≡ onOutcome out steps (machineAt s count (words o c l p b) st) (λ later. run (programAt rows codes results) (budget - (steps + 1)) (steps + 1) later)
+      comes :
+          {out : Outcome} → step (programAt rows codes results) (machineAt s count (words o c l p b) st) ≡ out
+          → run (programAt rows codes results) budget 0 (machineAt s count w₀ (startStage first)) ≡ onOutcome out steps (machineAt s count (words o c l p b) st) (λ later. run (programAt rows codes results) (budget - (steps + 1)) (steps + 1) later)
       comes e =
           g .rest
           ∙ one-step (programAt rows codes results) budget steps (machineAt s count (words o c l p b) st) h
@@ -106,11 +122,12 @@ module _ {s rows codes ends′ : List ℕ} {count : ℕ} {w₀ : Words} {results
       pub steps-fit : Fits w64 budget → Fits w64 (steps + 1)
       steps-fit f = omega (arith, f, h)
 
-      pub going-turn : {later : Stage} → r ≡ Stepped.the-variants.Goes later → length o′ ≡ length o → length c′ ≡ length c → length l′ ≡ length l → length p′ ≡ length p → length b′ ≡ length b → Going s rows codes ends′ count w₀ results first budget (words o′ c′ l′ p′ b′) later (steps + 1)
+      pub going-turn :
+          {later : Stage} → r ≡ Stepped.the-variants.Goes later → length o′ ≡ length o → length c′ ≡ length c → length l′ ≡ length l → length p′ ≡ length p
+          → length b′ ≡ length b → Going s rows codes ends′ count w₀ results first budget (words o′ c′ l′ p′ b′) later (steps + 1)
       unfolding outcomeAt
       going-turn {later} e so sc sl sp sb =
-          let n : r ≡ Stepped.the-variants.Astray → ⊥ = λ a. let z : _≡_ {A = ℕ} 0 1 = cc in omega arith in
-          let is : step (programAt rows codes results) (machineAt s count (words o c l p b) st) ≡ goes (machineAt s count (words o′ c′ l′ p′ b′) later) = sym (stepped .is .is n) ∙ ap (outcomeAt s count (words o′ c′ l′ p′ b′)) e in
+          let is = came e (λ a. let z : _≡_ {A = ℕ} 0 1 = cc in omega arith) in
           record {
             sound = g .sound;
             orderly = stepped .is .orderly later e;
@@ -127,18 +144,20 @@ module _ {s rows codes ends′ : List ℕ} {count : ℕ} {w₀ : Words} {results
                 };
           }
 
-      pub going-done : {later : Stage} → r ≡ Stepped.the-variants.Ends later → RanFrom s rows codes count w₀ (words o′ c′ l′ p′ b′) results first budget (Ending.the-variants.Done later (steps + 1))
+      pub going-done :
+          {later : Stage} → r ≡ Stepped.the-variants.Ends later
+          → RanFrom s rows codes count w₀ (words o′ c′ l′ p′ b′) results first budget (Ending.the-variants.Done later (steps + 1))
       unfolding outcomeAt endingAt
       going-done {later} e =
-          let n : r ≡ Stepped.the-variants.Astray → ⊥ = λ a. let z : _≡_ {A = ℕ} 0 1 = cc in omega arith in
-          let is : step (programAt rows codes results) (machineAt s count (words o c l p b) st) ≡ ends (machineAt s count (words o′ c′ l′ p′ b′) later) = sym (stepped .is .is n) ∙ ap (outcomeAt s count (words o′ c′ l′ p′ b′)) e in
+          let is = came e (λ a. let z : _≡_ {A = ℕ} 0 1 = cc in omega arith) in
           record { is = sym (comes is); told = last-state-words (stepped .is .valued later e) (stepped .is .closed later e); valued = stepped .is .valued later e; low = omega (arith, stepped .is .closed later e .depth) }
 
-      pub going-trapped : {number : ℕ} → r ≡ Stepped.the-variants.Traps number → RanFrom s rows codes count w₀ (words o′ c′ l′ p′ b′) results first budget (Ending.the-variants.Trapped number st (steps + 1))
+      pub going-trapped :
+          {number : ℕ} → r ≡ Stepped.the-variants.Traps number
+          → RanFrom s rows codes count w₀ (words o′ c′ l′ p′ b′) results first budget (Ending.the-variants.Trapped number st (steps + 1))
       unfolding outcomeAt endingAt
       going-trapped {number} e =
-          let n : r ≡ Stepped.the-variants.Astray → ⊥ = λ a. let z : _≡_ {A = ℕ} 0 1 = cc in omega arith in
-          let is : step (programAt rows codes results) (machineAt s count (words o c l p b) st) ≡ traps number = sym (stepped .is .is n) ∙ ap (outcomeAt s count (words o′ c′ l′ p′ b′)) e in
+          let is = came e (λ a. let z : _≡_ {A = ℕ} 0 1 = cc in omega arith) in
           let same : words o′ c′ l′ p′ b′ ≡ words o c l p b = stepped .is .same number e in
           rw same (record { is = sym (comes is); told = state-words (g .orderly) some-code; valued = g .orderly .valued; low = omega (arith, g .orderly .framed .room, g .orderly .framed .deep) })
 

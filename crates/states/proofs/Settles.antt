@@ -40,7 +40,9 @@ pub ruleset size-exits = (too-small, before-small, enough-if, enough-more, enoug
 
 -- the counts
 
-pub three-put : (m : List ℕ) {m₁ m₂ m₃ : List ℕ} (at a b c : ℕ) → m₁ ≡ set m at a → m₂ ≡ set m₁ (at + 1) b → m₃ ≡ set m₂ (at + 2) c → m₃ ≡ set (set (set m at a) (at + 1) b) (at + 2) c
+pub three-put :
+    (m : List ℕ) {m₁ m₂ m₃ : List ℕ} (at a b c : ℕ) → m₁ ≡ set m at a → m₂ ≡ set m₁ (at + 1) b → m₃ ≡ set m₂ (at + 2) c
+    → m₃ ≡ set (set (set m at a) (at + 1) b) (at + 2) c
 three-put m at a b c e f g = rw (g, f, e)
 
 abbrev six : List ℕ → ℕ → ℕ → ℕ → ℕ → ℕ → ℕ → List ℕ
@@ -71,8 +73,12 @@ module _ {count : ℕ} {st : Stage} {c o e l p b : List ℕ} (s : Settling count
   may-count = record { room = s .counts; high = s .high }
 
   pub settled :
-      {c′ o′ e′ l′ p′ b′ : List ℕ} → c′ ≡ filled c (countsOf count st) → o′ ≡ take (4 * st .objects) o ++ replicate (length o - 4 * st .objects) 0 → e′ ≡ take (2 * st .cells) e ++ replicate (length e - 2 * st .cells) 0
-      → l′ ≡ take (2 * count) l ++ replicate (length l - 2 * count) 0 → p′ ≡ take (2 * (st .base + st .height)) p ++ replicate (length p - 2 * (st .base + st .height)) 0 → b′ ≡ take (3 * st .depth) b ++ replicate (length b - 3 * st .depth) 0
+      {c′ o′ e′ l′ p′ b′ : List ℕ} → c′ ≡ filled c (countsOf count st)
+      → o′ ≡ take (4 * st .objects) o ++ replicate (length o - 4 * st .objects) 0
+      → e′ ≡ take (2 * st .cells) e ++ replicate (length e - 2 * st .cells) 0
+      → l′ ≡ take (2 * count) l ++ replicate (length l - 2 * count) 0
+      → p′ ≡ take (2 * (st .base + st .height)) p ++ replicate (length p - 2 * (st .base + st .height)) 0
+      → b′ ≡ take (3 * st .depth) b ++ replicate (length b - 3 * st .depth) 0
       → Settled count st (stateOf c o e l p b) (stateOf c′ o′ e′ l′ p′ b′)
   settled cs os es ls ps bs =
       record {
@@ -89,7 +95,9 @@ pub ruleset settle-exits = (may-count, settled)
 -- the buffers then hold the state that is told
 
 module _ {count : ℕ} {st : Stage} {state state′ told : StateWords} where
-  pub settled-told : Settled count st state state′ → StateTold count (words (state .objects) (state .cells) (state .locals) (state .operands) (state .blocks)) st told → Written told state state′
+  pub settled-told :
+      Settled count st state state′ → StateTold count (words (state .objects) (state .cells) (state .locals) (state .operands) (state .blocks)) st told
+      → Written told state state′
   settled-told s t =
       record {
         counts = s .counts ∙ ap (filled (state .counts)) (sym (t .counts));

@@ -1,29 +1,26 @@
 -- Each way out of carrying out a move: what the words then say is what the move means, and they are as orderly as before.
-use Prim.Native.Nat.{ℕ, zero, suc, _+_, _-_, _*_, _≤_, _<_}
+use Prim.Native.Nat.{ℕ, _+_, _-_, _*_, _≤_, _<_}
 use mathlib.Core.Path.{_≡_, refl, sym, ap, ap₂, subst, _∙_}
-use mathlib.Core.Logic.{_⊎_, inl, inr}
 use mathlib.Core.Bool.{Bool, true, false}
-use mathlib.Core.Option.{Option, none, some}
+use mathlib.Core.Option.{Option}
 use mathlib.Core.List.{List, _∷_, _++_, map, reverse}
 use native.Mathlib.Omega.{arith}
-use lib.ListN.{length, getElem?, set, take, drop, length-append, length-drop}
-use lib.Seq.{take-at}
+use lib.ListN.{length, set, take, drop, length-append, length-drop}
 use lib.Dec.{ltb, leb}
-use borrow.Author.Tests.{ltb-true, ltb-false, leb-true, leb-false}
+use borrow.Author.Tests.{ltb-true, leb-true, leb-false}
 use Rattle.scope.specs.Machine.{Value, object, Object, Block, Machine, Program, Outcome, Store, goes, stuck, cellsOf, hasRoom, withOperands, withHeap, withLocals, withControl, withField}
 use Rattle.scope.specs.Reading.{given}
 use Rattle.scope.specs.Lists.{joined}
 use Rattle.scope.specs.Memory.{belowOf}
-use Rattle.scope.proofs.Truths.{decided, from-both}
-use Rattle.cells.specs.Values.{valueAt, valuesFrom, heldFrom, Canon, AllCanon}
+use Rattle.scope.proofs.Truths.{from-both}
+use Rattle.cells.specs.Values.{valueAt, valuesFrom, heldFrom, Canon, AllCanon, AllHeldCanon}
 use Rattle.table.specs.View.{linkAt}
 use Rattle.cells.proofs.Laws.{all-less, value-object, canon-object}
-use Rattle.cells.proofs.Numbered.{numbered-length, numbered-past}
 use Rattle.store.specs.Heap.{objectAt, storeAt, Kept, FieldSet}
-use Rattle.store.proofs.Packs.{store-there, packed-cells}
+use Rattle.store.proofs.Packs.{store-length, store-there, store-found, packed-cells}
 use Rattle.store.proofs.Made.{store-made, kept-more}
 use Rattle.pile.specs.Pile.{pile, Room, Pushed, LocalRoom, LocalSet}
-use Rattle.pile.proofs.Laws.{pile-length, pile-join, pile-reverse}
+use Rattle.pile.proofs.Laws.{pile-length, drop-pile, values-above}
 use Rattle.ends.specs.Matching.{codeAt}
 use Rattle.stage.specs.declared.Stage.{Stage}
 use Rattle.stage.specs.declared.Move.{Move}
@@ -34,23 +31,12 @@ use Rattle.stage.specs.Machines.{Words, words, lower, blocksAt, machineAt, atHe
 use Rattle.stage.specs.Moved.{withObject, defaultsAt, moved, Taking, Giving, SettingLocal, SettingField, Making, Ready, Astray, is-stuck, too-high, outcomeAt, StepIs}
 use Rattle.stage.proofs.Open.{operands-same, belows}
 use Rattle.steps.specs.Carried.{madeStage, Makable, MakableGiven, Made, MadeIs, Movable, Carried}
-
--- a move's operands
-
-pub drop-pile : (m : List ℕ) (base h n : ℕ) → n ≤ h → drop n (pile m base h) ≡ pile m base (h - n)
-unfolding pile
-drop-pile m base h zero l = let same : h - 0 ≡ h = omega arith in rw same refl
-drop-pile m base zero (suc n) l = absurd (omega arith)
-drop-pile m base (suc h) (suc n) l = let same : suc h - suc n ≡ h - n = omega arith in rw same (drop-pile m base h n (omega arith))
-
-framed-height : {s ends blocks : List ℕ} {st : Stage} (left : ℕ) → Framed s ends blocks st → Framed s ends blocks (atHeight st left)
-framed-height left f =
-    record { short = f .short; room = f .room; deep = f .deep; base = f .base; charted = f .charted; nested = f .nested }
+use Rattle.steps.proofs.Objects.{not-astray}
 
 -- the answers
 
-goes-not-astray : {later : Stage} {A : Type 0} → Stepped.the-variants.Goes later ≡ Stepped.the-variants.Astray → A
-goes-not-astray e = absurd (let z : _≡_ {A = ℕ} 0 1 = cc in omega arith)
+goes-stage : {st later : Stage} → Stepped.the-variants.Goes st ≡ Stepped.the-variants.Goes later → st ≡ later
+goes-stage e = cc
 
 module _ {s ends : List ℕ} {count : ℕ} {w : Words} {m : Machine} where
   step-astray : {want : Outcome} (w′ : Words) → Astray m want → StepIs s ends count w w′ m want Stepped.the-variants.Astray
@@ -64,7 +50,9 @@ module _ {s ends : List ℕ} {count : ℕ} {w : Words} {m : Machine} where
         same = λ n e. absurd (let z : _≡_ {A = ℕ} 0 1 = cc in omega arith);
       }
 
-  step-goes : {want : Outcome} (w′ : Words) (later : Stage) → goes (machineAt s count w′ later) ≡ want → Orderly s ends count w′ later → StepIs s ends count w w′ m want (Stepped.the-variants.Goes later)
+  step-goes :
+      {want : Outcome} (w′ : Words) (later : Stage) → goes (machineAt s count w′ later) ≡ want → Orderly s ends count w′ later
+      → StepIs s ends count w w′ m want (Stepped.the-variants.Goes later)
   unfolding outcomeAt
   step-goes w′ later is o =
       record {
@@ -76,28 +64,12 @@ module _ {s ends : List ℕ} {count : ℕ} {w : Words} {m : Machine} where
         same = λ n e. absurd (let z : _≡_ {A = ℕ} 0 1 = cc in omega arith);
       }
 
--- the parts of a machine after a move
+-- the moves, from what one may rely on
 
--- the k values above the lowest `left`, the lowest first
-values-above : (m : List ℕ) (base left n k : ℕ) → reverse (take k (drop n (pile m base (left + k + n)))) ≡ valuesFrom m (base + left) k
-values-above m base left n k =
-    let high : left + k + n - n ≡ left + k = omega arith in
-    let rest : drop n (pile m base (left + k + n)) ≡ pile m (base + left) k ++ pile m base left = drop-pile m base (left + k + n) n (omega arith) ∙ ap (pile m base) high ∙ sym (pile-join m base left k) in
-    let top : take k (pile m (base + left) k ++ pile m base left) ≡ pile m (base + left) k = take-at (pile m (base + left) k) (pile m base left) k (pile-length m (base + left) k) in
-    ap (λ (vs : List Value). reverse (take k vs)) rest ∙ ap reverse top ∙ pile-reverse m (base + left) k
-
-object-there : (objects cells : List ℕ) (n o : ℕ) {it : Object} → getElem? (storeAt objects cells n) o ≡ some it → (o < n) × (it ≡ objectAt objects cells o)
-object-there objects cells n o {it} e = go (decided (ltb o n))
-  where
-    go : (ltb o n ≡ true) ⊎ (ltb o n ≡ false) → (o < n) × (it ≡ objectAt objects cells o)
-    go (inl l) =
-        let h : o < n = ltb-true o n l in
-        let there : some it ≡ some (objectAt objects cells o) = sym e ∙ store-there objects cells n o h in
-        (h, cc)
-    go (inr l) = absurd (let z : some it ≡ none = sym e ∙ numbered-past (objectAt objects cells) 0 n o (ltb-false o n l) in let y : _≡_ {A = ℕ} 0 1 = cc in omega arith)
-
-goes-stage : {st later : Stage} → Stepped.the-variants.Goes st ≡ Stepped.the-variants.Goes later → st ≡ later
-goes-stage e = cc
+-- what is orderly about open blocks does not hang on the height
+framed-height : {s ends blocks : List ℕ} {st : Stage} (left : ℕ) → Framed s ends blocks st → Framed s ends blocks (atHeight st left)
+framed-height left f =
+    record { short = f .short; room = f .room; deep = f .deep; base = f .base; charted = f .charted; nested = f .nested }
 
 module _ {s ends : List ℕ} {count : ℕ} {w : Words} {st : Stage} {it : Move} (may : Movable s ends count w st it) where
   high : length (machineAt s count w st .operands) ≡ st .height
@@ -110,14 +82,17 @@ module _ {s ends : List ℕ} {count : ℕ} {w : Words} {st : Stage} {it : Move} 
   frames : Framed s ends (w .blocks) st
   frames = may .orderly .framed
 
-  less-orderly : (left : ℕ) → left ≤ st .height → Orderly s ends count w (atHeight st left)
-  less-orderly left l =
+  -- fewer operands are as orderly, over a heap and locals that are
+  less-orderly :
+      {left : ℕ} {c′ l′ : List ℕ} → left ≤ st .height → Kept (w .objects) c′ (st .objects) (st .cells) → LocalRoom l′ count → AllHeldCanon l′ count
+      → Orderly s ends count (words (w .objects) c′ l′ (w .operands) (w .blocks)) (atHeight st left)
+  less-orderly {left} l heap room canon =
       record {
         valued =
             record {
-              heap = values .heap;
-              localRoom = values .localRoom;
-              localCanon = values .localCanon;
+              heap = heap;
+              localRoom = room;
+              localCanon = canon;
               room = values .room;
               canon = all-less (values .canon) (omega (arith, l));
               high = omega (arith, values .high, l);
@@ -129,9 +104,11 @@ module _ {s ends : List ℕ} {count : ℕ} {w : Words} {st : Stage} {it : Move} 
   unfolding moved
   carry-astray e {w′} = record { is = λ p q. rw e (step-astray w′ is-stuck) }
 
-  pub carry-traps : {codes : List ℕ} {results : ℕ} → {number : ℕ} → it ≡ Move.the-variants.Traps number → {o′ c′ l′ p′ : List ℕ} → o′ ≡ w .objects → c′ ≡ w .cells → l′ ≡ w .locals → p′ ≡ w .operands → Carried s codes ends count w (words o′ c′ l′ p′ (w .blocks)) st results it (Stepped.the-variants.Traps number)
+  pub carry-traps :
+      {codes : List ℕ} {results : ℕ} {number : ℕ} → it ≡ Move.the-variants.Traps number → {o′ c′ l′ p′ : List ℕ} → o′ ≡ w .objects → c′ ≡ w .cells
+      → l′ ≡ w .locals → p′ ≡ w .operands → Carried s codes ends count w (words o′ c′ l′ p′ (w .blocks)) st results it (Stepped.the-variants.Traps number)
   unfolding moved outcomeAt
-  carry-traps {number} e {o′} {c′} {l′} {p′} a b c d =
+  carry-traps e a b c d =
       record {
         is = λ p q.
             rw e
@@ -150,14 +127,18 @@ module _ {s ends : List ℕ} {count : ℕ} {w : Words} {st : Stage} {it : Move} 
     unfolding Ready
     leaves-low = let t : Taking (machineAt s count w st) n = subst (Ready (machineAt s count w st)) e (may .ready) in omega (arith, t .low, high)
 
-    leaves : (codes : List ℕ) (p : Program) → StepIs s ends count w w (machineAt s count w st) (moved p codes (machineAt s count w st) (Move.the-variants.Leaves n)) (Stepped.the-variants.Goes (atHeight st (st .height - n)))
+    leaves :
+        (codes : List ℕ) (p : Program)
+        → StepIs s ends count w w (machineAt s count w st) (moved p codes (machineAt s count w st) (Move.the-variants.Leaves n)) (Stepped.the-variants.Goes (atHeight st (st .height - n)))
     unfolding moved machineAt
     leaves codes p =
         step-goes w (atHeight st (st .height - n))
         (ap (λ (vs : List Value). goes (withOperands (machineAt s count w st) vs)) (sym (drop-pile (w .operands) (st .base) (st .height) n leaves-low)))
-        (less-orderly (st .height - n) (omega arith))
+        (less-orderly (omega arith) (values .heap) (values .localRoom) (values .localCanon))
 
-    pub carry-leaves : {codes : List ℕ} {results : ℕ} → {later : Stage} → later ≡ atHeight st (st .height - n) → {o′ c′ l′ p′ : List ℕ} → o′ ≡ w .objects → c′ ≡ w .cells → l′ ≡ w .locals → p′ ≡ w .operands → Carried s codes ends count w (words o′ c′ l′ p′ (w .blocks)) st results it (Stepped.the-variants.Goes later)
+    pub carry-leaves :
+        {codes : List ℕ} {results : ℕ} {later : Stage} → later ≡ atHeight st (st .height - n) → {o′ c′ l′ p′ : List ℕ} → o′ ≡ w .objects → c′ ≡ w .cells
+        → l′ ≡ w .locals → p′ ≡ w .operands → Carried s codes ends count w (words o′ c′ l′ p′ (w .blocks)) st results it (Stepped.the-variants.Goes later)
     carry-leaves {codes} f a b c d = record { is = λ p q. rw (e, f, a, b, c, d) (leaves codes p) }
 
   -- so many operands lie in all frames where these lie in the innermost
@@ -175,7 +156,9 @@ module _ {s ends : List ℕ} {count : ℕ} {w : Words} {st : Stage} {it : Move} 
         let low : i < 2 * st .base = rw (frames .base) h in
         pushed .below i (omega arith))
 
-    pushed-valued : {o′ c′ : List ℕ} {n total : ℕ} → Kept o′ c′ n total → Canon k b → left ≤ st .height → st .base + left < 512 → Valued count (words o′ c′ (w .locals) p′ (w .blocks)) (record { place = st .place; objects = n; cells = total; base = st .base; height = left + 1; depth = st .depth })
+    pushed-valued :
+        {o′ c′ : List ℕ} {n total : ℕ} → Kept o′ c′ n total → Canon k b → left ≤ st .height → st .base + left < 512
+        → Valued count (words o′ c′ (w .locals) p′ (w .blocks)) (record { place = st .place; objects = n; cells = total; base = st .base; height = left + 1; depth = st .depth })
     pushed-valued kept canon l h =
         record {
           heap = kept;
@@ -203,11 +186,13 @@ module _ {s ends : List ℕ} {count : ℕ} {w : Words} {st : Stage} {it : Move} 
           let left : length (drop n (machineAt s count w st .operands)) ≡ st .height - n = length-drop n (machineAt s count w st .operands) ∙ ap (λ (h : ℕ). h - n) high in
           record { is = λ p q. rw e (step-astray w′ (too-high (omega (arith, all, left, many)))) }
 
-      pub gives-room : full ≡ false → Room (w .operands) (st .base) (st .height - n) 1
+      gives-room : full ≡ false → Room (w .operands) (st .base) (st .height - n) 1
       gives-room f = let h : st .base + (st .height - n) < 512 = leb-false 512 (st .base + (st .height - n)) (sym is ∙ f) in record { room = values .room; few = omega arith }
 
       module _ (f : full ≡ false) {p′ : List ℕ} (pushed : Pushed (w .operands) p′ (st .base) (st .height - n) k b) where
-        gives : (codes : List ℕ) (p : Program) → StepIs s ends count w (words (w .objects) (w .cells) (w .locals) p′ (w .blocks)) (machineAt s count w st) (moved p codes (machineAt s count w st) (Move.the-variants.Gives n k b)) (Stepped.the-variants.Goes (atHeight st (st .height - n + 1)))
+        gives :
+            (codes : List ℕ) (p : Program)
+            → StepIs s ends count w (words (w .objects) (w .cells) (w .locals) p′ (w .blocks)) (machineAt s count w st) (moved p codes (machineAt s count w st) (Move.the-variants.Gives n k b)) (Stepped.the-variants.Goes (atHeight st (st .height - n + 1)))
         unfolding moved machineAt
         gives codes p =
             step-goes (words (w .objects) (w .cells) (w .locals) p′ (w .blocks)) (atHeight st (st .height - n + 1))
@@ -216,7 +201,9 @@ module _ {s ends : List ℕ} {count : ℕ} {w : Words} {st : Stage} {it : Move} 
             (blocks-kept pushed))
             (record { valued = pushed-valued pushed (values .heap) (giving .canon) (omega arith) (leb-false 512 (st .base + (st .height - n)) (sym is ∙ f)); framed = framed-height (st .height - n + 1) frames })
 
-        pub carry-gives : {codes : List ℕ} {results : ℕ} → {later : Stage} → later ≡ atHeight st (st .height - n + 1) → {o′ c′ l′ : List ℕ} → o′ ≡ w .objects → c′ ≡ w .cells → l′ ≡ w .locals → Carried s codes ends count w (words o′ c′ l′ p′ (w .blocks)) st results it (Stepped.the-variants.Goes later)
+        pub carry-gives :
+            {codes : List ℕ} {results : ℕ} {later : Stage} → later ≡ atHeight st (st .height - n + 1) → {o′ c′ l′ : List ℕ} → o′ ≡ w .objects → c′ ≡ w .cells
+            → l′ ≡ w .locals → Carried s codes ends count w (words o′ c′ l′ p′ (w .blocks)) st results it (Stepped.the-variants.Goes later)
         carry-gives {codes} g a c d = record { is = λ p q. rw (e, g, a, c, d) (gives codes p) }
 
   module _ {n x k b : ℕ} (e : it ≡ Move.the-variants.SetsLocal n x k b) where
@@ -231,27 +218,22 @@ module _ {s ends : List ℕ} {count : ℕ} {w : Words} {st : Stage} {it : Move} 
     local-room = values .localRoom
 
     module _ {l′ : List ℕ} (put : LocalSet (w .locals) l′ count x k b) where
-      sets-local : (codes : List ℕ) (p : Program) → StepIs s ends count w (words (w .objects) (w .cells) l′ (w .operands) (w .blocks)) (machineAt s count w st) (moved p codes (machineAt s count w st) (Move.the-variants.SetsLocal n x k b)) (Stepped.the-variants.Goes (atHeight st (st .height - n)))
+      sets-local :
+          (codes : List ℕ) (p : Program)
+          → StepIs s ends count w (words (w .objects) (w .cells) l′ (w .operands) (w .blocks)) (machineAt s count w st) (moved p codes (machineAt s count w st) (Move.the-variants.SetsLocal n x k b)) (Stepped.the-variants.Goes (atHeight st (st .height - n)))
       unfolding moved machineAt
       sets-local codes p =
           step-goes (words (w .objects) (w .cells) l′ (w .operands) (w .blocks)) (atHeight st (st .height - n))
           (ap₂ (λ (ls : List (Option Value)) (vs : List Value). goes (withOperands (withLocals (machineAt s count w st) ls) vs))
           (put .is (setting-local .canon))
           (sym (drop-pile (w .operands) (st .base) (st .height) n sets-local-low)))
-          (record {
-            valued =
-                record {
-                  heap = values .heap;
-                  localRoom = record { room = omega (arith, values .localRoom .room, put .size); few = values .localRoom .few };
-                  localCanon = put .canon (setting-local .canon) (values .localCanon);
-                  room = values .room;
-                  canon = all-less (values .canon) (omega arith);
-                  high = omega (arith, values .high);
-                };
-            framed = framed-height (st .height - n) frames;
-          })
+          (less-orderly (omega arith) (values .heap)
+          (record { room = omega (arith, values .localRoom .room, put .size); few = values .localRoom .few })
+          (put .canon (setting-local .canon) (values .localCanon)))
 
-      pub carry-sets-local : {codes : List ℕ} {results : ℕ} → {later : Stage} → later ≡ atHeight st (st .height - n) → {o′ c′ p′ : List ℕ} → o′ ≡ w .objects → c′ ≡ w .cells → p′ ≡ w .operands → Carried s codes ends count w (words o′ c′ l′ p′ (w .blocks)) st results it (Stepped.the-variants.Goes later)
+      pub carry-sets-local :
+          {codes : List ℕ} {results : ℕ} {later : Stage} → later ≡ atHeight st (st .height - n) → {o′ c′ p′ : List ℕ} → o′ ≡ w .objects → c′ ≡ w .cells
+          → p′ ≡ w .operands → Carried s codes ends count w (words o′ c′ l′ p′ (w .blocks)) st results it (Stepped.the-variants.Goes later)
       carry-sets-local {codes} g a c d = record { is = λ p q. rw (e, g, a, c, d) (sets-local codes p) }
 
   module _ {n o i k b : ℕ} (e : it ≡ Move.the-variants.SetsField n o i k b) where
@@ -265,12 +247,14 @@ module _ {s ends : List ℕ} {count : ℕ} {w : Words} {st : Stage} {it : Move} 
     module _ {c′ : List ℕ} (put : FieldSet (w .objects) (w .cells) c′ o i k b) where
       field-there : (o < st .objects) × (setting-field .it ≡ objectAt (w .objects) (w .cells) o)
       unfolding machineAt
-      field-there = object-there (w .objects) (w .cells) (st .objects) o (setting-field .there)
+      field-there = store-found (w .objects) (w .cells) (st .objects) o (setting-field .there)
 
       field-inside : i < length (objectAt (w .objects) (w .cells) o .fields)
       field-inside = let same : setting-field .it ≡ objectAt (w .objects) (w .cells) o = field-there .1 in rw (← same) (setting-field .field)
 
-      sets-field : (codes : List ℕ) (p : Program) → StepIs s ends count w (words (w .objects) c′ (w .locals) (w .operands) (w .blocks)) (machineAt s count w st) (moved p codes (machineAt s count w st) (Move.the-variants.SetsField n o i k b)) (Stepped.the-variants.Goes (atHeight st (st .height - n)))
+      sets-field :
+          (codes : List ℕ) (p : Program)
+          → StepIs s ends count w (words (w .objects) c′ (w .locals) (w .operands) (w .blocks)) (machineAt s count w st) (moved p codes (machineAt s count w st) (Move.the-variants.SetsField n o i k b)) (Stepped.the-variants.Goes (atHeight st (st .height - n)))
       unfolding moved machineAt
       sets-field codes p =
           step-goes (words (w .objects) c′ (w .locals) (w .operands) (w .blocks)) (atHeight st (st .height - n))
@@ -278,27 +262,21 @@ module _ {s ends : List ℕ} {count : ℕ} {w : Words} {st : Stage} {it : Move} 
           (put .store (st .objects) (st .cells) (values .heap) (field-there .0) field-inside)
           (sym (drop-pile (w .operands) (st .base) (st .height) n sets-field-low))
           ∙ sym (ap (λ (found : Option Object). given found stuck (λ it′. goes (withOperands (withHeap (machineAt s count w st) (set (storeAt (w .objects) (w .cells) (st .objects)) o (withField it′ i (valueAt k b)))) (drop n (pile (w .operands) (st .base) (st .height)))))) (store-there (w .objects) (w .cells) (st .objects) o (field-there .0))))
-          (record {
-            valued =
-                record {
-                  heap = put .kept (st .objects) (st .cells) (values .heap) (field-there .0) field-inside (setting-field .canon);
-                  localRoom = values .localRoom;
-                  localCanon = values .localCanon;
-                  room = values .room;
-                  canon = all-less (values .canon) (omega arith);
-                  high = omega (arith, values .high);
-                };
-            framed = framed-height (st .height - n) frames;
-          })
+          (less-orderly (omega arith)
+          (put .kept (st .objects) (st .cells) (values .heap) (field-there .0) field-inside (setting-field .canon))
+          (values .localRoom)
+          (values .localCanon))
 
-      pub carry-sets-field : {codes : List ℕ} {results : ℕ} → {later : Stage} → later ≡ atHeight st (st .height - n) → {o′ l′ p′ : List ℕ} → o′ ≡ w .objects → l′ ≡ w .locals → p′ ≡ w .operands → Carried s codes ends count w (words o′ c′ l′ p′ (w .blocks)) st results it (Stepped.the-variants.Goes later)
+      pub carry-sets-field :
+          {codes : List ℕ} {results : ℕ} {later : Stage} → later ≡ atHeight st (st .height - n) → {o′ l′ p′ : List ℕ} → o′ ≡ w .objects → l′ ≡ w .locals
+          → p′ ≡ w .operands → Carried s codes ends count w (words o′ c′ l′ p′ (w .blocks)) st results it (Stepped.the-variants.Goes later)
       carry-sets-field {codes} g a c d = record { is = λ p q. rw (e, g, a, c, d) (sets-field codes p) }
 
   -- objects
 
   heap-length : length (machineAt s count w st .heap) ≡ st .objects
   unfolding machineAt
-  heap-length = numbered-length (objectAt (w .objects) (w .cells)) 0 (st .objects)
+  heap-length = store-length (w .objects) (w .cells) (st .objects)
 
   room-objects : (k : ℕ) → hasRoom (machineAt s count w st .heap) k ≡ true → st .objects < 1_024
   room-objects k e =
@@ -339,13 +317,15 @@ module _ {s ends : List ℕ} {count : ℕ} {w : Words} {st : Stage} {it : Move} 
             framed = record { short = frames .short; room = frames .room; deep = frames .deep; base = frames .base; charted = frames .charted; nested = frames .nested };
           }
 
-    made-step : {o′ c′ p′ : List ℕ} (r : Stepped) → MadeIs (w .objects) o′ (w .cells) c′ (w .operands) p′ st left x d k fields r → StepIs s ends count w (words o′ c′ (w .locals) p′ (w .blocks)) (machineAt s count w st) (goes (withObject (machineAt s count w st) x (linkAt d) fields (pile (w .operands) (st .base) left))) r
+    made-step :
+        {o′ c′ p′ : List ℕ} (r : Stepped) → MadeIs (w .objects) o′ (w .cells) c′ (w .operands) p′ st left x d k fields r
+        → StepIs s ends count w (words o′ c′ (w .locals) p′ (w .blocks)) (machineAt s count w st) (goes (withObject (machineAt s count w st) x (linkAt d) fields (pile (w .operands) (st .base) left))) r
     made-step Stepped.the-variants.Astray a =
         let all = all-high (object (length (machineAt s count w st .heap)) ∷ pile (w .operands) (st .base) left) in
         let many : 512 ≤ st .base + left = a .astray refl in
         step-astray _ (too-high (omega (arith, all, pile-length (w .operands) (st .base) left, many)))
     made-step (Stepped.the-variants.Goes later) a =
-        let n : Stepped.the-variants.Goes later ≡ Stepped.the-variants.Astray → ⊥ = goes-not-astray in
+        let n : Stepped.the-variants.Goes later ≡ Stepped.the-variants.Astray → ⊥ = not-astray in
         let same : later ≡ madeStage st left k = goes-stage (a .stage n) in
         rw same (step-goes _ (madeStage st left k) (made-machine (a .made n) (a .canon n)) (made-orderly (a .made n) (a .canon n)))
     made-step (Stepped.the-variants.Ends later) a = absurd (let f = a .stage (λ z. let y : _≡_ {A = ℕ} 0 1 = cc in omega arith) in let y : _≡_ {A = ℕ} 0 1 = cc in omega arith)
@@ -362,14 +342,16 @@ module _ {s ends : List ℕ} {count : ℕ} {w : Words} {st : Stage} {it : Move} 
     pub makes-low : k ≤ st .height - n
     makes-low = omega (arith, making .low, high)
 
-    pub may-make : MakableGiven (w .objects) (w .cells) (w .operands) st (st .height - n - k) k
+    may-make : MakableGiven (w .objects) (w .cells) (w .operands) st (st .height - n - k) k
     may-make =
         record {
           makable = makable (st .height - n - k) k (omega arith) making;
           above = all-less (values .canon) (omega (arith, making .low, high));
         }
 
-    makes-means : (codes : List ℕ) (p : Program) → moved p codes (machineAt s count w st) (Move.the-variants.Makes n x d k) ≡ goes (withObject (machineAt s count w st) x (linkAt d) (valuesFrom (w .operands) (st .base + (st .height - n - k)) k) (pile (w .operands) (st .base) (st .height - n - k)))
+    makes-means :
+        (codes : List ℕ) (p : Program)
+        → moved p codes (machineAt s count w st) (Move.the-variants.Makes n x d k) ≡ goes (withObject (machineAt s count w st) x (linkAt d) (valuesFrom (w .operands) (st .base + (st .height - n - k)) k) (pile (w .operands) (st .base) (st .height - n - k)))
     unfolding moved machineAt
     makes-means codes p =
         let whole : st .height ≡ st .height - n - k + k + n = omega (arith, making .low, high) in
@@ -378,7 +360,10 @@ module _ {s ends : List ℕ} {count : ℕ} {w : Words} {st : Stage} {it : Move} 
         let below = drop-pile (w .operands) (st .base) (st .height) (n + k) (omega (arith, making .low, high)) ∙ ap (pile (w .operands) (st .base)) less in
         ap₂ (λ (fs : List Value) (vs : List Value). goes (withObject (machineAt s count w st) x (linkAt d) fs vs)) fields below
 
-    pub carry-makes : {codes : List ℕ} {results : ℕ} → {o′ c′ p′ : List ℕ} {r : Stepped} → MadeIs (w .objects) o′ (w .cells) c′ (w .operands) p′ st (st .height - n - k) x d k (valuesFrom (w .operands) (st .base + (st .height - n - k)) k) r → {l′ : List ℕ} → l′ ≡ w .locals → Carried s codes ends count w (words o′ c′ l′ p′ (w .blocks)) st results it r
+    pub carry-makes :
+        {codes : List ℕ} {results : ℕ} {o′ c′ p′ : List ℕ} {r : Stepped}
+        → MadeIs (w .objects) o′ (w .cells) c′ (w .operands) p′ st (st .height - n - k) x d k (valuesFrom (w .operands) (st .base + (st .height - n - k)) k) r
+        → {l′ : List ℕ} → l′ ≡ w .locals → Carried s codes ends count w (words o′ c′ l′ p′ (w .blocks)) st results it r
     carry-makes {codes} {r = r} a g =
         record { is = λ p q. rw (e, g, makes-means codes p) (made-step _ (omega arith) (may-make .makable) r a) }
 
@@ -390,21 +375,28 @@ module _ {s ends : List ℕ} {count : ℕ} {w : Words} {st : Stage} {it : Move} 
     pub default-low : n ≤ st .height
     default-low = omega (arith, making-default .low, high)
 
-    pub may-make-default : Makable (w .objects) (w .cells) (w .operands) st (st .height - n) k
+    may-make-default : Makable (w .objects) (w .cells) (w .operands) st (st .height - n) k
     may-make-default = makable (st .height - n) k (omega arith) making-default
 
-    default-means : (codes : List ℕ) (p : Program) → moved p codes (machineAt s count w st) (Move.the-variants.MakesDefault n x d first k) ≡ goes (withObject (machineAt s count w st) x (linkAt d) (defaultsAt codes first k) (pile (w .operands) (st .base) (st .height - n)))
+    default-means :
+        (codes : List ℕ) (p : Program)
+        → moved p codes (machineAt s count w st) (Move.the-variants.MakesDefault n x d first k) ≡ goes (withObject (machineAt s count w st) x (linkAt d) (defaultsAt codes first k) (pile (w .operands) (st .base) (st .height - n)))
     unfolding moved machineAt
     default-means codes p =
         ap (λ (vs : List Value). goes (withObject (machineAt s count w st) x (linkAt d) (defaultsAt codes first k) vs)) (drop-pile (w .operands) (st .base) (st .height) n default-low)
 
-    pub carry-default : {codes : List ℕ} {results : ℕ} → {o′ c′ p′ : List ℕ} {r : Stepped} → MadeIs (w .objects) o′ (w .cells) c′ (w .operands) p′ st (st .height - n) x d k (defaultsAt codes first k) r → {l′ : List ℕ} → l′ ≡ w .locals → Carried s codes ends count w (words o′ c′ l′ p′ (w .blocks)) st results it r
+    pub carry-default :
+        {codes : List ℕ} {results : ℕ} {o′ c′ p′ : List ℕ} {r : Stepped}
+        → MadeIs (w .objects) o′ (w .cells) c′ (w .operands) p′ st (st .height - n) x d k (defaultsAt codes first k) r → {l′ : List ℕ} → l′ ≡ w .locals
+        → Carried s codes ends count w (words o′ c′ l′ p′ (w .blocks)) st results it r
     carry-default {codes} {r = r} a g = record { is = λ p q. rw (e, g, default-means codes p) (made-step _ (omega arith) may-make-default r a) }
 
 -- what the calls require, by the slices that they are lent
 
 module _ {s ends : List ℕ} {count : ℕ} {o c l p b : List ℕ} {st : Stage} {it : Move} (may : Movable s ends count (words o c l p b) st it) where
-  pub push-room : {n kind bits : ℕ} → it ≡ Move.the-variants.Gives n kind bits → {full : Bool} → full ≡ leb 512 (st .base + (st .height - n)) → full ≡ false → Room p (st .base) (st .height - n) 1
+  pub push-room :
+      {n kind bits : ℕ} → it ≡ Move.the-variants.Gives n kind bits → {full : Bool} → full ≡ leb 512 (st .base + (st .height - n)) → full ≡ false
+      → Room p (st .base) (st .height - n) 1
   push-room e is f = gives-room may e is f
 
   pub given-makable : {n x d k : ℕ} → it ≡ Move.the-variants.Makes n x d k → MakableGiven o c p st (st .height - n - k) k

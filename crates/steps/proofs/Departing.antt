@@ -7,25 +7,20 @@ use lib.ListN.{length}
 use Rattle.scope.specs.Machine.{Program, branch}
 use Rattle.cells.proofs.Laws.{all-less}
 use Rattle.pile.specs.Pile.{pile}
-use Rattle.pile.proofs.Laws.{pile-length}
+use Rattle.pile.proofs.Laws.{pile-length, drop-pile}
 use Rattle.stage.specs.declared.Stage.{Stage}
 use Rattle.stage.specs.declared.Move.{Move}
 use Rattle.stage.specs.declared.Move
 use Rattle.stage.specs.declared.Stepped.{Stepped}
 use Rattle.stage.specs.Machines.{Words, words, machineAt, atHeight, Valued}
 use Rattle.stage.specs.Moved.{moved, Taking, Ready}
-use Rattle.stage.specs.Controlled.{Controls, Piled}
+use Rattle.stage.specs.Controlled.{Piled}
 use Rattle.control.specs.Control.{Finishes, Branchable, Branches}
 use Rattle.steps.specs.Carried.{Movable, Carried}
-use Rattle.steps.proofs.Carrying.{drop-pile}
-use Rattle.steps.proofs.Controlling.{controlled-step}
+use Rattle.steps.proofs.Controlling.{machine-controls, controlled-step}
 
 piled-less : {count : ℕ} {w : Words} {st : Stage} {left : ℕ} → Valued count w st → left ≤ st .height → Piled (w .operands) (atHeight st left)
 piled-less values l = record { room = values .room; canon = all-less (values .canon) (omega (arith, l)); high = omega (arith, values .high, l) }
-
-machine-controls : (s : List ℕ) (count : ℕ) (w : Words) (st : Stage) → Controls s (w .operands) (w .blocks) st (machineAt s count w st)
-unfolding machineAt
-machine-controls s count w st = record { values = refl; opened = refl; code = refl }
 
 module _ {s ends : List ℕ} {count : ℕ} {w : Words} {st : Stage} {it : Move} (may : Movable s ends count w st it) where
   module _ {n l : ℕ} (e : it ≡ Move.the-variants.Branches n l) where
@@ -38,11 +33,15 @@ module _ {s ends : List ℕ} {count : ℕ} {w : Words} {st : Stage} {it : Move} 
     may-branch : Branchable s ends (w .operands) (w .blocks) st (st .height - n)
     may-branch = record { framed = may .orderly .framed; piled = piled-less (may .orderly .valued) (omega arith) }
 
-    branch-means : (codes : List ℕ) (p : Program) → moved p codes (machineAt s count w st) (Move.the-variants.Branches n l) ≡ branch p (machineAt s count w st) l (pile (w .operands) (st .base) (st .height - n))
+    branch-means :
+        (codes : List ℕ) (p : Program)
+        → moved p codes (machineAt s count w st) (Move.the-variants.Branches n l) ≡ branch p (machineAt s count w st) l (pile (w .operands) (st .base) (st .height - n))
     unfolding moved machineAt
     branch-means codes p = ap (branch p (machineAt s count w st) l) (drop-pile (w .operands) (st .base) (st .height) n branches-low)
 
-    pub carry-branches : {codes : List ℕ} {results : ℕ} {p′ : List ℕ} {r : Stepped} → Branches s ends (w .operands) p′ (w .blocks) st (st .height - n) l results r → {o′ c′ l′ : List ℕ} → o′ ≡ w .objects → c′ ≡ w .cells → l′ ≡ w .locals → Carried s codes ends count w (words o′ c′ l′ p′ (w .blocks)) st results it r
+    pub carry-branches :
+        {codes : List ℕ} {results : ℕ} {p′ : List ℕ} {r : Stepped} → Branches s ends (w .operands) p′ (w .blocks) st (st .height - n) l results r
+        → {o′ c′ l′ : List ℕ} → o′ ≡ w .objects → c′ ≡ w .cells → l′ ≡ w .locals → Carried s codes ends count w (words o′ c′ l′ p′ (w .blocks)) st results it r
     carry-branches {codes} {p′ = p′} {r = r} a f g h =
         record {
           is = λ p q.
@@ -54,7 +53,9 @@ module _ {s ends : List ℕ} {count : ℕ} {w : Words} {st : Stage} {it : Move} 
     returns-piled : Piled (w .operands) (atHeight st (st .height))
     returns-piled = piled-less (may .orderly .valued) (omega arith)
 
-    pub carry-returns : {codes : List ℕ} {results : ℕ} {p′ : List ℕ} {r : Stepped} → Finishes (w .operands) p′ st (st .height) results (length s) r → {o′ c′ l′ : List ℕ} → o′ ≡ w .objects → c′ ≡ w .cells → l′ ≡ w .locals → Carried s codes ends count w (words o′ c′ l′ p′ (w .blocks)) st results it r
+    pub carry-returns :
+        {codes : List ℕ} {results : ℕ} {p′ : List ℕ} {r : Stepped} → Finishes (w .operands) p′ st (st .height) results (length s) r → {o′ c′ l′ : List ℕ}
+        → o′ ≡ w .objects → c′ ≡ w .cells → l′ ≡ w .locals → Carried s codes ends count w (words o′ c′ l′ p′ (w .blocks)) st results it r
     unfolding moved machineAt
     carry-returns {p′ = p′} {r = r} a f g h =
         record {

@@ -30,10 +30,12 @@ module _ {objects operands : List ℕ} {st : Stage} {left k : ℕ} (room : PutRo
   pub count-fits : k < 2 ^ 16
   count-fits = omega (arith, room .most)
 
-  pub put-made : {objects′ operands′ : List ℕ} {x d : ℕ} → objects′ ≡ withRow objects (st .objects) x d (st .cells) k → Pushed operands operands′ (st .base) left 6 (st .objects) → PutMade objects objects′ operands operands′ st left x d k (madeStage st left k)
+  pub put-made :
+      {objects′ operands′ : List ℕ} {x d : ℕ} → objects′ ≡ withRow objects (st .objects) x d (st .cells) k
+      → Pushed operands operands′ (st .base) left 6 (st .objects) → PutMade objects objects′ operands operands′ st left x d k (madeStage st left k)
   put-made e pushed = record { later = refl; row = row-put e (omega (arith, room .few, room .objectRoom)); pushed = pushed }
 
-not-astray : {later : Stage} {A : Type 0} → Stepped.the-variants.Goes later ≡ Stepped.the-variants.Astray → A
+pub not-astray : {later : Stage} {A : Type 0} → Stepped.the-variants.Goes later ≡ Stepped.the-variants.Astray → A
 not-astray e = absurd (let z : _≡_ {A = ℕ} 0 1 = cc in omega arith)
 
 module _ {objects cells operands : List ℕ} {st : Stage} {left k : ℕ} (may : Makable objects cells operands st left k) where
@@ -41,7 +43,9 @@ module _ {objects cells operands : List ℕ} {st : Stage} {left k : ℕ} (may : 
   cell-room = record { room = may .kept .cellRoom; few = may .most }
 
   module _ {full : Bool} (is : full ≡ leb 512 (st .base + left)) where
-    pub make-full : full ≡ true → (objects′ cells′ operands′ : List ℕ) (x d : ℕ) (fields : List Value) → MadeIs objects objects′ cells cells′ operands operands′ st left x d k fields Stepped.the-variants.Astray
+    pub make-full :
+        full ≡ true → (objects′ cells′ operands′ : List ℕ) (x d : ℕ) (fields : List Value)
+        → MadeIs objects objects′ cells cells′ operands operands′ st left x d k fields Stepped.the-variants.Astray
     make-full e objects′ cells′ operands′ x d fields =
         record {
           stage = λ n. absurd (n refl);
@@ -58,7 +62,9 @@ module _ {objects cells operands : List ℕ} {st : Stage} {left k : ℕ} (may : 
       put-room f g = record { objectRoom = omega (arith, may .kept .objectRoom, f); operandRoom = omega (arith, may .room, g); few = may .few; most = may .most; low = low }
 
       module _ {objects′ cells′ operands′ : List ℕ} {x d : ℕ} {later : Stage} (put : PutMade objects objects′ operands operands′ st left x d k later) where
-        made-of : {fields : List Value} → Filled cells cells′ (st .cells) k fields → AllCanon cells′ (st .cells + k) → MadeIs objects objects′ cells cells′ operands operands′ st left x d k fields (Stepped.the-variants.Goes later)
+        made-of :
+            {fields : List Value} → Filled cells cells′ (st .cells) k fields → AllCanon cells′ (st .cells + k)
+            → MadeIs objects objects′ cells cells′ operands operands′ st left x d k fields (Stepped.the-variants.Goes later)
         made-of filled canon =
             record {
               stage = λ n. ap Stepped.the-variants.Goes (put .later);
@@ -67,7 +73,9 @@ module _ {objects cells operands : List ℕ} {st : Stage} {left k : ℕ} (may : 
               astray = not-astray;
             }
 
-        pub made-default : {codes : List ℕ} {first : ℕ} → CellsDefault codes cells cells′ first k (st .cells) → MadeIs objects objects′ cells cells′ operands operands′ st left x d k (defaultsAt codes first k) (Stepped.the-variants.Goes later)
+        pub made-default :
+            {codes : List ℕ} {first : ℕ} → CellsDefault codes cells cells′ first k (st .cells)
+            → MadeIs objects objects′ cells cells′ operands operands′ st left x d k (defaultsAt codes first k) (Stepped.the-variants.Goes later)
         made-default default = made-of (default .filled) (default .canon (may .kept .canon))
 
 module _ {objects cells operands : List ℕ} {st : Stage} {left k : ℕ} (may : MakableGiven objects cells operands st left k) where
@@ -78,13 +86,18 @@ module _ {objects cells operands : List ℕ} {st : Stage} {left k : ℕ} (may : 
   given-fits = omega (arith, may .makable .high)
 
   module _ {full : Bool} (is : full ≡ leb 512 (st .base + left)) where
-    pub given-full : full ≡ true → (objects′ cells′ operands′ : List ℕ) (x d : ℕ) (fields : List Value) → MadeIs objects objects′ cells cells′ operands operands′ st left x d k fields Stepped.the-variants.Astray
+    pub given-full :
+        full ≡ true → (objects′ cells′ operands′ : List ℕ) (x d : ℕ) (fields : List Value)
+        → MadeIs objects objects′ cells cells′ operands operands′ st left x d k fields Stepped.the-variants.Astray
     given-full e = make-full (may .makable) is e
 
     pub given-put : full ≡ false → {objects₁ operands₁ : List ℕ} → length objects₁ ≡ length objects → length operands₁ ≡ length operands → PutRoom objects₁ operands₁ st left k
     given-put e = put-room (may .makable) is e
 
-    pub made-given : full ≡ false → {objects′ cells′ operands′ : List ℕ} {x d : ℕ} {later : Stage} → PutMade objects objects′ operands operands′ st left x d k later → CellsCopied operands cells cells′ (st .base + left) (st .cells) k → MadeIs objects objects′ cells cells′ operands operands′ st left x d k (valuesFrom operands (st .base + left) k) (Stepped.the-variants.Goes later)
+    pub made-given :
+        full ≡ false → {objects′ cells′ operands′ : List ℕ} {x d : ℕ} {later : Stage} → PutMade objects objects′ operands operands′ st left x d k later
+        → CellsCopied operands cells cells′ (st .base + left) (st .cells) k
+        → MadeIs objects objects′ cells cells′ operands operands′ st left x d k (valuesFrom operands (st .base + left) k) (Stepped.the-variants.Goes later)
     made-given e put copied =
         let same : st .base + (left + k) ≡ st .base + left + k = omega arith in
         made-of (may .makable) is e put (copied .filled) (copied .canon (rw same at (may .above)) (may .makable .kept .canon))

@@ -28,14 +28,14 @@ use Rattle.stage.specs.declared.Stepped
 use Rattle.stage.specs.Machines.{Words, words, lower, machineAt, programAt, atPlace, Nested, Framed, Orderly}
 use Rattle.stage.specs.Moved.{moved, Astray, MoveIs, outcomeAt, StepIs}
 use Rattle.stage.specs.Planned.{Holds}
-use Rattle.stage.specs.Controlled.{Controls, Piled, ControlIs}
+use Rattle.stage.specs.Controlled.{Piled, ControlIs}
 use Rattle.stage.proofs.Open.{innermost, lower-more, framed-op}
 use Rattle.control.specs.Control.{Low, OpensAs, as-block, as-loop, Opens, Closable, Closes}
 use Rattle.decoded.specs.Named.{Modest}
 use Rattle.moves.specs.Moving.{MoveOf}
 use Rattle.decoded.proofs.Naming.{modest}
 use Rattle.steps.specs.Carried.{Movable, Carried, Inside, InsideIs, Steppable, StepOf}
-use Rattle.steps.proofs.Controlling.{astray-here, controlled-step}
+use Rattle.steps.proofs.Controlling.{astray-here, machine-controls, controlled-step}
 
 -- a move that is what the instruction comes to, carried out
 
@@ -59,7 +59,8 @@ not-stuck s count w (Stepped.the-variants.Ends st) n e = let z : _≡_ {A = ℕ}
 not-stuck s count w (Stepped.the-variants.Traps number) n e = let z : _≡_ {A = ℕ} 0 1 = cc in omega arith
 not-stuck s count w Stepped.the-variants.Astray n e = n refl
 
-module _ {s ends codes : List ℕ} {count : ℕ} {w w′ : Words} {p : Program} {m : Machine} {want : Outcome} {it : Move} {r : Stepped} (move : MoveIs p codes m want it) (done : StepIs s ends count w w′ m (moved p codes m it) r) where
+module _ {s ends codes : List ℕ} {count : ℕ} {w w′ : Words} {p : Program} {m : Machine} {want : Outcome} {it : Move} {r : Stepped}
+    (move : MoveIs p codes m want it) (done : StepIs s ends count w w′ m (moved p codes m it) r) where
   moves-so : (r ≡ Stepped.the-variants.Astray → ⊥) → it ≡ Move.the-variants.Astray → ⊥
   unfolding moved
   moves-so n e = not-stuck s count w′ r n (done .is n ∙ ap (moved p codes m) e)
@@ -81,7 +82,9 @@ module _ {s ends codes : List ℕ} {count : ℕ} {w w′ : Words} {p : Program} 
 
 -- inside a block
 
-holds-here : (s : List ℕ) {ends : List ℕ} {count : ℕ} {w : Words} {st : Stage} → Orderly s ends count w st → Holds (machineAt s count w st) (w .objects) (w .cells) (w .locals) (w .operands) count st
+holds-here :
+    (s : List ℕ) {ends : List ℕ} {count : ℕ} {w : Words} {st : Stage} → Orderly s ends count w st
+    → Holds (machineAt s count w st) (w .objects) (w .cells) (w .locals) (w .operands) count st
 unfolding machineAt
 holds-here s o = record { heap = refl; values = refl; held = refl; kept = o .valued .heap; localCanon = o .valued .localCanon; canon = o .valued .canon }
 
@@ -96,7 +99,9 @@ module _ {s ends rows codes : List ℕ} {count : ℕ} {o c l p b : List ℕ} {st
         ready = move .is (programAt rows codes 0) (machineAt s count (words o c l p b) st) (may .what) refl (holds-here s (may .orderly)) (may .is) .ready;
       }
 
-  pub inside-carried : Inside s ends count (words o c l p b) st i → {w′ : Words} {results : ℕ} {r : Stepped} → Carried s codes ends count (words o c l p b) w′ st results it r → InsideIs s rows codes ends count (words o c l p b) w′ st results i r
+  pub inside-carried :
+      Inside s ends count (words o c l p b) st i → {w′ : Words} {results : ℕ} {r : Stepped} → Carried s codes ends count (words o c l p b) w′ st results it r
+      → InsideIs s rows codes ends count (words o c l p b) w′ st results i r
   inside-carried may carried =
       record { is = λ q x types results e. moved-step (move .is q (machineAt s count (words o c l p b) st) x types (holds-here s (may .orderly)) e) (carried .is q results) }
 
@@ -104,13 +109,11 @@ pub ruleset inside-exits = (inside-modest, inside-movable, inside-carried)
 
 -- steps
 
-step-here : (s : List ℕ) (count : ℕ) (w : Words) (st : Stage) {instr : Instr} {next : ℕ} (p : Program) → instrAt s (st .place) ≡ got instr next → step p (machineAt s count w st) ≡ doInstr p (machineAt s count w (atPlace st next)) (st .place) instr
+step-here :
+    (s : List ℕ) (count : ℕ) (w : Words) (st : Stage) {instr : Instr} {next : ℕ} (p : Program) → instrAt s (st .place) ≡ got instr next
+    → step p (machineAt s count w st) ≡ doInstr p (machineAt s count w (atPlace st next)) (st .place) instr
 unfolding step machineAt
 step-here s count w st p e = ap (stepOn p (machineAt s count w st)) (code-here s (st .place) e)
-
-controls-past : (s : List ℕ) (count : ℕ) (w : Words) (st : Stage) (next : ℕ) → Controls s (w .operands) (w .blocks) (atPlace st next) (machineAt s count w (atPlace st next))
-unfolding machineAt
-controls-past s count w st next = record { values = refl; opened = refl; code = refl }
 
 inside-op : (instr : Instr) → Kind.the-variants.Inside ≡ kindOf instr → (o : Op) × (instr ≡ op o)
 inside-op (block rs) e = absurd (let z : _≡_ {A = ℕ} 0 1 = cc in omega arith)
@@ -137,23 +140,38 @@ module _ {s ends : List ℕ} {count : ℕ} {o c l p b : List ℕ} {st : Stage} {
   frame-closable = record { piled = piled; low = frame-below (may .orderly .framed) }
 
   -- what opens, closes or leaves a block is the step of the instruction that was read
-  stepped : {p′ b′ : List ℕ} (q : Program) (r : Stepped) → ControlIs s ends p′ b′ st (machineAt s count (words o c l p b) (atPlace st next)) (doInstr q (machineAt s count (words o c l p b) (atPlace st next)) (st .place) (may .here .instr)) r → StepIs s ends count (words o c l p b) (words o c l p′ b′) (machineAt s count (words o c l p b) st) (step q (machineAt s count (words o c l p b) st)) r
+  stepped :
+      {p′ b′ : List ℕ} (q : Program) (r : Stepped)
+      → ControlIs s ends p′ b′ st (machineAt s count (words o c l p b) (atPlace st next)) (doInstr q (machineAt s count (words o c l p b) (atPlace st next)) (st .place) (may .here .instr)) r
+      → StepIs s ends count (words o c l p b) (words o c l p′ b′) (machineAt s count (words o c l p b) st) (step q (machineAt s count (words o c l p b) st)) r
   stepped {p′} {b′} q r a = rw (step-here s count (words o c l p b) st q (may .here .read)) (controlled-step s ends count (words o c l p b) st next p′ b′ (may .orderly .valued) r a)
 
-  opened : {kind : ℕ} {b′ : List ℕ} {r : Stepped} → OpensAs kind (may .here .instr) → Opens b b′ st next kind r → {rows codes : List ℕ} {results : ℕ} {o′ c′ l′ p′ : List ℕ} → o′ ≡ o → c′ ≡ c → l′ ≡ l → p′ ≡ p → StepOf s rows codes ends count (words o c l p b) (words o′ c′ l′ p′ b′) st results r
+  opened :
+      {kind : ℕ} {b′ : List ℕ} {r : Stepped} → OpensAs kind (may .here .instr) → Opens b b′ st next kind r
+      → {rows codes : List ℕ} {results : ℕ} {o′ c′ l′ p′ : List ℕ} → o′ ≡ o → c′ ≡ c → l′ ≡ l → p′ ≡ p
+      → StepOf s rows codes ends count (words o c l p b) (words o′ c′ l′ p′ b′) st results r
   opened {r = r} kinds a {rows} {codes} {results} f g h k =
       rw (f, g, h, k)
-      (record { is = stepped (programAt rows codes results) r (a .is s ends p (may .here .instr) (programAt rows codes results) (machineAt s count (words o c l p b) (atPlace st next)) (may .orderly .framed) piled (may .here .read) kinds (controls-past s count (words o c l p b) st next)) })
+      (record { is = stepped (programAt rows codes results) r (a .is s ends p (may .here .instr) (programAt rows codes results) (machineAt s count (words o c l p b) (atPlace st next)) (may .orderly .framed) piled (may .here .read) kinds (machine-controls s count (words o c l p b) (atPlace st next))) })
 
-  pub step-block : {x : ℕ} → i ≡ Instruction.the-variants.Block x → {b′ : List ℕ} {r : Stepped} → Opens b b′ st next 1 r → {rows codes : List ℕ} {results : ℕ} {o′ c′ l′ p′ : List ℕ} → o′ ≡ o → c′ ≡ c → l′ ≡ l → p′ ≡ p → StepOf s rows codes ends count (words o c l p b) (words o′ c′ l′ p′ b′) st results r
+  pub step-block :
+      {x : ℕ} → i ≡ Instruction.the-variants.Block x → {b′ : List ℕ} {r : Stepped} → Opens b b′ st next 1 r
+      → {rows codes : List ℕ} {results : ℕ} {o′ c′ l′ p′ : List ℕ} → o′ ≡ o → c′ ≡ c → l′ ≡ l → p′ ≡ p
+      → StepOf s rows codes ends count (words o c l p b) (words o′ c′ l′ p′ b′) st results r
   unfolding instrOf
   step-block {x} e = opened (subst (OpensAs 1) (sym (ap instrOf e) ∙ may .here .back) as-block)
 
-  pub step-loop : {x : ℕ} → i ≡ Instruction.the-variants.Loop x → {b′ : List ℕ} {r : Stepped} → Opens b b′ st next 2 r → {rows codes : List ℕ} {results : ℕ} {o′ c′ l′ p′ : List ℕ} → o′ ≡ o → c′ ≡ c → l′ ≡ l → p′ ≡ p → StepOf s rows codes ends count (words o c l p b) (words o′ c′ l′ p′ b′) st results r
+  pub step-loop :
+      {x : ℕ} → i ≡ Instruction.the-variants.Loop x → {b′ : List ℕ} {r : Stepped} → Opens b b′ st next 2 r
+      → {rows codes : List ℕ} {results : ℕ} {o′ c′ l′ p′ : List ℕ} → o′ ≡ o → c′ ≡ c → l′ ≡ l → p′ ≡ p
+      → StepOf s rows codes ends count (words o c l p b) (words o′ c′ l′ p′ b′) st results r
   unfolding instrOf
   step-loop {x} e = opened (subst (OpensAs 2) (sym (ap instrOf e) ∙ may .here .back) as-loop)
 
-  pub step-end : i ≡ Instruction.the-variants.End → {p′ : List ℕ} {r : Stepped} {results : ℕ} → Closes p p′ b st next results (length s) r → {rows codes : List ℕ} {o′ c′ l′ b′ : List ℕ} → o′ ≡ o → c′ ≡ c → l′ ≡ l → b′ ≡ b → StepOf s rows codes ends count (words o c l p b) (words o′ c′ l′ p′ b′) st results r
+  pub step-end :
+      i ≡ Instruction.the-variants.End → {p′ : List ℕ} {r : Stepped} {results : ℕ} → Closes p p′ b st next results (length s) r
+      → {rows codes : List ℕ} {o′ c′ l′ b′ : List ℕ} → o′ ≡ o → c′ ≡ c → l′ ≡ l → b′ ≡ b
+      → StepOf s rows codes ends count (words o c l p b) (words o′ c′ l′ p′ b′) st results r
   unfolding instrOf
   step-end e {r = r} {results} a {rows} {codes} f g h k =
       let is : may .here .instr ≡ end = sym (may .here .back) ∙ ap instrOf e in
@@ -162,7 +180,7 @@ module _ {s ends : List ℕ} {count : ℕ} {o c l p b : List ℕ} {st : Stage} {
         is =
             stepped (programAt rows codes results) r
             (rw is
-            (a .is s ends (programAt rows codes results) (machineAt s count (words o c l p b) (atPlace st next)) (may .orderly .framed) (may .here .read ∙ ap (λ (j : Instr). got j next) is) refl refl (controls-past s count (words o c l p b) st next)));
+            (a .is s ends (programAt rows codes results) (machineAt s count (words o c l p b) (atPlace st next)) (may .orderly .framed) (may .here .read ∙ ap (λ (j : Instr). got j next) is) refl refl (machine-controls s count (words o c l p b) (atPlace st next))));
       })
 
   module _ (other : OneOf other-codes (tagOf the-type i)) where
@@ -190,7 +208,9 @@ module _ {s ends : List ℕ} {count : ℕ} {o c l p b : List ℕ} {st : Stage} {
           is = may .here .back ∙ what .1;
         }
 
-    past-step : {w′ : Words} {want : Outcome} {r : Stepped} → StepIs s ends count (words o c l p b) w′ (machineAt s count (words o c l p b) (atPlace st next)) want r → StepIs s ends count (words o c l p b) w′ (machineAt s count (words o c l p b) st) want r
+    past-step :
+        {w′ : Words} {want : Outcome} {r : Stepped} → StepIs s ends count (words o c l p b) w′ (machineAt s count (words o c l p b) (atPlace st next)) want r
+        → StepIs s ends count (words o c l p b) w′ (machineAt s count (words o c l p b) st) want r
     past-step a =
         record {
           is = a .is;
@@ -201,7 +221,10 @@ module _ {s ends : List ℕ} {count : ℕ} {o c l p b : List ℕ} {st : Stage} {
           same = a .same;
         }
 
-    pub step-op : {rows codes : List ℕ} {results : ℕ} {o′ c′ l′ p′ : List ℕ} {r : Stepped} → InsideIs s rows codes ends count (words o c l p b) (words o′ c′ l′ p′ b) (atPlace st next) results i r → {b′ : List ℕ} → b′ ≡ b → StepOf s rows codes ends count (words o c l p b) (words o′ c′ l′ p′ b′) st results r
+    pub step-op :
+        {rows codes : List ℕ} {results : ℕ} {o′ c′ l′ p′ : List ℕ} {r : Stepped}
+        → InsideIs s rows codes ends count (words o c l p b) (words o′ c′ l′ p′ b) (atPlace st next) results i r → {b′ : List ℕ} → b′ ≡ b
+        → StepOf s rows codes ends count (words o c l p b) (words o′ c′ l′ p′ b′) st results r
     unfolding doInstr
     step-op {rows} {codes} {results} a k =
         let here′ = step-here s count (words o c l p b) st (programAt rows codes results) (may .here .read) in

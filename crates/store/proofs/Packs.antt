@@ -12,7 +12,7 @@ use lib.Seq.{drop-cons}
 use lib.Dec.{eqb, ltb}
 use borrow.Author.Tests.{eqb-true, eqb-false, ltb-true, ltb-false}
 use Rattle.scope.specs.Lists.{joined}
-use Rattle.scope.specs.Machine.{Value, Store, withField, cellsOf}
+use Rattle.scope.specs.Machine.{Value, Object, Store, withField, cellsOf}
 use Rattle.scope.specs.Memory.{orZero, valueWords, objectsFrom, cellValues}
 use Rattle.scope.proofs.Truths.{decided}
 use Rattle.table.specs.View.{linkAt}
@@ -35,6 +35,17 @@ module _ (objects cells : List ℕ) (n : ℕ) where
 
     pub store-past : n ≤ o → getElem? (storeAt objects cells n) o ≡ none
     store-past h = numbered-past (objectAt objects cells) 0 n o h
+
+    -- what is found by a number is that object
+    pub store-found : {it : Object} → getElem? (storeAt objects cells n) o ≡ some it → (o < n) × (it ≡ objectAt objects cells o)
+    store-found {it} e = go (decided (ltb o n))
+      where
+        go : (ltb o n ≡ true) ⊎ (ltb o n ≡ false) → (o < n) × (it ≡ objectAt objects cells o)
+        go (inl l) =
+            let h : o < n = ltb-true o n l in
+            let there : some it ≡ some (objectAt objects cells o) = sym e ∙ store-there h in
+            (h, cc)
+        go (inr l) = absurd (let z : some it ≡ none = sym e ∙ store-past (ltb-false o n l) in let y : _≡_ {A = ℕ} 0 1 = cc in omega arith)
 
 -- the same of a heap that is what the words say
 module _ {os : Store} (objects cells : List ℕ) {n : ℕ} (heap : os ≡ storeAt objects cells n) where

@@ -30,7 +30,9 @@ use Rattle.trial.proofs.Bodily.{few-types, few-parameters}
 
 -- what the sizes of its parts allow
 
-pub may-start-again : {b : Body} {rows codes : List ℕ} {types first n second m : ℕ} → TypesAgain b rows codes types → FunctionAgain b codes first n second m → {work : List ℕ} → work ≡ replicate (length work) 0 → 4_096 ≤ length work → Starting work types n
+pub may-start-again :
+    {b : Body} {rows codes : List ℕ} {types first n second m : ℕ} → TypesAgain b rows codes types → FunctionAgain b codes first n second m → {work : List ℕ}
+    → work ≡ replicate (length work) 0 → 4_096 ≤ length work → Starting work types n
 may-start-again t f zero room = record { zero = zero; room = omega arith; few = f .few; known = t .few }
 
 pub may-hold-locals : {b : Body} {s work : List ℕ} {count next : ℕ} → LocalsAgain b s work count next → {locals : List ℕ} → 512 ≤ length locals → LocalRoom locals count
@@ -67,7 +69,9 @@ module _ {section s : List ℕ} {x : ℕ} {b : Body} (p : Parts section s x b) w
     pub shape-not-struct : {shape : Shape} {first n : ℕ} → shape ≡ Shape.the-variants.Struct first n → view rows codes x .form ≡ shapeForm codes shape → ⊥
     shape-not-struct {shape} e a = let f = ap (shapeForm codes) (sym e) ∙ form-again shape a in let z : _≡_ {A = ℕ} 0 1 = cc in omega arith
 
-    pub shape-again : {shape : Shape} {first n second m : ℕ} → shape ≡ Shape.the-variants.Func first n second m → view rows codes x .form ≡ shapeForm codes shape → FunctionAgain b codes first n second m
+    pub shape-again :
+        {shape : Shape} {first n second m : ℕ} → shape ≡ Shape.the-variants.Func first n second m → view rows codes x .form ≡ shapeForm codes shape
+        → FunctionAgain b codes first n second m
     shape-again {shape} {first} {n} {second} {m} e a =
         let f : func (codesAt valAtCode codes first n) (codesAt valAtCode codes second m) ≡ func (b .function .parameters) (b .function .results) = ap (shapeForm codes) (sym e) ∙ form-again shape a in
         let ps : codesAt valAtCode codes first n ≡ b .function .parameters = cc in
@@ -116,5 +120,3 @@ module _ {section s : List ℕ} {x : ℕ} {b : Body} (p : Parts section s x b) w
 
       pub ends-again : EndsOf s ends₁ next
       ends-again = a .matching ends-told
-
-pub ruleset again-laws = (section-unrefused, section-again, count-fits, shape-not-struct, shape-again, may-start-again, start-unrefused, start-again, may-hold-locals, may-fill-again, ends-told, ends-again)

@@ -25,7 +25,9 @@ accepts-unless : {A : Type 0} {P : A → Type 0} (t : Bool) (n p : ℕ) {j : Jud
 accepts-unless true n p k = accepts-nothing
 accepts-unless false n p k = k refl
 
-accepts-function : {P : Body → Type 0} (form : Form) {j : Function → Judged Body} → ((f : Function) → form ≡ func (f .parameters) (f .results) → Accepting P (j f)) → Accepting P (given (functionOf form) (rejected notAFunction 0) j)
+accepts-function :
+    {P : Body → Type 0} (form : Form) {j : Function → Judged Body} → ((f : Function) → form ≡ func (f .parameters) (f .results) → Accepting P (j f))
+    → Accepting P (given (functionOf form) (rejected notAFunction 0) j)
 accepts-function (struct fs) k = accepts-nothing
 accepts-function (func ps rs) k = k (record { parameters = ps; results = rs }) refl
 
@@ -63,10 +65,3 @@ module _ {section s : List ℕ} {x : ℕ} {b : Body} (p : Parts section s x b) w
 
   pub few-parameters : length (b .function .parameters) ≤ 64
   few-parameters = accepted-bounded section (p .judged) .parameters x (b .function .parameters) (b .function .results) (p .form)
-
-module _ (section s : List ℕ) (x : ℕ) {b : Body} (e : judgeBody section s x ≡ accepted b) where
-  pub types-few : length (b .types) ≤ 256
-  types-few = few-types (parts e)
-
-  pub parameters-few : length (b .function .parameters) ≤ 64
-  parameters-few = few-parameters (parts e)

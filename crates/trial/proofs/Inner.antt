@@ -1,10 +1,10 @@
 -- Each way out of the run and of what leads to it: the state that the run leaves, the locals, the function's type, the section.
-use Prim.Native.Nat.{ℕ, _+_, _-_, _*_, _^_, _≤_, _<_}
+use Prim.Native.Nat.{ℕ, _*_, _^_, _≤_, _<_}
 use mathlib.Core.Path.{_≡_, refl, sym, ap, _∙_}
 use mathlib.Core.Bool.{Bool, true, false, not, false≢true}
-use mathlib.Core.List.{List, _∷_, _++_}
+use mathlib.Core.List.{List, _∷_}
 use native.Mathlib.Omega.{arith}
-use lib.ListN.{length, replicate}
+use lib.ListN.{length}
 use Rattle.scope.specs.declared.Ran.{Ran}
 use Rattle.scope.specs.declared.Ran
 use Rattle.scope.specs.declared.Verdict.{Verdict}
@@ -41,7 +41,7 @@ use Rattle.trial.specs.Trial.{tellOf, Startable, runHere, RunStarted, Pl
 use Rattle.trial.proofs.Bodily.{parts}
 use Rattle.trial.proofs.Again.{section-unrefused, section-again, count-fits, shape-not-struct, shape-again, may-start-again, start-unrefused, start-again, may-hold-locals, may-fill-again, ends-told, ends-again}
 use Rattle.trial.proofs.Startable.{trial-is, runnable}
-use Rattle.trial.proofs.Outer.{refused-tried}
+use Rattle.trial.proofs.Outer.{filled-long, refused-tried}
 
 -- how a run ended
 
@@ -61,7 +61,9 @@ module _ (first : ℕ) {ended : Ending} where
   pub tell-done : {st : Stage} {steps : ℕ} → ended ≡ Ending.the-variants.Done st steps → Ran.the-variants.Done steps (st .height) ≡ tellOf first ended
   tell-done e = rw e refl
 
-  pub tell-trapped : {number : ℕ} {st : Stage} {steps : ℕ} → ended ≡ Ending.the-variants.Trapped number st steps → Ran.the-variants.Trapped number (st .place) steps ≡ tellOf first ended
+  pub tell-trapped :
+      {number : ℕ} {st : Stage} {steps : ℕ} → ended ≡ Ending.the-variants.Trapped number st steps
+      → Ran.the-variants.Trapped number (st .place) steps ≡ tellOf first ended
   tell-trapped e = rw e refl
 
   pub tell-spent : {st : Stage} {steps : ℕ} → ended ≡ Ending.the-variants.Spent st steps → Ran.the-variants.Spent steps ≡ tellOf first ended
@@ -78,7 +80,10 @@ head-same : {a b : ℕ} {more others : List ℕ} → a ∷ more ≡ b ∷ others
 head-same e = cc
 
 -- what is told is how the written run ended
-told-ending : (s : List ℕ) (count : ℕ) (w : Words) (first : ℕ) (ended : Ending) → StateTold count w (stageOf first ended) (stateWords s (machineAt s count w (stageOf first ended))) → tellOf first ended ≡ endedAs s (endingAt s count w first ended)
+told-ending :
+    (s : List ℕ) (count : ℕ) (w : Words) (first : ℕ) (ended : Ending)
+    → StateTold count w (stageOf first ended) (stateWords s (machineAt s count w (stageOf first ended)))
+    → tellOf first ended ≡ endedAs s (endingAt s count w first ended)
 unfolding endingAt stateWords machineAt
 told-ending s count w first (Ending.the-variants.Done st steps) t = ap (Ran.the-variants.Done steps) (sym (pile-length (w .operands) (st .base) (st .height)))
 told-ending s count w first (Ending.the-variants.Trapped number st steps) t = ap (λ (place : ℕ). Ran.the-variants.Trapped number place steps) (sym (head-same (t .counts)))
@@ -92,11 +97,9 @@ told-machine s count w first (Ending.the-variants.Trapped number st steps) = ref
 told-machine s count w first (Ending.the-variants.Spent st steps) = refl
 told-machine s count w first Ending.the-variants.Astray = refl
 
--- a buffer that is filled looks only at its length
-filled-long : (m m′ ws : List ℕ) → length m′ ≡ length m → filled m′ ws ≡ filled m ws
-filled-long m m′ ws e = ap (λ (n : ℕ). ws ++ replicate (n - length ws) 0) e
-
-module _ {s rows codes ends : List ℕ} {count : ℕ} {c o e l p b : List ℕ} {results first : ℕ} (may : Startable s rows codes ends count (stateOf c o e l p b) results first) {budget : ℕ} {o′ e′ l′ p′ b′ : List ℕ} {ended : Ending} (ran : RanFrom s rows codes count (words o e l p b) (words o′ e′ l′ p′ b′) results first budget ended) {st : Stage} (at : st ≡ stageOf first ended) where
+module _ {s rows codes ends : List ℕ} {count : ℕ} {c o e l p b : List ℕ} {results first : ℕ}
+    (may : Startable s rows codes ends count (stateOf c o e l p b) results first) {budget : ℕ} {o′ e′ l′ p′ b′ : List ℕ} {ended : Ending}
+    (ran : RanFrom s rows codes count (words o e l p b) (words o′ e′ l′ p′ b′) results first budget ended) {st : Stage} (at : st ≡ stageOf first ended) where
   pub may-settle : Settling count st (stateOf c o′ e′ l′ p′ b′)
   may-settle =
       let v : Valued count (words o′ e′ l′ p′ b′) st = rw at (ran .valued) in
@@ -111,7 +114,8 @@ module _ {s rows codes ends : List ℕ} {count : ℕ} {c o e l p b : List ℕ} {
         high = v .high;
       }
 
-  module _ {state′ : StateWords} (settled : Settled count st (stateOf c o′ e′ l′ p′ b′) state′) (so : length o′ ≡ length o) (se : length e′ ≡ length e) (sl : length l′ ≡ length l) (sp : length p′ ≡ length p) (sb : length b′ ≡ length b) where
+  module _ {state′ : StateWords} (settled : Settled count st (stateOf c o′ e′ l′ p′ b′) state′) (so : length o′ ≡ length o) (se : length e′ ≡ length e)
+      (sl : length l′ ≡ length l) (sp : length p′ ≡ length p) (sb : length b′ ≡ length b) where
     last-machine : machineAt s count (words o′ e′ l′ p′ b′) st ≡ machineOf (runHere s rows codes count (stateOf c o e l p b) results first budget)
     last-machine = ap (machineAt s count (words o′ e′ l′ p′ b′)) at ∙ told-machine s count (words o′ e′ l′ p′ b′) first ended ∙ ap machineOf (ran .is)
 
@@ -138,7 +142,8 @@ pub ruleset settle-exits = (may-settle, run-settled)
 
 -- the matching ends and the locals at their start
 
-module _ {s rows codes work ends : List ℕ} {count : ℕ} {c o e l p b : List ℕ} {results next : ℕ} (may : Placed s rows codes work ends count (stateOf c o e l p b) results next) where
+module _ {s rows codes work ends : List ℕ} {count : ℕ} {c o e l p b : List ℕ} {results next : ℕ}
+    (may : Placed s rows codes work ends count (stateOf c o e l p b) results next) where
   placed-parts : Parts (may .placing .section) s (may .placing .number) (may .body)
   placed-parts = parts (may .placing .runs .isAccepted)
 
@@ -166,7 +171,9 @@ module _ {s rows codes work ends : List ℕ} {count : ℕ} {c o e l p b : List �
             room = may .waiting .room .counts;
           }
 
-      pub located : {state′ : StateWords} {budget : ℕ} {r : Ran} → RunStarted s rows codes count (stateOf c o e l₁ p b) state′ results next budget r → RunLocated s rows codes work count (stateOf c o e l p b) state′ results next budget r
+      pub located :
+          {state′ : StateWords} {budget : ℕ} {r : Ran} → RunStarted s rows codes count (stateOf c o e l₁ p b) state′ results next budget r
+          → RunLocated s rows codes work count (stateOf c o e l p b) state′ results next budget r
       located {budget = budget} a =
           record {
             is = λ body placing.
@@ -186,12 +193,15 @@ pub ruleset locate-exits = (may-fill, may-start-locals, ends-match, may-run, loc
 
 -- the locals and the parameters
 
-module _ {s rows codes work ends : List ℕ} {c o e l p b : List ℕ} {types first params results : ℕ} (may : Shaped s rows codes work ends (stateOf c o e l p b) types first params results) where
+module _ {s rows codes work ends : List ℕ} {c o e l p b : List ℕ} {types first params results : ℕ}
+    (may : Shaped s rows codes work ends (stateOf c o e l p b) types first params results) where
   pub may-read-locals : Starting work types params
   may-read-locals = may-start-again (may .shaping .table) (may .shaping .function) (may .fresh .zero) (may .fresh .room)
 
   module _ {work₁ : List ℕ} {read : begin.Started} (a : StartedAs (localsFirst types params s) s codes work work₁ first params read) where
-    pub locals-read : {n place : ℕ} → read ≡ begin.the-variants.Refused n place → {state state′ : StateWords} {budget : ℕ} {r : Ran} → RunShaped s rows codes state state′ types first params results budget r
+    pub locals-read :
+        {n place : ℕ} → read ≡ begin.the-variants.Refused n place → {state state′ : StateWords} {budget : ℕ} {r : Ran}
+        → RunShaped s rows codes state state′ types first params results budget r
     locals-read e = absurd (start-unrefused (parts (may .shaping .judged)) (may .shaping .table) (may .shaping .function) a e)
 
     module _ {count next : ℕ} (is : read ≡ begin.the-variants.Is count next) {all : Bool} (asked : all ≡ allDefault false codes first params) where
@@ -200,7 +210,9 @@ module _ {s rows codes work ends : List ℕ} {c o e l p b : List ℕ} {types fir
       unfolding allDefault
       defaults sh = sym (asked ∙ ap (every hasDefault) (sh .function .parameters))
 
-      pub no-default : not all ≡ true → {c′ o′ e′ l′ p′ b′ : List ℕ} → c′ ≡ c → o′ ≡ o → e′ ≡ e → l′ ≡ l → p′ ≡ p → b′ ≡ b → {budget : ℕ} → RunShaped s rows codes (stateOf c o e l p b) (stateOf c′ o′ e′ l′ p′ b′) types first params results budget (Ran.the-variants.Refused 29 0)
+      pub no-default :
+          not all ≡ true → {c′ o′ e′ l′ p′ b′ : List ℕ} → c′ ≡ c → o′ ≡ o → e′ ≡ e → l′ ≡ l → p′ ≡ p → b′ ≡ b → {budget : ℕ}
+          → RunShaped s rows codes (stateOf c o e l p b) (stateOf c′ o′ e′ l′ p′ b′) types first params results budget (Ran.the-variants.Refused 29 0)
       no-default n f g h i j k {budget} =
           record { is = λ body sh. let none-all : every hasDefault (body .function .parameters) ≡ false = defaults sh ∙ not-true all n in refused-tried (rw none-all refl) (may .waiting .zero) f g h i j k }
 
@@ -223,7 +235,9 @@ module _ {s rows codes work ends : List ℕ} {c o e l p b : List ℕ} {types fir
         pub may-locate : {ends₁ : List ℕ} → ends₁ ≡ ends → Placed s rows codes work₁ ends₁ count (stateOf c o e l p b) results next
         may-locate f = rw f (record { body = may .body; placing = placing-of (may .body) (may .shaping); waiting = may .waiting })
 
-        pub shaped : {state′ : StateWords} {budget : ℕ} {r : Ran} → RunLocated s rows codes work₁ count (stateOf c o e l p b) state′ results next budget r → RunShaped s rows codes (stateOf c o e l p b) state′ types first params results budget r
+        pub shaped :
+            {state′ : StateWords} {budget : ℕ} {r : Ran} → RunLocated s rows codes work₁ count (stateOf c o e l p b) state′ results next budget r
+            → RunShaped s rows codes (stateOf c o e l p b) state′ types first params results budget r
         shaped {state′} {budget} {r} run-it =
             record {
               is = λ body sh.
@@ -236,8 +250,11 @@ pub ruleset shape-exits = (may-read-locals, locals-read, no-default, may-locate,
 
 -- the function's type
 
-module _ {s : List ℕ} {x : ℕ} {rows codes work ends : List ℕ} {c o e l p b : List ℕ} {types : ℕ} (may : Typed s x rows codes work ends (stateOf c o e l p b) types) {shape : Shape} where
-  pub function-there : {first n : ℕ} → shape ≡ Shape.the-variants.Struct first n → view rows codes x .form ≡ shapeForm codes shape → {state state′ : StateWords} {budget : ℕ} {r : Ran} → RunTyped s x budget rows codes state state′ types r
+module _ {s : List ℕ} {x : ℕ} {rows codes work ends : List ℕ} {c o e l p b : List ℕ} {types : ℕ}
+    (may : Typed s x rows codes work ends (stateOf c o e l p b) types) {shape : Shape} where
+  pub function-there :
+      {first n : ℕ} → shape ≡ Shape.the-variants.Struct first n → view rows codes x .form ≡ shapeForm codes shape
+      → {state state′ : StateWords} {budget : ℕ} {r : Ran} → RunTyped s x budget rows codes state state′ types r
   function-there is a = absurd (shape-not-struct (parts (may .typing .judged)) (may .typing .table) is a)
 
   module _ {first n second m : ℕ} (is : shape ≡ Shape.the-variants.Func first n second m) (a : view rows codes x .form ≡ shapeForm codes shape) where
@@ -248,18 +265,26 @@ module _ {s : List ℕ} {x : ℕ} {rows codes work ends : List ℕ} {c o e l p b
     pub may-shape : Shaped s rows codes work ends (stateOf c o e l p b) types first n m
     may-shape = record { body = may .body; shaping = shaping-of (may .body) (may .typing); fresh = may .fresh; waiting = may .waiting }
 
-    typed : {state′ : StateWords} {budget : ℕ} {r : Ran} → RunShaped s rows codes (stateOf c o e l p b) state′ types first n m budget r → RunTyped s x budget rows codes (stateOf c o e l p b) state′ types r
+    typed :
+        {state′ : StateWords} {budget : ℕ} {r : Ran} → RunShaped s rows codes (stateOf c o e l p b) state′ types first n m budget r
+        → RunTyped s x budget rows codes (stateOf c o e l p b) state′ types r
     typed run-it = record { is = λ body t. run-it .is body (shaping-of body t) }
 
 -- the same, by what was run first
-pub typed-by : {s : List ℕ} {x : ℕ} {rows codes work ends : List ℕ} {c o e l p b : List ℕ} {types : ℕ} → Typed s x rows codes work ends (stateOf c o e l p b) types → {state′ : StateWords} {budget first n m : ℕ} {r : Ran} → RunShaped s rows codes (stateOf c o e l p b) state′ types first n m budget r → (shape : Shape) (second : ℕ) → shape ≡ Shape.the-variants.Func first n second m → view rows codes x .form ≡ shapeForm codes shape → RunTyped s x budget rows codes (stateOf c o e l p b) state′ types r
+pub typed-by :
+    {s : List ℕ} {x : ℕ} {rows codes work ends : List ℕ} {c o e l p b : List ℕ} {types : ℕ} → Typed s x rows codes work ends (stateOf c o e l p b) types
+    → {state′ : StateWords} {budget first n m : ℕ} {r : Ran} → RunShaped s rows codes (stateOf c o e l p b) state′ types first n m budget r
+    → (shape : Shape) (second : ℕ) → shape ≡ Shape.the-variants.Func first n second m → view rows codes x .form ≡ shapeForm codes shape
+    → RunTyped s x budget rows codes (stateOf c o e l p b) state′ types r
 typed-by may run-it shape second is a = typed may is a run-it
 
 pub ruleset type-exits = (function-there, may-shape)
 
 -- the section
 
-module _ {section s : List ℕ} {x : ℕ} {rows codes work ends : List ℕ} {c o e l p b : List ℕ} (may : Allowed section s x rows codes work ends (stateOf c o e l p b)) {rows₁ codes₁ : List ℕ} {v : Verdict} (a : SectionJudged section rows codes rows₁ codes₁ v) where
+module _ {section s : List ℕ} {x : ℕ} {rows codes work ends : List ℕ} {c o e l p b : List ℕ}
+    (may : Allowed section s x rows codes work ends (stateOf c o e l p b)) {rows₁ codes₁ : List ℕ} {v : Verdict}
+    (a : SectionJudged section rows codes rows₁ codes₁ v) where
   pub section-there : {n place : ℕ} → v ≡ Verdict.the-variants.Refused n place → {state state′ : StateWords} {budget : ℕ} {r : Ran} → RunJudged section s x budget state state′ r
   section-there is = absurd (section-unrefused (parts (may .judged)) a (may .table) is)
 
@@ -273,7 +298,9 @@ module _ {section s : List ℕ} {x : ℕ} {rows codes work ends : List ℕ} {c o
     pub may-type : Typed s x rows₁ codes₁ work ends (stateOf c o e l p b) types
     may-type = record { body = may .body; typing = typing-of (may .body) (may .judged); fresh = may .fresh; waiting = may .waiting }
 
-    pub judged : {state′ : StateWords} {budget : ℕ} {r : Ran} → RunTyped s x budget rows₁ codes₁ (stateOf c o e l p b) state′ types r → RunJudged section s x budget (stateOf c o e l p b) state′ r
+    pub judged :
+        {state′ : StateWords} {budget : ℕ} {r : Ran} → RunTyped s x budget rows₁ codes₁ (stateOf c o e l p b) state′ types r
+        → RunJudged section s x budget (stateOf c o e l p b) state′ r
     judged run-it = record { is = λ body j. run-it .is body (typing-of body j) }
 
 pub ruleset section-exits = (section-there, types-fit, may-type, judged)

@@ -1,9 +1,9 @@
 -- From the body's verdict outwards: a refusal leaves the state zero; the budget comes after the body, and the sizes before
 -- both; and what is told over the cleared state is told over the state as it was lent, since only sizes are looked at.
-use Prim.Native.Nat.{ℕ, _≤_, _<_}
+use Prim.Native.Nat.{ℕ, _-_, _≤_, _<_}
 use mathlib.Core.Path.{_≡_, refl, sym, ap, _∙_}
 use mathlib.Core.Bool.{Bool, true, false, not, and-false}
-use mathlib.Core.List.{List}
+use mathlib.Core.List.{List, _++_}
 use native.Mathlib.Omega.{arith}
 use lib.ListN.{length, replicate, length-replicate}
 use borrow.Author.Tests.{not-true, not-false, leb-true, le-leb, lt-ltb, le-ltb}
@@ -14,11 +14,23 @@ use Rattle.scope.specs.declared.Ran
 use Rattle.scope.specs.Judging.{Judged, accepted, rejected}
 use Rattle.scope.specs.Bodies.{Body, instructions, judgeBody}
 use Rattle.scope.specs.Running.{withParameters, Trial, trialRun}
-use Rattle.scope.specs.Memory.{StateWords, stateWords, wiped}
+use Rattle.scope.specs.Memory.{StateWords, stateWords, filled, wiped}
 use Rattle.scope.specs.Answers.{after, tableLent, verdictOf, stateLent, bodyCall, BodyJudged, runCall, machineOf, ranOf, RunTried}
 use Rattle.scope.proofs.Truths.{from-both}
 use Rattle.states.specs.States.{stateOf, Cleared}
 use Rattle.trial.specs.Trial.{StateRoom, Zeroed, Fresh, Tried, Allowed, RunJudged, Lent, RunLent, scratchLent, memory, RunEnough, ScratchCleared}
+
+-- lent buffers
+
+wiped-long : (m : List ℕ) {m₁ : List ℕ} → m₁ ≡ wiped m → length m₁ ≡ length m
+wiped-long m e = rw e (length-replicate (length m) 0)
+
+wiped-zero : (m : List ℕ) {m₁ : List ℕ} → m₁ ≡ wiped m → m₁ ≡ wiped m₁
+wiped-zero m e = e ∙ ap (λ (n : ℕ). replicate n 0) (sym (wiped-long m e))
+
+-- a buffer that is filled looks only at its length
+pub filled-long : (m m′ ws : List ℕ) → length m′ ≡ length m → filled m′ ws ≡ filled m ws
+filled-long m m′ ws e = ap (λ (n : ℕ). ws ++ replicate (n - length ws) 0) e
 
 -- a refusal
 
@@ -62,13 +74,8 @@ body-accepted : (j : Judged Body) {v : Verdict} {k : ℕ} → v ≡ verdictOf in
 body-accepted (accepted b) e f = (b, refl)
 body-accepted (rejected n p) e f = absurd (let z : _≡_ {A = ℕ} 0 1 = cc in omega arith)
 
-wiped-long : (m : List ℕ) {m₁ : List ℕ} → m₁ ≡ wiped m → length m₁ ≡ length m
-wiped-long m e = rw e (length-replicate (length m) 0)
-
-wiped-zero : (m : List ℕ) {m₁ : List ℕ} → m₁ ≡ wiped m → m₁ ≡ wiped m₁
-wiped-zero m e = e ∙ ap (λ (n : ℕ). replicate n 0) (sym (wiped-long m e))
-
-module _ {rows codes work ends c o e l q b : List ℕ} (lent : Lent rows codes work ends (stateOf c o e l q b)) {section s : List ℕ} {x : ℕ} {rows₁ codes₁ work₁ : List ℕ} {v : Verdict} (a : BodyJudged section s x rows codes work rows₁ codes₁ work₁ v) where
+module _ {rows codes work ends c o e l q b : List ℕ} (lent : Lent rows codes work ends (stateOf c o e l q b)) {section s : List ℕ} {x : ℕ}
+    {rows₁ codes₁ work₁ : List ℕ} {v : Verdict} (a : BodyJudged section s x rows codes work rows₁ codes₁ work₁ v) where
   call-is : bodyCall section s x rows codes work ≡ judgeBody section s x
   call-is = rw (lent .table, le-leb 4_096 (length work) (lent .workRoom))
 
@@ -101,7 +108,9 @@ module _ {rows codes work ends c o e l q b : List ℕ} (lent : Lent rows codes w
         let (body, judged) = body-accepted (judgeBody section s x) answer-is f in
         record { body = body; judged = judged; table = table-still; fresh = work-fresh; waiting = lent .waiting }
 
-    pub lent-run : {budget : ℕ} → budget ≤ 1_000_000 → {state state′ : StateWords} {r : Ran} → RunJudged section s x budget state state′ r → RunLent section s x budget state state′ r
+    pub lent-run :
+        {budget : ℕ} → budget ≤ 1_000_000 → {state state′ : StateWords} {r : Ran} → RunJudged section s x budget state state′ r
+        → RunLent section s x budget state state′ r
     lent-run {budget} h j =
         let (body, judged) = body-accepted (judgeBody section s x) answer-is f in
         record { is = rw (trial-within section s x budget judged h) (j .is body judged) }
@@ -192,11 +201,13 @@ after-wiped : {A : Type 0} (words : A → List ℕ) (m : List ℕ) {m₁ : List 
 after-wiped words m {m₁} {j} e f = ap (after words m₁) f ∙ go j
   where
     go : (j : Judged _) → after words m₁ j ≡ after words m j
-    go (accepted a) = rw (wiped-long m e)
+    go (accepted a) = filled-long m m₁ (words a) (wiped-long m e)
     go (rejected n p) = rw (wiped-long m e)
 
 module _ {state state₁ : StateWords} (z : Cleared state state₁) where
-  call-cleared : (section s : List ℕ) (x budget : ℕ) (rows codes work ends : List ℕ) → runCall section s x budget (memory rows codes work ends state₁) ≡ runCall section s x budget (memory rows codes work ends state)
+  call-cleared :
+      (section s : List ℕ) (x budget : ℕ) (rows codes work ends : List ℕ)
+      → runCall section s x budget (memory rows codes work ends state₁) ≡ runCall section s x budget (memory rows codes work ends state)
   call-cleared section s x budget rows codes work ends =
       rw (wiped-long (state .counts) (z .counts), wiped-long (state .objects) (z .objects), wiped-long (state .cells) (z .cells), wiped-long (state .locals) (z .locals), wiped-long (state .operands) (z .operands), wiped-long (state .blocks) (z .blocks))
 

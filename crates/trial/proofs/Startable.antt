@@ -19,14 +19,16 @@ use Rattle.runs.specs.Runs.{startStage, Runnable}
 use Rattle.trial.specs.Parts.{Parts, TypesAgain, FunctionAgain, LocalsAgain}
 use Rattle.trial.proofs.Bodily.{parts, few-types}
 
-pub program-is : {b : Body} {rows codes : List ℕ} {types first n second results : ℕ} → TypesAgain b rows codes types → FunctionAgain b codes first n second results → programOf b ≡ programAt rows codes results
+program-is :
+    {b : Body} {rows codes : List ℕ} {types first n second results : ℕ} → TypesAgain b rows codes types → FunctionAgain b codes first n second results
+    → programOf b ≡ programAt rows codes results
 program-is t f =
     let v = sym (t .types) in
     let r = sym (f .manyResults) in
     λ i. record { types = v i; results = r i }
 
 module _ {b : Body} {s work : List ℕ} {count next : ℕ} (l : LocalsAgain b s work count next) {locals locals₁ : List ℕ} (a : Started work locals locals₁ count) where
-  pub start-is : (objects cells operands blocks : List ℕ) → startOf b ≡ machineAt s count (words objects cells locals₁ operands blocks) (startStage next)
+  start-is : (objects cells operands blocks : List ℕ) → startOf b ≡ machineAt s count (words objects cells locals₁ operands blocks) (startStage next)
   unfolding machineAt numbered pile blocksAt
   start-is objects cells operands blocks =
       let held = sym (a .is ∙ ap (map defaultOf) (l .types)) in
@@ -34,11 +36,20 @@ module _ {b : Body} {s work : List ℕ} {count next : ℕ} (l : LocalsAgain b s 
       λ i. record { heap = []; locals = held i; operands = []; blocks = []; code = code i }
 
 -- the written run is the run from what this memory says
-pub trial-is : {b : Body} {rows codes : List ℕ} {types first n second results : ℕ} → TypesAgain b rows codes types → FunctionAgain b codes first n second results → {s work : List ℕ} {count next : ℕ} → LocalsAgain b s work count next → {locals locals₁ : List ℕ} → Started work locals locals₁ count → (objects cells operands blocks : List ℕ) (budget : ℕ) → trialOf b budget .ending ≡ run (programAt rows codes results) budget 0 (machineAt s count (words objects cells locals₁ operands blocks) (startStage next))
+pub trial-is :
+    {b : Body} {rows codes : List ℕ} {types first n second results : ℕ} → TypesAgain b rows codes types → FunctionAgain b codes first n second results
+    → {s work : List ℕ} {count next : ℕ} → LocalsAgain b s work count next → {locals locals₁ : List ℕ} → Started work locals locals₁ count
+    → (objects cells operands blocks : List ℕ) (budget : ℕ)
+    → trialOf b budget .ending ≡ run (programAt rows codes results) budget 0 (machineAt s count (words objects cells locals₁ operands blocks) (startStage next))
 trial-is t f l a objects cells operands blocks budget = ap₂ (λ (p : Program) (m : Machine). run p budget 0 m) (program-is t f) (start-is l a objects cells operands blocks)
 
-module _ {section s : List ℕ} {x : ℕ} {b : Body} (runs : Runs section s x b) {rows codes : List ℕ} {types first n second results : ℕ} (t : TypesAgain b rows codes types) (f : FunctionAgain b codes first n second results) {work : List ℕ} {count next : ℕ} (l : LocalsAgain b s work count next) {locals locals₁ : List ℕ} (a : Started work locals locals₁ count) {ends : List ℕ} (e : EndsOf s ends next) {objects cells operands blocks : List ℕ} where
-  start-orderly : Parts section s x b → 4_096 ≤ length objects → 8_192 ≤ length cells → 512 ≤ length locals₁ → 1_024 ≤ length operands → 189 ≤ length blocks → Orderly s ends count (words objects cells locals₁ operands blocks) (startStage next)
+module _ {section s : List ℕ} {x : ℕ} {b : Body} (runs : Runs section s x b) {rows codes : List ℕ} {types first n second results : ℕ}
+    (t : TypesAgain b rows codes types) (f : FunctionAgain b codes first n second results) {work : List ℕ} {count next : ℕ}
+    (l : LocalsAgain b s work count next) {locals locals₁ : List ℕ} (a : Started work locals locals₁ count) {ends : List ℕ} (e : EndsOf s ends next)
+    {objects cells operands blocks : List ℕ} where
+  start-orderly :
+      Parts section s x b → 4_096 ≤ length objects → 8_192 ≤ length cells → 512 ≤ length locals₁ → 1_024 ≤ length operands → 189 ≤ length blocks
+      → Orderly s ends count (words objects cells locals₁ operands blocks) (startStage next)
   unfolding lower
   start-orderly p o c h v k =
       record {
@@ -62,9 +73,9 @@ module _ {section s : List ℕ} {x : ℕ} {b : Body} (runs : Runs section s x b)
             };
       }
 
-  pub runnable : 4_096 ≤ length objects → 8_192 ≤ length cells → 512 ≤ length locals₁ → 1_024 ≤ length operands → 189 ≤ length blocks → Runnable s rows codes ends count (words objects cells locals₁ operands blocks) results next
+  pub runnable :
+      4_096 ≤ length objects → 8_192 ≤ length cells → 512 ≤ length locals₁ → 1_024 ≤ length operands → 189 ≤ length blocks
+      → Runnable s rows codes ends count (words objects cells locals₁ operands blocks) results next
   runnable o c h v k =
       let p = parts (runs .isAccepted) in
       record { orderly = start-orderly p o c h v k; sound = sound-run runs (few-types p) (program-is t f) (start-is l a objects cells operands blocks) }
-
-pub ruleset start-laws = (program-is, start-is, trial-is, runnable)

@@ -1,27 +1,33 @@
--- `body_cases::reading::find` is safe and ends: the place only grows, and each turn leaves one sign fewer.
+-- `run_cases::telling::same` is safe and ends: each turn leaves one word fewer.
 use borrow.Author.Needs.{needs}
-use Prim.Native.Nat.{_-_, _≤_}
+use Prim.Native.Nat.{_-_}
 use lib.ListN.{length}
-use Rattle.body_cases.proofs.reading.find.Statement.{statement}
-use Rattle.body_cases.proofs.reading.find.Tie as tie
+use Rattle.run_cases.proofs.telling.same.Statement.{statement}
+use Rattle.run_cases.proofs.telling.same.Tie as tie
 
 abbrev Inv-loop : tie.InvT-loop
-Inv-loop text from mark at₀ at = from ≤ at
+Inv-loop a b i₀ i = Unit
 
 abbrev μ-loop : tie.MeasureT-loop
-μ-loop text from mark at₀ at = length text - at
+μ-loop a b i₀ i = length a - i
 
 loop-holds : tie.Need-loop-holds Inv-loop μ-loop
 loop-holds c = search needs
 
+mul-if1 : tie.Need-mul-if1 Inv-loop μ-loop
+mul-if1 c = search needs
+
 shared-slice-read-if1 : tie.Need-shared-slice-read-if1 Inv-loop μ-loop
 shared-slice-read-if1 c = search needs
+
+word-requires : tie.Need-word-requires Inv-loop μ-loop
+word-requires c κs = search needs
 
 returns : tie.Need-returns Inv-loop μ-loop
 returns c = search needs
 
-add-at : tie.Need-add-at Inv-loop μ-loop
-add-at c = search needs
+add-i : tie.Need-add-i Inv-loop μ-loop
+add-i c = search needs
 
 loop-less : tie.Need-loop-less Inv-loop μ-loop
 loop-less c = search needs
@@ -32,16 +38,18 @@ loop-again c = search needs
 returns-2 : tie.Need-returns-2 Inv-loop μ-loop
 returns-2 c = search needs
 
-pub find-spec : {M : Type 1} → statement M
-find-spec =
+pub same-spec : {M : Type 1} → statement M
+same-spec =
     tie.close
     (tie.spec
     Inv-loop
     μ-loop
     loop-holds
+    mul-if1
     shared-slice-read-if1
+    word-requires
     returns
-    add-at
+    add-i
     loop-less
     loop-again
     returns-2)

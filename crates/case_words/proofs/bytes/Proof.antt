@@ -1,10 +1,10 @@
--- `body_cases::reading::bytes` is safe and ends: a word keeps the length, and each turn ends past the word that it found.
+-- `case_words::bytes` is safe and ends: a word keeps the length, and each turn ends past the word that it found.
 use borrow.Author.Needs.{needs}
 use mathlib.Core.Path.{_≡_}
 use Prim.Native.Nat.{_-_}
 use lib.ListN.{length}
-use Rattle.body_cases.proofs.reading.bytes.Statement.{statement}
-use Rattle.body_cases.proofs.reading.bytes.Tie as tie
+use Rattle.case_words.proofs.bytes.Statement.{statement}
+use Rattle.case_words.proofs.bytes.Tie as tie
 
 abbrev Inv-loop : tie.InvT-loop
 Inv-loop out₀ line start end₀ from₀ out end from = length out ≡ length out₀

@@ -1,9 +1,9 @@
--- `body_cases::reading::repeat` is safe and ends: a word keeps the length, and the times that are left fall.
+-- `case_words::repeat` is safe and ends: a word keeps the length, and the times that are left fall.
 use borrow.Author.Needs.{needs}
 use mathlib.Core.Path.{_≡_}
 use lib.ListN.{length}
-use Rattle.body_cases.proofs.reading.repeat.Statement.{statement}
-use Rattle.body_cases.proofs.reading.repeat.Tie as tie
+use Rattle.case_words.proofs.repeat.Statement.{statement}
+use Rattle.case_words.proofs.repeat.Tie as tie
 
 abbrev Inv-loop : tie.InvT-loop
 Inv-loop out₀ at word times end₀ left₀ out end left = length out ≡ length out₀

@@ -1,9 +1,9 @@
--- `body_cases::judging::zero32` is safe and ends: each turn leaves one word fewer.
+-- `case_words::zero32` is safe and ends: each turn leaves one word fewer.
 use borrow.Author.Needs.{needs}
 use Prim.Native.Nat.{_-_}
 use lib.ListN.{length}
-use Rattle.body_cases.proofs.judging.zero32.Statement.{statement}
-use Rattle.body_cases.proofs.judging.zero32.Tie as tie
+use Rattle.case_words.proofs.zero32.Statement.{statement}
+use Rattle.case_words.proofs.zero32.Tie as tie
 
 abbrev Inv-loop : tie.InvT-loop
 Inv-loop m i₀ i = Unit

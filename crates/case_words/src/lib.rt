@@ -1,5 +1,6 @@
-// Bytes that are written as text: words of hexadecimal digits, with a space between two. `512*4100` is 512 times 41 00.
-// Nothing here fails: what does not fit is left out, and a sign that is no digit counts as 0.
+// What the programs with cases in a file share. Bytes that are written as text: words of hexadecimal digits, with a space
+// between two; `512*4100` is 512 times 41 00. Nothing here fails: what does not fit is left out, and a sign that is no digit
+// counts as 0. And whether lent words are zero.
 ghost use Prim.Native.Nat.{_≤_};
 
 const SPACE: u8 = b' ';
@@ -114,4 +115,26 @@ pub fn bytes(out: &mut [u8], line: &[u8], start: usize) -> usize {
         from = to + 1;
     }
     end
+}
+
+pub fn zero(m: &[u16]) -> bool {
+    let mut i: usize = 0;
+    while i < m.len() {
+        if m[i] != 0 {
+            return false;
+        }
+        i += 1;
+    }
+    true
+}
+
+pub fn zero32(m: &[u32]) -> bool {
+    let mut i: usize = 0;
+    while i < m.len() {
+        if m[i] != 0 {
+            return false;
+        }
+        i += 1;
+    }
+    true
 }

@@ -1,9 +1,9 @@
--- `body_cases::reading::decimal` is safe and ends: a number is cut before it can wrap, and each turn leaves one sign fewer.
+-- `case_words::decimal` is safe and ends: a number is cut before it can wrap, and each turn leaves one sign fewer.
 use borrow.Author.Needs.{needs}
 use Prim.Native.Nat.{_-_}
 use lib.ListN.{length}
-use Rattle.body_cases.proofs.reading.decimal.Statement.{statement}
-use Rattle.body_cases.proofs.reading.decimal.Tie as tie
+use Rattle.case_words.proofs.decimal.Statement.{statement}
+use Rattle.case_words.proofs.decimal.Tie as tie
 
 abbrev Inv-loop : tie.InvT-loop
 Inv-loop word n₀ i₀ n i = Unit

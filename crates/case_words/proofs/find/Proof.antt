@@ -1,21 +1,18 @@
--- `body_cases::judging::zero` is safe and ends: each turn leaves one word fewer.
+-- `case_words::find` is safe and ends: the place only grows, and each turn leaves one sign fewer.
 use borrow.Author.Needs.{needs}
-use Prim.Native.Nat.{_-_}
+use Prim.Native.Nat.{_-_, _≤_}
 use lib.ListN.{length}
-use Rattle.body_cases.proofs.judging.zero.Statement.{statement}
-use Rattle.body_cases.proofs.judging.zero.Tie as tie
+use Rattle.case_words.proofs.find.Statement.{statement}
+use Rattle.case_words.proofs.find.Tie as tie
 
 abbrev Inv-loop : tie.InvT-loop
-Inv-loop m i₀ i = Unit
+Inv-loop text from mark at₀ at = from ≤ at
 
 abbrev μ-loop : tie.MeasureT-loop
-μ-loop m i₀ i = length m - i
+μ-loop text from mark at₀ at = length text - at
 
 loop-holds : tie.Need-loop-holds Inv-loop μ-loop
 loop-holds c = search needs
-
-mul-if1 : tie.Need-mul-if1 Inv-loop μ-loop
-mul-if1 c = search needs
 
 shared-slice-read-if1 : tie.Need-shared-slice-read-if1 Inv-loop μ-loop
 shared-slice-read-if1 c = search needs
@@ -23,8 +20,8 @@ shared-slice-read-if1 c = search needs
 returns : tie.Need-returns Inv-loop μ-loop
 returns c = search needs
 
-add-i : tie.Need-add-i Inv-loop μ-loop
-add-i c = search needs
+add-at : tie.Need-add-at Inv-loop μ-loop
+add-at c = search needs
 
 loop-less : tie.Need-loop-less Inv-loop μ-loop
 loop-less c = search needs
@@ -35,17 +32,16 @@ loop-again c = search needs
 returns-2 : tie.Need-returns-2 Inv-loop μ-loop
 returns-2 c = search needs
 
-pub zero-spec : {M : Type 1} → statement M
-zero-spec =
+pub find-spec : {M : Type 1} → statement M
+find-spec =
     tie.close
     (tie.spec
     Inv-loop
     μ-loop
     loop-holds
-    mul-if1
     shared-slice-read-if1
     returns
-    add-i
+    add-at
     loop-less
     loop-again
     returns-2)

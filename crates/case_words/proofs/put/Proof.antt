@@ -1,10 +1,10 @@
--- `body_cases::reading::put` is safe and ends: a store keeps the length, and each turn leaves two signs fewer.
+-- `case_words::put` is safe and ends: a store keeps the length, and each turn leaves two signs fewer.
 use borrow.Author.Needs.{needs}
 use mathlib.Core.Path.{_≡_}
 use Prim.Native.Nat.{_-_, _≤_}
 use lib.ListN.{length}
-use Rattle.body_cases.proofs.reading.put.Statement.{statement}
-use Rattle.body_cases.proofs.reading.put.Tie as tie
+use Rattle.case_words.proofs.put.Statement.{statement}
+use Rattle.case_words.proofs.put.Tie as tie
 
 abbrev Inv-loop : tie.InvT-loop
 Inv-loop out₀ at word end₀ low₀ out end low = (length out ≡ length out₀) × (1 ≤ low)
