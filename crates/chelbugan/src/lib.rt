@@ -4,8 +4,8 @@
 use scope::Asked;
 use scope::Ran;
 use scope::Verdict;
-ghost use Rattle.states.specs.States.{stateOf};
-ghost use Rattle.trial.specs.Trial.{memory};
+ghost use Rattle.run_buffers.specs.States.{stateOf};
+ghost use Rattle.run_call.specs.Trial.{memory};
 ghost use Rattle.chelbugan.specs.Told.{VerdictTold, AskedTold, RanTold, SectionTold, TypeTold, BodyTold, RunTold};
 
 // What an answer is: the number that each call returns.
@@ -87,7 +87,7 @@ pub extern "C" fn chelbugan_judge_section(
 ) -> u64
     ensures { λ r. ⌜ SectionTold (now (section .entry)) (now (rows .entry)) (now (codes .entry)) (now (rows .exit)) (now (codes .exit)) r (now (answer .exit)) ⌝ }
 {
-    let verdict = loader::judge_section(section, rows, codes);
+    let verdict = section_call::judge_section(section, rows, codes);
     tell_verdict(verdict, answer)
 }
 
@@ -102,7 +102,7 @@ pub extern "C" fn chelbugan_ask_type(
 ) -> u64
     ensures { λ r. ⌜ TypeTold (now (section .entry)) number (now (rows .entry)) (now (codes .entry)) (now (rows .exit)) (now (codes .exit)) r (now (answer .exit)) ⌝ }
 {
-    let asked = loader::ask_type(section, number, rows, codes);
+    let asked = section_call::ask_type(section, number, rows, codes);
     tell_asked(asked, answer)
 }
 
@@ -119,7 +119,7 @@ pub extern "C" fn chelbugan_judge_body(
 ) -> u64
     ensures { λ r. ⌜ BodyTold (now (section .entry)) (now (body .entry)) number (now (rows .entry)) (now (codes .entry)) (now (work .entry)) (now (rows .exit)) (now (codes .exit)) (now (work .exit)) r (now (answer .exit)) ⌝ }
 {
-    let verdict = checker::judge_body(section, body, number, rows, codes, work);
+    let verdict = body_call::judge_body(section, body, number, rows, codes, work);
     tell_verdict(verdict, answer)
 }
 
@@ -144,7 +144,7 @@ pub extern "C" fn chelbugan_try_run(
 ) -> u64
     ensures { λ r. ⌜ RunTold (now (section .entry)) (now (body .entry)) number budget (memory (now (rows .entry)) (now (codes .entry)) (now (work .entry)) (now (ends .entry)) (stateOf (now (counts .entry)) (now (objects .entry)) (now (cells .entry)) (now (locals .entry)) (now (operands .entry)) (now (blocks .entry)))) (memory (now (rows .exit)) (now (codes .exit)) (now (work .exit)) (now (ends .exit)) (stateOf (now (counts .exit)) (now (objects .exit)) (now (cells .exit)) (now (locals .exit)) (now (operands .exit)) (now (blocks .exit)))) r (now (answer .exit)) ⌝ }
 {
-    let ran = trial::try_run(
+    let ran = run_call::try_run(
         section,
         body,
         number,

@@ -16,7 +16,7 @@ const CRATES: &str = "scope:\nexamples: scope\nasked: scope examples\n";
 
 const OPENING: &str = "use Prim.Native.Nat.{ℕ}
 use mathlib.Core.List.{List, [], _∷_, _++_}
-use Rattle.examples.specs.Words.{sectionWords, typeWords, bodyWords, runWords, packed}
+use Rattle.facts_examples.specs.Words.{sectionWords, typeWords, bodyWords, runWords, packed}
 use Rattle.scope.proofs.Computes.{computes}
 
 data Shows : ℕ → Type 0 where

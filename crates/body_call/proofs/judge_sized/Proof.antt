@@ -1,0 +1,20 @@
+-- `checker::judge_sized` meets its contract.
+use borrow.Author.Needs.{needs}
+use Rattle.body_call.proofs.Lending.{lent-exits}
+use Rattle.body_call.proofs.judge_sized.Statement.{statement}
+use Rattle.body_call.proofs.judge_sized.Tie as tie
+
+returns : tie.Need-returns
+returns c = search (lent-exits, needs)
+
+judge-typed-requires : tie.Need-judge-typed-requires
+judge-typed-requires c κs = search (lent-exits, needs)
+
+same-length : tie.Need-same-length
+same-length c = search (lent-exits, needs)
+
+returns-2 : tie.Need-returns-2
+returns-2 c = search (lent-exits, needs)
+
+pub judge-sized-spec : {M : Type 1} → statement M
+judge-sized-spec = tie.close (tie.spec returns judge-typed-requires same-length returns-2)

@@ -1,0 +1,85 @@
+-- What opening a block and setting a local leave in the scratch, by what its words then say.
+use Prim.Native.Nat.{ℕ, _+_, _-_, _*_, _<_, _≤_}
+use mathlib.Core.Path.{_≡_}
+use mathlib.Core.Bool.{Bool, false}
+use mathlib.Core.Option.{Option}
+use mathlib.Core.List.{List, map}
+use lib.ListN.{getD, length}
+use lib.Dec.{ltb}
+use Rattle.scope.specs.Refusals.{outOfReach}
+use Rattle.scope.specs.Lists.{every, joined}
+use Rattle.scope.specs.TypeRules.{valNames}
+use Rattle.scope.specs.Syntax.{Val}
+use Rattle.scope.specs.Memory.{flag}
+use Rattle.scope.specs.BodyRules.{Ruled, test}
+use Rattle.scope.specs.Bodies.{marked, State, Next, entered}
+use Rattle.body_decoded.specs.Decoded.{blockResults}
+use Rattle.body_state.specs.declared.Stand.{Stand}
+use Rattle.body_state.specs.declared.Scene.{Scene}
+use Rattle.body_state.specs.declared.Step.{Step}
+use Rattle.body_state.specs.declared.Step
+use Rattle.body_state.specs.Standing.{frameWord, setsAt, frameOf, stateAt, Upright, Stamped, stepOf}
+
+-- frame m may be open
+pub record Ready (work : List ℕ) (count m : ℕ) : Type 0 where
+  pub room : 1_800 ≤ length work
+  pub few : count ≤ 256
+  pub some′ : 0 < m
+
+-- A local is set in the frames up to number m, and in no frame around; it keeps a stamp that was there, or frame m's.
+pub record Marked (work work′ : List ℕ) (count m : ℕ) (marks : Option ℕ) : Type 0 where
+  pub here : setsAt work′ m 0 count ≡ marked marks (setsAt work m 0 count)
+  pub around : (n : ℕ) → n < m → setsAt work′ n 0 count ≡ setsAt work n 0 count
+  pub early : (at : ℕ) → frameWord work m 5 < at → ((i : ℕ) → i < count → getD work (512 + i) 0 < at) → (i : ℕ) → i < count → getD work′ (512 + i) 0 < at
+  pub types : (i : ℕ) → i < 256 → getD work′ i 0 ≡ getD work i 0
+  pub beyond : (i : ℕ) → 768 ≤ i → getD work′ i 0 ≡ getD work i 0
+  pub size : length work′ ≡ length work
+
+-- frame m has its eight words
+pub record FrameRoom (work : List ℕ) (m : ℕ) : Type 0 where
+  pub room : 1_280 + 8 * m + 8 ≤ length work
+
+-- three words of frame m, and no other word is changed
+pub record ThreePut (work work′ : List ℕ) (m j k l x y z : ℕ) : Type 0 where
+  pub first : frameWord work′ m j ≡ x
+  pub second : frameWord work′ m k ≡ y
+  pub third : frameWord work′ m l ≡ z
+  pub others : (i : ℕ) → (i ≡ 1_280 + (8 * m + j) → ⊥) → (i ≡ 1_280 + (8 * m + k) → ⊥) → (i ≡ 1_280 + (8 * m + l) → ⊥) → getD work′ i 0 ≡ getD work i 0
+  pub size : length work′ ≡ length work
+
+-- one more frame has its words
+pub record Entering (work : List ℕ) (st : Stand) : Type 0 where
+  pub room : 1_800 ≤ length work
+  pub deep : st .depth < 63
+  pub low : st .base + st .height ≤ 512
+
+-- the new frame's words, those before them as they were, and where the check then stands
+pub record Entered (work work′ : List ℕ) (st : Stand) (isLoop : Bool) (result at : ℕ) (r : Stand) : Type 0 where
+  pub isLoop′ : frameWord work′ (st .depth + 2) 0 ≡ flag isLoop
+  pub result′ : frameWord work′ (st .depth + 2) 1 ≡ result
+  pub base′ : frameWord work′ (st .depth + 2) 2 ≡ st .base
+  pub height′ : frameWord work′ (st .depth + 2) 3 ≡ st .height
+  pub dead′ : frameWord work′ (st .depth + 2) 4 ≡ flag (st .dead)
+  pub stamp′ : frameWord work′ (st .depth + 2) 5 ≡ at
+  pub below : (i : ℕ) → i < 1_280 + 8 * (st .depth + 2) → getD work′ i 0 ≡ getD work i 0
+  pub size : length work′ ≡ length work
+  pub stand : r ≡ record { depth = st .depth + 1; base = st .base + st .height; height = 0; dead = false }
+
+-- the sizes hold, and no stamp is the place of this instruction
+pub record Opening (work : List ℕ) (count : ℕ) (st : Stand) (at : ℕ) : Type 0 where
+  pub upright : Upright work count st
+  pub stamped : Stamped work count (st .depth) at
+  pub early : at ≤ 32_768
+
+-- what document 01 says of block and loop (scope's judgeInstr)
+abbrev pub opens : ℕ → State → Bool → List Val → Ruled Next
+opens types st isLoop rs =
+    test (every (λ x. ltb x types) (joined (map valNames rs))) outOfReach
+    (entered st (frameOf isLoop rs (st .operands) (st .dead) (st .isSet)))
+
+pub record Opened (work work′ : List ℕ) (k : Scene) (st : Stand) (isLoop : Bool) (result at : ℕ) (r : Step) : Type 0 where
+  pub answer : stepOf work′ (k .locals) r ≡ opens (k .types) (stateAt work (k .locals) st) isLoop (blockResults result)
+  pub upright : (st′ : Stand) → r ≡ Step.the-variants.On st′ → Upright work′ (k .locals) st′
+  pub stamped : (st′ : Stand) → r ≡ Step.the-variants.On st′ → Stamped work′ (k .locals) (st′ .depth) (at + 1)
+  pub types : (i : ℕ) → i < 256 → getD work′ i 0 ≡ getD work i 0
+  pub size : length work′ ≡ length work

@@ -1,0 +1,128 @@
+// Frames and locals, written: a block is opened, a local is set.
+use body_state::Scene;
+use body_state::Stand;
+use body_state::Step;
+ghost use mathlib.Core.Path.{_≡_};
+ghost use mathlib.Core.List.{map};
+ghost use Rattle.scope.specs.Lists.{joined};
+ghost use Rattle.scope.specs.TypeRules.{valNames};
+ghost use Rattle.scope.specs.Memory.{flag};
+ghost use Rattle.type_table.specs.View.{linkAt};
+ghost use Rattle.type_reach.specs.Names.{allBelow};
+ghost use Rattle.body_decoded.specs.Decoded.{blockResults};
+ghost use Rattle.body_frames.specs.Frames.{Ready, Marked, FrameRoom, ThreePut, Entering, Entered, Opening, Opened};
+
+// By which number each rule is refused.
+const OVERSIZE: u64 = 4;
+
+const OUT_OF_REACH: u64 = 6;
+
+// "64 frames, the function's own counted."
+const MOST_BLOCKS: u16 = 63;
+
+// Sets a local in frame m: 0 is none, else one more than its number. What is set already stays as it is: it was set in a
+// frame that is still open.
+pub fn mark(work: &mut [u32], locals: u16, m: u32, marks: u64)
+    requires { ⌜ Ready (now work) locals m ⌝ }
+    ensures { λ r. ⌜ Marked (now (work .entry)) (now (work .exit)) locals m (linkAt marks) ⌝ }
+{
+    if marks == 0 {
+        return;
+    }
+    let x = marks - 1;
+    if locals as u64 <= x {
+        return;
+    }
+    if body_state::is_set(work, m, x as u32) {
+        return;
+    }
+    let stamp = body_state::frame_word(work, m, body_state::STAMP);
+    lent_u32::put32(work, body_state::MARKS + x, m as u64);
+    lent_u32::put32(work, body_state::STAMPS + x, stamp);
+}
+
+// 1 for true.
+fn flag_of(b: bool) -> u64
+    ensures { λ r. ⌜ r ≡ flag b ⌝ }
+{
+    if b { 1 } else { 0 }
+}
+
+// The words of frame m that are its own: whether it is a loop, its result, its stamp.
+fn put_own(work: &mut [u32], m: u32, is_loop: bool, result: u32, stamp: u32)
+    requires { ⌜ FrameRoom (now work) m ⌝ }
+    ensures { λ r. ⌜ ThreePut (now (work .entry)) (now (work .exit)) m 0 1 5 (flag «is_loop») result stamp ⌝ }
+{
+    let row = body_state::FRAMES + body_state::FRAME * m as u64;
+    let kind = flag_of(is_loop);
+    lent_u32::put32(work, row + body_state::LOOP as u64, kind);
+    lent_u32::put32(work, row + body_state::RESULT as u64, result as u64);
+    lent_u32::put32(work, row + body_state::STAMP as u64, stamp as u64);
+}
+
+// The words of frame m that say what stands around it: the operands below, how many there are, whether they may be unknown.
+fn put_around(work: &mut [u32], m: u32, base: u32, height: u32, dead: bool)
+    requires { ⌜ FrameRoom (now work) m ⌝ }
+    ensures { λ r. ⌜ ThreePut (now (work .entry)) (now (work .exit)) m 2 3 4 base height (flag dead) ⌝ }
+{
+    let row = body_state::FRAMES + body_state::FRAME * m as u64;
+    let unknowns = flag_of(dead);
+    lent_u32::put32(work, row + body_state::BASE as u64, base as u64);
+    lent_u32::put32(work, row + body_state::HEIGHT as u64, height as u64);
+    lent_u32::put32(work, row + body_state::DEAD as u64, unknowns);
+}
+
+// Whether a block's result names types of the section only: 0 is none, else one more than its code.
+fn result_reached(types: u16, result: u64) -> bool
+    ensures { λ r. ⌜ r ≡ allBelow types (joined (map valNames (blockResults result))) ⌝ }
+{
+    if result == 0 {
+        return true;
+    }
+    type_reach::val_in_reach(result - 1, types as u64)
+}
+
+// The frame is written, and the check stands in it.
+fn enter(work: &mut [u32], stand: Stand, is_loop: bool, result: u32, at: u32) -> Stand
+    requires { ⌜ Entering (now work) stand ⌝ }
+    ensures { λ r. ⌜ Entered (now (work .entry)) (now (work .exit)) stand «is_loop» result at r ⌝ }
+{
+    let depth = stand.depth;
+    let base = stand.base;
+    let height = stand.height;
+    let dead = stand.dead;
+    let m = depth as u32 + 2;
+    put_own(work, m, is_loop, result, at);
+    put_around(work, m, base, height, dead);
+    Stand {
+        depth: depth + 1,
+        base: base + height,
+        height: 0,
+        dead: false,
+    }
+}
+
+// Opens a block, or a loop, at the place `at`: 6, then 4. "A block opened after unreachable starts empty and strict."
+pub fn open(
+    work: &mut [u32],
+    scene: Scene,
+    stand: Stand,
+    is_loop: bool,
+    result: u64,
+    at: u64,
+) -> Step
+    requires { ⌜ Opening (now work) (scene .locals) stand at ⌝ }
+    ensures { λ r. ⌜ Opened (now (work .entry)) (now (work .exit)) scene stand «is_loop» result at r ⌝ }
+{
+    let types = scene.types;
+    let reached = result_reached(types, result);
+    if !reached {
+        return Step::Fault(OUT_OF_REACH);
+    }
+    let depth = stand.depth;
+    if MOST_BLOCKS <= depth {
+        return Step::Fault(OVERSIZE);
+    }
+    let inner = enter(work, stand, is_loop, result as u32, at as u32);
+    Step::On(inner)
+}

@@ -1,0 +1,102 @@
+-- Each way out of the readers of instructions with numbers: the number that was read, and the code that was tested, make the
+-- definition give the same instruction and place.
+use Prim.Native.Nat.{ℕ, _+_, _-_, _^_, _≤_, _<_}
+use mathlib.Core.Path.{_≡_, refl, sym, ap, _∙_}
+use mathlib.Core.List.{List}
+use native.Mathlib.Omega.{arith}
+use borrow.Author.Tests.{ne-eqb}
+use Rattle.scope.specs.Reading.{Read, got, refused, then}
+use Rattle.scope.specs.Numbers.{Whole, plus, minus, u32, s32}
+use Rattle.scope.specs.Instructions.{Op, Instr, op}
+use Rattle.number.specs.declared.Natural.{Natural}
+use Rattle.number.specs.declared.Natural
+use Rattle.number.specs.declared.Integer.{Integer}
+use Rattle.number.specs.declared.Integer
+use Rattle.number.specs.Answers.{naturalIs, integerIs}
+use Rattle.number.proofs.Laws.{natural-got, natural-refused, integer-plus, integer-minus, integer-refused, signed-least}
+use Rattle.type_table.specs.Kept.{kept}
+use Rattle.body_immediates.specs.declared.Instruction.{Instruction}
+use Rattle.body_immediates.specs.declared.Instruction
+use Rattle.body_immediates.specs.declared.InstructionRead.{InstructionRead}
+use Rattle.body_immediates.specs.declared.InstructionRead
+use Rattle.body_immediates.specs.Coding.{operationOf, instructionOf, instructionIs, numbered, numberedAt, constantAt, typed, typedAt, fielded, fieldedAt}
+
+-- numbered_at
+
+module _ (b : ℕ) (s : List ℕ) (at : ℕ) {r : Natural} (a : r ≡ naturalIs (u32 s at)) where
+  pub numbered-refused : {n place : ℕ} → r ≡ Natural.the-variants.Refused n place → InstructionRead.the-variants.Refused n place ≡ instructionIs (numberedAt b s at)
+  unfolding numberedAt
+  numbered-refused e = rw (natural-refused (u32 s at) a e)
+
+  module _ {x next : ℕ} (e : r ≡ Natural.the-variants.Is x next) where
+    pub numbered-code : {i : Instruction} (c : ℕ) → b ≡ c → i ≡ operationOf (numbered c x) → InstructionRead.the-variants.Is i next ≡ instructionIs (numberedAt b s at)
+    unfolding numberedAt instructionOf
+    numbered-code c f g = rw (natural-got (u32 s at) a e, f, g)
+
+    pub numbered-tee : (b ≡ 0x0C → ⊥) → (b ≡ 0x0D → ⊥) → (b ≡ 0x20 → ⊥) → (b ≡ 0x21 → ⊥) → InstructionRead.the-variants.Is (Instruction.the-variants.LocalTee x) next ≡ instructionIs (numberedAt b s at)
+    unfolding numberedAt instructionOf operationOf
+    numbered-tee p q t u = rw (natural-got (u32 s at) a e, ne-eqb b 0x0C p, ne-eqb b 0x0D q, ne-eqb b 0x20 t, ne-eqb b 0x21 u)
+
+pub ruleset numbered-exits = (numbered-refused, numbered-code, numbered-tee)
+
+-- constant_at
+
+module _ (s : List ℕ) (at : ℕ) {r : Integer} (a : r ≡ integerIs (s32 s at)) where
+  pub constant-refused : {n place : ℕ} → r ≡ Integer.the-variants.Refused n place → InstructionRead.the-variants.Refused n place ≡ instructionIs (constantAt s at)
+  unfolding constantAt
+  constant-refused e = rw (integer-refused (s32 s at) a e)
+
+  pub constant-plus : {v next : ℕ} → r ≡ Integer.the-variants.Plus v next → InstructionRead.the-variants.Is (Instruction.the-variants.I32Const v) next ≡ instructionIs (constantAt s at)
+  unfolding constantAt instructionOf operationOf
+  constant-plus e = rw (integer-plus (s32 s at) a e)
+
+  pub constant-minus : {v next : ℕ} → r ≡ Integer.the-variants.Minus v next → InstructionRead.the-variants.Is (Instruction.the-variants.I32Const (4_294_967_296 - v)) next ≡ instructionIs (constantAt s at)
+  unfolding constantAt instructionOf operationOf
+  constant-minus e = rw (integer-minus (s32 s at) a e)
+
+  -- so it does not go below 0
+  pub constant-bound : {v next : ℕ} → r ≡ Integer.the-variants.Minus v next → v ≤ 4_294_967_296
+  constant-bound {v} {next} e = let h = signed-least 32 s at (integer-minus (s32 s at) a e) in omega arith
+
+pub ruleset constant-exits = (constant-refused, constant-plus, constant-minus, constant-bound)
+
+-- typed_at
+
+module _ (b : ℕ) (s : List ℕ) (at : ℕ) {r : Natural} (a : r ≡ naturalIs (u32 s at)) where
+  pub typed-refused : {n place : ℕ} → r ≡ Natural.the-variants.Refused n place → InstructionRead.the-variants.Refused n place ≡ instructionIs (typedAt b s at)
+  unfolding typedAt
+  typed-refused e = rw (natural-refused (u32 s at) a e)
+
+  module _ {x next : ℕ} (e : r ≡ Natural.the-variants.Is x next) where
+    pub typed-code : {i : Instruction} (c : ℕ) → b ≡ c → i ≡ operationOf (typed c x) → InstructionRead.the-variants.Is i next ≡ instructionIs (typedAt b s at)
+    unfolding typedAt instructionOf
+    typed-code c f g = rw (natural-got (u32 s at) a e, f, g)
+
+    pub typed-get-desc : {k : ℕ} → k ≡ kept x → (b ≡ 0x00 → ⊥) → (b ≡ 0x01 → ⊥) → (b ≡ 0x20 → ⊥) → (b ≡ 0x21 → ⊥) → InstructionRead.the-variants.Is (Instruction.the-variants.RefGetDesc k) next ≡ instructionIs (typedAt b s at)
+    unfolding typedAt instructionOf operationOf
+    typed-get-desc f p q t u = rw (natural-got (u32 s at) a e, ne-eqb b 0x00 p, ne-eqb b 0x01 q, ne-eqb b 0x20 t, ne-eqb b 0x21 u, f)
+
+pub ruleset typed-exits = (typed-refused, typed-code, typed-get-desc)
+
+-- fielded_at
+
+module _ (b : ℕ) (s : List ℕ) (at : ℕ) {r : Natural} (a : r ≡ naturalIs (u32 s at)) where
+  pub fielded-untyped : {n place : ℕ} → r ≡ Natural.the-variants.Refused n place → InstructionRead.the-variants.Refused n place ≡ instructionIs (fieldedAt b s at)
+  unfolding fieldedAt
+  fielded-untyped e = rw (natural-refused (u32 s at) a e)
+
+  module _ {x field : ℕ} (e : r ≡ Natural.the-variants.Is x field) {q : Natural} (c : q ≡ naturalIs (u32 s field)) where
+    pub fielded-refused : {n place : ℕ} → q ≡ Natural.the-variants.Refused n place → InstructionRead.the-variants.Refused n place ≡ instructionIs (fieldedAt b s at)
+    unfolding fieldedAt
+    fielded-refused f = rw (natural-got (u32 s at) a e, natural-refused (u32 s field) c f)
+
+    module _ {i next k : ℕ} (f : q ≡ Natural.the-variants.Is i next) (d : k ≡ kept x) where
+      pub fielded-get : b ≡ 0x02 → InstructionRead.the-variants.Is (Instruction.the-variants.StructGet k i) next ≡ instructionIs (fieldedAt b s at)
+      unfolding fieldedAt instructionOf operationOf
+      fielded-get g = rw (natural-got (u32 s at) a e, natural-got (u32 s field) c f, g, d)
+
+      pub fielded-set : (b ≡ 0x02 → ⊥) → InstructionRead.the-variants.Is (Instruction.the-variants.StructSet k i) next ≡ instructionIs (fieldedAt b s at)
+      unfolding fieldedAt instructionOf operationOf
+      fielded-set g = rw (natural-got (u32 s at) a e, natural-got (u32 s field) c f, ne-eqb b 0x02 g, d)
+
+pub ruleset fielded-exits = (fielded-untyped, fielded-refused, fielded-get, fielded-set)

@@ -1,0 +1,258 @@
+// Instructions, and the readers of what follows their codes: block types, casts, labels, locals, types and fields. An
+// instruction is answered by value. Labels, locals, fields and constants stand as they were read; a type number is the
+// kept one and a type its code, as everywhere in the table (table's Kept.antt).
+use number::Byte;
+use number::Integer;
+use number::Natural;
+use type_read::Coded;
+ghost use mathlib.Core.Path.{_≡_};
+ghost use Rattle.scope.specs.Instructions.{blockTypeAt, castAt};
+ghost use Rattle.type_read.specs.Codes.{codedIs};
+ghost use Rattle.body_immediates.specs.Coding.{resultCode, castTypesAt, castIs, instructionIs, openingAt, numberedAt, constantAt, nullAt, typedAt, fieldedAt, testedAt, castingAt};
+
+// An instruction of document 01, in its order. A block's or loop's result is 0 for none, else one more than its code. A
+// bool says "null" where an instruction has both forms. A branching cast: label, whether the source may be null, the
+// source, whether the target may be, the target.
+pub enum Instruction {
+    Unreachable,
+    Nop,
+    Block(u64),
+    Loop(u64),
+    End,
+    Br(u64),
+    BrIf(u64),
+    Return,
+    Drop,
+    LocalGet(u64),
+    LocalSet(u64),
+    LocalTee(u64),
+    I32Const(u64),
+    RefNull(u64),
+    RefIsNull,
+    RefEq,
+    RefAsNonNull,
+    StructNew(u64),
+    StructNewDefault(u64),
+    StructGet(u64, u64),
+    StructSet(u64, u64),
+    RefTest(bool, u64),
+    RefCast(bool, u64),
+    BrOnCast(u64, bool, u64, bool, u64),
+    BrOnCastFail(u64, bool, u64, bool, u64),
+    StructNewDesc(u64),
+    StructNewDefaultDesc(u64),
+    RefGetDesc(u64),
+    RefCastDescEq(bool, u64),
+    BrOnCastDescEq(u64, bool, u64, bool, u64),
+    BrOnCastDescEqFail(u64, bool, u64, bool, u64),
+}
+
+// An instruction and the place after its bytes; or a refusal's number and place.
+pub enum InstructionRead {
+    Is(Instruction, usize),
+    Refused(u64, usize),
+}
+
+// "A block has type 40 or one value type."
+fn block_type_at(s: &[u8], at: usize) -> Coded
+    ensures { λ r. ⌜ r ≡ codedIs resultCode (blockTypeAt (now (s .entry)) at) ⌝ }
+{
+    let first = number::byte_at(s, at);
+    let Byte::Is(b) = first else {
+        return Coded::Refused(1, at);
+    };
+    if b == 0x40 {
+        return Coded::Is(0, at + 1);
+    }
+    let result = type_read::val_at(s, at);
+    let Coded::Is(code, next) = result else {
+        return result;
+    };
+    Coded::Is(code + 1, next)
+}
+
+// 02 block or 03 loop.
+pub fn opening_at(s: &[u8], at: usize, code: u64) -> InstructionRead
+    ensures { λ r. ⌜ r ≡ instructionIs (openingAt code (now (s .entry)) at) ⌝ }
+{
+    let read = block_type_at(s, at);
+    match read {
+        Coded::Refused(number, place) => InstructionRead::Refused(number, place),
+        Coded::Is(result, next) => {
+            if code == 0x02 {
+                return InstructionRead::Is(Instruction::Block(result), next);
+            }
+            InstructionRead::Is(Instruction::Loop(result), next)
+        }
+    }
+}
+
+// 0C br, 0D br_if, 20/21/22 local.get/set/tee: a label or a local.
+pub fn numbered_at(s: &[u8], at: usize, code: u64) -> InstructionRead
+    ensures { λ r. ⌜ r ≡ instructionIs (numberedAt code (now (s .entry)) at) ⌝ }
+{
+    let read = number::u32_at(s, at);
+    match read {
+        Natural::Refused(number, place) => InstructionRead::Refused(number, place),
+        Natural::Is(x, next) => match code {
+            0x0C => InstructionRead::Is(Instruction::Br(x), next),
+            0x0D => InstructionRead::Is(Instruction::BrIf(x), next),
+            0x20 => InstructionRead::Is(Instruction::LocalGet(x), next),
+            0x21 => InstructionRead::Is(Instruction::LocalSet(x), next),
+            _ => InstructionRead::Is(Instruction::LocalTee(x), next),
+        },
+    }
+}
+
+// 41 i32.const: the number as 32 bits.
+pub fn constant_at(s: &[u8], at: usize) -> InstructionRead
+    ensures { λ r. ⌜ r ≡ instructionIs (constantAt (now (s .entry)) at) ⌝ }
+{
+    let read = number::s32_at(s, at);
+    match read {
+        Integer::Refused(number, place) => InstructionRead::Refused(number, place),
+        Integer::Plus(v, next) => InstructionRead::Is(Instruction::I32Const(v), next),
+        Integer::Minus(v, next) => InstructionRead::Is(Instruction::I32Const(4294967296 - v), next),
+    }
+}
+
+// D0 ref.null: a heap type.
+pub fn null_at(s: &[u8], at: usize) -> InstructionRead
+    ensures { λ r. ⌜ r ≡ instructionIs (nullAt (now (s .entry)) at) ⌝ }
+{
+    let read = type_read::heap_at(s, at);
+    match read {
+        Coded::Refused(number, place) => InstructionRead::Refused(number, place),
+        Coded::Is(heap, next) => InstructionRead::Is(Instruction::RefNull(heap), next),
+    }
+}
+
+// FB 00 struct.new, 01 struct.new_default, 20/21 the same with a descriptor, 22 ref.get_desc: a type number.
+pub fn typed_at(s: &[u8], at: usize, code: u64) -> InstructionRead
+    ensures { λ r. ⌜ r ≡ instructionIs (typedAt code (now (s .entry)) at) ⌝ }
+{
+    let read = number::u32_at(s, at);
+    match read {
+        Natural::Refused(number, place) => InstructionRead::Refused(number, place),
+        Natural::Is(x, next) => {
+            let kept = type_read::kept_number(x);
+            match code {
+                0x00 => InstructionRead::Is(Instruction::StructNew(kept), next),
+                0x01 => InstructionRead::Is(Instruction::StructNewDefault(kept), next),
+                0x20 => InstructionRead::Is(Instruction::StructNewDesc(kept), next),
+                0x21 => InstructionRead::Is(Instruction::StructNewDefaultDesc(kept), next),
+                _ => InstructionRead::Is(Instruction::RefGetDesc(kept), next),
+            }
+        }
+    }
+}
+
+// FB 02 struct.get, 05 struct.set: a type number and a field.
+pub fn fielded_at(s: &[u8], at: usize, code: u64) -> InstructionRead
+    ensures { λ r. ⌜ r ≡ instructionIs (fieldedAt code (now (s .entry)) at) ⌝ }
+{
+    let named = number::u32_at(s, at);
+    match named {
+        Natural::Refused(number, place) => InstructionRead::Refused(number, place),
+        Natural::Is(x, field) => {
+            let read = number::u32_at(s, field);
+            match read {
+                Natural::Refused(number, place) => InstructionRead::Refused(number, place),
+                Natural::Is(i, next) => {
+                    let kept = type_read::kept_number(x);
+                    if code == 0x02 {
+                        return InstructionRead::Is(Instruction::StructGet(kept, i), next);
+                    }
+                    InstructionRead::Is(Instruction::StructSet(kept, i), next)
+                }
+            }
+        }
+    }
+}
+
+// FB 14/15 ref.test (null), 16/17 ref.cast (null), 23/24 ref.cast_desc_eq (null): a heap type.
+pub fn tested_at(s: &[u8], at: usize, code: u64) -> InstructionRead
+    ensures { λ r. ⌜ r ≡ instructionIs (testedAt code (now (s .entry)) at) ⌝ }
+{
+    let read = type_read::heap_at(s, at);
+    match read {
+        Coded::Refused(number, place) => InstructionRead::Refused(number, place),
+        Coded::Is(heap, next) => match code {
+            0x14 => InstructionRead::Is(Instruction::RefTest(false, heap), next),
+            0x15 => InstructionRead::Is(Instruction::RefTest(true, heap), next),
+            0x16 => InstructionRead::Is(Instruction::RefCast(false, heap), next),
+            0x17 => InstructionRead::Is(Instruction::RefCast(true, heap), next),
+            0x23 => InstructionRead::Is(Instruction::RefCastDescEq(false, heap), next),
+            _ => InstructionRead::Is(Instruction::RefCastDescEq(true, heap), next),
+        },
+    }
+}
+
+// A branching cast's immediates, in the order of the cases of `Instruction`, and the place after; or a refusal.
+pub enum CastRead {
+    Is(u64, bool, u64, bool, u64, usize),
+    Refused(u64, usize),
+}
+
+// The label, the source and the target, after the flags.
+fn cast_types_at(s: &[u8], at: usize, source_null: bool, target_null: bool) -> CastRead
+    ensures { λ r. ⌜ r ≡ castIs (castTypesAt «source_null» «target_null» (now (s .entry)) at) ⌝ }
+{
+    let labelled = number::u32_at(s, at);
+    match labelled {
+        Natural::Refused(number, place) => CastRead::Refused(number, place),
+        Natural::Is(label, from) => {
+            let source = type_read::heap_at(s, from);
+            match source {
+                Coded::Refused(number, place) => CastRead::Refused(number, place),
+                Coded::Is(h, to) => {
+                    let target = type_read::heap_at(s, to);
+                    match target {
+                        Coded::Refused(number, place) => CastRead::Refused(number, place),
+                        Coded::Is(k, next) => CastRead::Is(
+                            label,
+                            source_null,
+                            h,
+                            target_null,
+                            k,
+                            next,
+                        ),
+                    }
+                }
+            }
+        }
+    }
+}
+
+// "Flags 0 to 3 (bit 0 source null, bit 1 target null), label, source, target."
+fn cast_at(s: &[u8], at: usize) -> CastRead
+    ensures { λ r. ⌜ r ≡ castIs (castAt (now (s .entry)) at) ⌝ }
+{
+    let first = number::byte_at(s, at);
+    let Byte::Is(flags) = first else {
+        return CastRead::Refused(1, at);
+    };
+    match flags {
+        0 => cast_types_at(s, at + 1, false, false),
+        1 => cast_types_at(s, at + 1, true, false),
+        2 => cast_types_at(s, at + 1, false, true),
+        3 => cast_types_at(s, at + 1, true, true),
+        _ => CastRead::Refused(3, at),
+    }
+}
+
+// FB 18/19 br_on_cast (fail), 25/26 br_on_cast_desc_eq (fail).
+pub fn casting_at(s: &[u8], at: usize, code: u64) -> InstructionRead
+    ensures { λ r. ⌜ r ≡ instructionIs (castingAt code (now (s .entry)) at) ⌝ }
+{
+    let read = cast_at(s, at);
+    match read {
+        CastRead::Refused(number, place) => InstructionRead::Refused(number, place),
+        CastRead::Is(label, m, h, n, k, next) => match code {
+            0x18 => InstructionRead::Is(Instruction::BrOnCast(label, m, h, n, k), next),
+            0x19 => InstructionRead::Is(Instruction::BrOnCastFail(label, m, h, n, k), next),
+            0x25 => InstructionRead::Is(Instruction::BrOnCastDescEq(label, m, h, n, k), next),
+            _ => InstructionRead::Is(Instruction::BrOnCastDescEqFail(label, m, h, n, k), next),
+        },
+    }
+}

@@ -1,0 +1,57 @@
+-- Each way out of taking one operand from the top, and of taking one or none.
+use Prim.Native.Nat.{ℕ, _+_, _-_}
+use mathlib.Core.Path.{_≡_, refl, sym}
+use mathlib.Core.Bool.{Bool, true, false, cond}
+use mathlib.Core.List.{List, [], _∷_}
+use borrow.Author.Tests.{ne-eqb}
+use Rattle.scope.specs.Syntax.{Types}
+use Rattle.scope.specs.Bodies.{fits, takeAll}
+use Rattle.lent_u32.specs.Scratch.{Word32At}
+use Rattle.body_state.specs.Standing.{operandAtCode, wantedAtCode, wantsAt, stack}
+use Rattle.body_operands.specs.declared.Take.{Take}
+use Rattle.body_operands.specs.declared.Take
+use Rattle.body_operands.specs.declared.Left.{Left}
+use Rattle.body_operands.specs.declared.Left
+use Rattle.body_operands.specs.Taking.{tookOf, leftOf, leftIn}
+use Rattle.body_operands.proofs.Laws.{stack-none, stack-some, take-empty, take-top}
+
+-- one
+
+module _ (ts : Types) (dead : Bool) (work : List ℕ) (w base : ℕ) {height : ℕ} where
+  module _ (e : height ≡ 0) where
+    pub took-unknown : dead ≡ true → tookOf work base (Take.the-variants.Took 0 0) ≡ takeAll ts dead (wantedAtCode w ∷ []) (stack work base height)
+    unfolding operandAtCode
+    took-unknown d = rw (stack-none work base e, stack-none work base {height = 0} refl, take-empty ts dead (wantedAtCode w), d)
+
+    pub took-nothing : dead ≡ false → tookOf work base Take.the-variants.Missing ≡ takeAll ts dead (wantedAtCode w ∷ []) (stack work base height)
+    took-nothing d = rw (stack-none work base e, take-empty ts dead (wantedAtCode w), d)
+
+  module _ (n : height ≡ 0 → ⊥) {o : ℕ} (a : Word32At work (768 + (base + (height - 1))) o) {below : Bool} (b : below ≡ fits ts (operandAtCode o) (wantedAtCode w)) where
+    took : takeAll ts dead (wantedAtCode w ∷ []) (stack work base height) ≡ cond below (tookOf work base (Take.the-variants.Took o (height - 1))) (tookOf work base Take.the-variants.Missing)
+    took = rw (stack-some work base n, ← a .is, take-top ts dead (wantedAtCode w) (operandAtCode o) (stack work base (height - 1)), ← b)
+
+    pub took-top : below ≡ true → tookOf work base (Take.the-variants.Took o (height - 1)) ≡ takeAll ts dead (wantedAtCode w ∷ []) (stack work base height)
+    took-top e = sym (rw e at took)
+
+    pub took-wrong : below ≡ false → tookOf work base Take.the-variants.Missing ≡ takeAll ts dead (wantedAtCode w ∷ []) (stack work base height)
+    took-wrong e = sym (rw e at took)
+
+-- one or none
+
+module _ (ts : Types) (dead : Bool) (work : List ℕ) {w : ℕ} (base height : ℕ) where
+  pub wants-none : w ≡ 0 → leftOf work base (Left.the-variants.Is height) ≡ leftIn (takeAll ts dead (wantsAt w) (stack work base height))
+  unfolding wantsAt takeAll
+  wants-none e = rw e
+
+  module _ (n : w ≡ 0 → ⊥) where
+    one-wanted : wantsAt w ≡ wantedAtCode (w - 1) ∷ []
+    unfolding wantsAt
+    one-wanted = rw (ne-eqb w 0 n)
+
+    pub wants-got : {r : Take} {o left : ℕ} → r ≡ Take.the-variants.Took o left → tookOf work base r ≡ takeAll ts dead (wantedAtCode (w - 1) ∷ []) (stack work base height) → leftOf work base (Left.the-variants.Is left) ≡ leftIn (takeAll ts dead (wantsAt w) (stack work base height))
+    wants-got e a = rw (one-wanted, ← a, e)
+
+    pub wants-missed : {r : Take} → r ≡ Take.the-variants.Missing → tookOf work base r ≡ takeAll ts dead (wantedAtCode (w - 1) ∷ []) (stack work base height) → leftOf work base Left.the-variants.Missing ≡ leftIn (takeAll ts dead (wantsAt w) (stack work base height))
+    wants-missed e a = rw (one-wanted, ← a, e)
+
+pub ruleset one-exits = (took-unknown, took-nothing, took-top, took-wrong, wants-none, wants-got, wants-missed)

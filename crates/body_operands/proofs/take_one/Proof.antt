@@ -1,0 +1,46 @@
+-- `operands::take_one` meets its contract.
+use borrow.Author.Needs.{needs}
+use Rattle.body_operands.proofs.OneTaken.{one-exits}
+use Rattle.body_operands.proofs.take_one.Statement.{statement}
+use Rattle.body_operands.proofs.take_one.Tie as tie
+
+cast-t13 : tie.Need-cast-t13
+cast-t13 c = search (one-exits, needs)
+
+returns : tie.Need-returns
+returns c = search (one-exits, needs)
+
+returns-2 : tie.Need-returns-2
+returns-2 c = search (one-exits, needs)
+
+sub-left : tie.Need-sub-left
+sub-left c = search (one-exits, needs)
+
+operand-word-requires : tie.Need-operand-word-requires
+operand-word-requires c κs = search (one-exits, needs)
+
+fits-word-requires : tie.Need-fits-word-requires
+fits-word-requires c κs = search (one-exits, needs)
+
+cast-t14 : tie.Need-cast-t14
+cast-t14 c = search (one-exits, needs)
+
+returns-3 : tie.Need-returns-3
+returns-3 c = search (one-exits, needs)
+
+returns-4 : tie.Need-returns-4
+returns-4 c = search (one-exits, needs)
+
+pub take-one-spec : {M : Type 1} → statement M
+take-one-spec =
+    tie.close
+    (tie.spec
+    cast-t13
+    returns
+    returns-2
+    sub-left
+    operand-word-requires
+    fits-word-requires
+    cast-t14
+    returns-3
+    returns-4)

@@ -1,0 +1,188 @@
+// Operands of a body's check, taken from the top of the scratch's stack and put there. Taking reads only: what is left is a
+// number of operands. Each answer is that of document 01's rules (scope's Bodies.antt) over what the words say.
+use body_state::Values;
+ghost use mathlib.Core.Path.{_≡_};
+ghost use mathlib.Core.List.{[], _∷_, _++_};
+ghost use Prim.Native.Nat.{_+_, _%_};
+ghost use lib.ListN.{length};
+ghost use Rattle.scope.specs.BodyRules.{fromTop};
+ghost use Rattle.scope.specs.Bodies.{fits, takeAll, onTop};
+ghost use Rattle.type_table.specs.View.{view};
+ghost use Rattle.body_state.specs.Standing.{operandAtCode, wantedAtCode, wantsAt, valuesOf, stack};
+ghost use Rattle.body_operands.specs.Taking.{tookOf, leftOf, leftIn, Room, Pushed};
+
+// Two more than a type's code is its word; the two words below are an unknown, and a non-null reference of unknown heap.
+const UNKNOWN: u64 = 0;
+
+const UNKNOWN_REFERENCE: u64 = 1;
+
+const KNOWN: u64 = 2;
+
+// In what is wanted: any value, and any reference.
+const ANY_VALUE: u64 = 0;
+
+const ANY_REFERENCE: u64 = 1;
+
+// The words of references begin here, after those of the four number types.
+const REFERENCES: u64 = 6;
+
+// The operand's word, and how many operands are left in the frame.
+pub enum Take {
+    Took(u32, u32),
+    Missing,
+}
+
+// How many operands are left in the frame.
+pub enum Left {
+    Is(u32),
+    Missing,
+}
+
+// "An unknown is below every type": a non-null reference of unknown heap, below every reference type.
+pub fn fits_word(rows: &[u16], codes: &[u16], o: u64, w: u64) -> bool
+    ensures { λ r. ⌜ r ≡ fits (view (now (rows .entry)) (now (codes .entry))) (operandAtCode o) (wantedAtCode w) ⌝ }
+{
+    if o == UNKNOWN {
+        return true;
+    }
+    if w == ANY_VALUE {
+        return true;
+    }
+    if o == UNKNOWN_REFERENCE {
+        if w == ANY_REFERENCE {
+            return true;
+        }
+        return REFERENCES <= w;
+    }
+    if w == ANY_REFERENCE {
+        return REFERENCES <= o;
+    }
+    type_order::val_below(rows, codes, o - KNOWN, w - KNOWN)
+}
+
+// One operand from the top.
+pub fn take_one(
+    rows: &[u16],
+    codes: &[u16],
+    work: &[u32],
+    w: u64,
+    base: u32,
+    height: u32,
+    dead: bool,
+) -> Take
+    ensures { λ r. ⌜ tookOf (now (work .entry)) base r ≡ takeAll (view (now (rows .entry)) (now (codes .entry))) dead (wantedAtCode w ∷ []) (stack (now (work .entry)) base height) ⌝ }
+{
+    if height == 0 {
+        if dead {
+            return Take::Took(UNKNOWN as u32, 0);
+        }
+        return Take::Missing;
+    }
+    let left = height - 1;
+    let o = body_state::operand_word(work, base, left);
+    let below = fits_word(rows, codes, o, w);
+    if below {
+        return Take::Took(o as u32, left);
+    }
+    Take::Missing
+}
+
+// One operand or none: 0 is none, else one more than the word of what is wanted.
+fn take_some(
+    rows: &[u16],
+    codes: &[u16],
+    work: &[u32],
+    w: u64,
+    base: u32,
+    height: u32,
+    dead: bool,
+) -> Left
+    ensures { λ r. ⌜ leftOf (now (work .entry)) base r ≡ leftIn (takeAll (view (now (rows .entry)) (now (codes .entry))) dead (wantsAt w) (stack (now (work .entry)) base height)) ⌝ }
+{
+    if w == 0 {
+        return Left::Is(height);
+    }
+    let taken = take_one(rows, codes, work, w - 1, base, height, dead);
+    match taken {
+        Take::Took(_, left) => Left::Is(left),
+        Take::Missing => Left::Missing,
+    }
+}
+
+// The types of a list, the last first.
+pub fn take_list(
+    rows: &[u16],
+    codes: &[u16],
+    work: &[u32],
+    list: Values,
+    base: u32,
+    height: u32,
+    dead: bool,
+) -> Left
+    ensures { λ r. ⌜ leftOf (now (work .entry)) base r ≡ leftIn (takeAll (view (now (rows .entry)) (now (codes .entry))) dead (fromTop (valuesOf (now (codes .entry)) list)) (stack (now (work .entry)) base height)) ⌝ }
+{
+    let mut i = body_state::length_of(list);
+    let mut left = height;
+    while 0 < i {
+        let last = i - 1;
+        let code = body_state::code_of(codes, list, last);
+        let taken = take_one(rows, codes, work, code + KNOWN, base, left, dead);
+        let Take::Took(_, fewer) = taken else {
+            return Left::Missing;
+        };
+        left = fewer;
+        i = last;
+    }
+    Left::Is(left)
+}
+
+// What a plan takes: one or none, one or none, and the types of a list.
+pub fn take_plan(
+    rows: &[u16],
+    codes: &[u16],
+    work: &[u32],
+    top: u64,
+    second: u64,
+    rest: Values,
+    base: u32,
+    height: u32,
+    dead: bool,
+) -> Left
+    ensures { λ r. ⌜ leftOf (now (work .entry)) base r ≡ leftIn (takeAll (view (now (rows .entry)) (now (codes .entry))) dead (wantsAt top ++ (wantsAt second ++ fromTop (valuesOf (now (codes .entry)) rest))) (stack (now (work .entry)) base height)) ⌝ }
+{
+    let first = take_some(rows, codes, work, top, base, height, dead);
+    let Left::Is(below) = first else {
+        return Left::Missing;
+    };
+    let next = take_some(rows, codes, work, second, base, below, dead);
+    let Left::Is(left) = next else {
+        return Left::Missing;
+    };
+    take_list(rows, codes, work, rest, base, left, dead)
+}
+
+// An operand's word on top.
+pub fn push(work: &mut [u32], base: u32, height: u32, o: u64)
+    requires { ⌜ Room (now work) base height 1 ⌝ }
+    ensures { λ r. ⌜ Pushed (now (work .entry)) (now (work .exit)) base height (height + 1) (operandAtCode (o % 4294967296) ∷ []) ⌝ }
+{
+    lent_u32::put32(
+        work,
+        body_state::OPERANDS + (base as u64 + height as u64),
+        o,
+    );
+}
+
+// The types of a list, the last on top.
+pub fn push_list(codes: &[u16], work: &mut [u32], list: Values, base: u32, height: u32)
+    requires { ⌜ Room (now work) base height (length (valuesOf (now codes) list)) ⌝ }
+    ensures { λ r. ⌜ Pushed (now (work .entry)) (now (work .exit)) base height (height + length (valuesOf (now (codes .entry)) list)) (onTop (valuesOf (now (codes .entry)) list)) ⌝ }
+{
+    let n = body_state::length_of(list);
+    let mut i: u32 = 0;
+    while i < n {
+        let code = body_state::code_of(codes, list, i);
+        push(work, base, height + i, code + KNOWN);
+        i = i + 1;
+    }
+}

@@ -1,0 +1,119 @@
+-- What the questions about labels answer, and what it is that a plan follows the rule of an instruction that branches.
+use Prim.Native.Nat.{ℕ, _<_}
+use mathlib.Core.Path.{_≡_}
+use mathlib.Core.Bool.{Bool, true, false, not}
+use mathlib.Core.Option.{Option, none, some}
+use mathlib.Core.List.{List, [], _∷_, _++_, map}
+use lib.ListN.{getElem?}
+use lib.Dec.{ltb}
+use Rattle.scope.specs.Refusals.{outOfReach, absent, badBranch}
+use Rattle.scope.specs.Lists.{every}
+use Rattle.scope.specs.Syntax.{Heap, Val, Types}
+use Rattle.scope.specs.Order.{valBelow}
+use Rattle.scope.specs.TypeRules.{heapNames}
+use Rattle.scope.specs.Instructions.{Cast, Op, br-on-cast, br-on-cast-fail, br-on-cast-desc-eq, br-on-cast-desc-eq-fail}
+use Rattle.scope.specs.BodyRules.{Context, value, values, Ruled, allowed, fault, test, need, takes, fromTop, lastOf, branches, targetOf, restOf, planOf}
+use Rattle.scope.specs.Bodies.{labelOf}
+use Rattle.type_table.specs.View.{heapAtCode, valAtCode, codesAt}
+use Rattle.body_state.specs.declared.Scene.{Scene}
+use Rattle.body_state.specs.declared.Values.{Values}
+use Rattle.body_state.specs.declared.Planned.{Planned}
+use Rattle.body_state.specs.Standing.{wantsAt, valuesOf, plannedOf, frameAt, framesAt}
+use Rattle.body_plan_parts.specs.Planning.{contextOn}
+use Rattle.body_plan_branches.specs.declared.Label.{Label}
+use Rattle.body_plan_branches.specs.declared.Label
+use Rattle.body_plan_branches.specs.declared.Target.{Target}
+use Rattle.body_plan_branches.specs.declared.Target
+use Rattle.body_plan_branches.specs.declared.Split.{Split}
+use Rattle.body_plan_branches.specs.declared.Split
+use Rattle.body_plan_branches.specs.declared.Reference.{Reference}
+
+-- labels
+
+-- the labels within so many open blocks, innermost first
+unfoldable pub labelsAt : List ℕ → List ℕ → Scene → ℕ → List (List Val)
+labelsAt codes work k depth =
+    map labelOf (framesAt work (k .locals) depth) ++ codesAt valAtCode codes (k .first) (k .results) ∷ []
+
+abbrev pub labelOption : List ℕ → Label → Option (List Val)
+labelOption codes Label.the-variants.Absent = none
+labelOption codes (Label.the-variants.Is vs) = some (valuesOf codes vs)
+
+pub record BlockLabel (work : List ℕ) (m : ℕ) (r : Values) : Type 0 where
+  pub is : (codes : List ℕ) (count : ℕ) → valuesOf codes r ≡ labelOf (frameAt work count m)
+
+pub record LabelOf (work : List ℕ) (k : Scene) (depth l : ℕ) (r : Label) : Type 0 where
+  pub is : (codes : List ℕ) → labelOption codes r ≡ getElem? (labelsAt codes work k depth) l
+
+-- The plan r is what the rule of an instruction says, where the instruction looks at the labels alone.
+pub record Goes (work : List ℕ) (k : Scene) (depth : ℕ) (o : Op) (r : Planned) : Type 0 where
+  pub is : (codes : List ℕ) (c : Context) (isSet : List Bool) → plannedOf codes r
+      ≡ planOf c (record { labels = labelsAt codes work k depth; isSet = isSet }) o
+
+-- The same, where it looks at the types too.
+pub record Branching (codes : List ℕ) (ts : Types) (count : ℕ) (labels : List (List Val)) (o : Op) (r : Planned) : Type 0 where
+  pub is : (locals results : List Val) (isSet : List Bool) → plannedOf codes r
+      ≡ planOf (contextOn ts count locals results) (record { labels = labels; isSet = isSet }) o
+
+-- branching casts
+
+abbrev pub splitOption : List ℕ → Split → Option (List Val × Val)
+splitOption codes Split.the-variants.Nothing = none
+splitOption codes (Split.the-variants.Is before last) = some (valuesOf codes before, valAtCode last)
+
+pub record SplitOf (codes : List ℕ) (vs : Values) (r : Split) : Type 0 where
+  pub is : splitOption codes r ≡ lastOf (valuesOf codes vs)
+
+-- the cast to a label between two reference types
+abbrev pub castWith : ℕ → Reference → Reference → Cast
+castWith l source target =
+    record { label = l; sourceNull = source .null; source = heapAtCode (source .heap); targetNull = target .null; target = heapAtCode (target .heap) }
+
+-- the plain form, or the fail form
+unfoldable pub castOp : Bool → Cast → Op
+castOp true k = br-on-cast-fail k
+castOp false k = br-on-cast k
+
+unfoldable pub descOp : Bool → Cast → Op
+descOp true k = br-on-cast-desc-eq-fail k
+descOp false k = br-on-cast-desc-eq k
+
+abbrev pub targetRuled : List ℕ → Target → Ruled (List Val)
+targetRuled codes (Target.the-variants.Fault n) = fault n
+targetRuled codes (Target.the-variants.Is vs) = allowed (valuesOf codes vs)
+
+-- 6 and 21 of a branching cast
+unfoldable pub castLabelAt : List (List Val) → ℕ → ℕ → Heap → Heap → Ruled (List Val)
+castLabelAt labels count l source target =
+    test (every (λ x. ltb x count) (heapNames source ++ heapNames target)) outOfReach (need (getElem? labels l) absent allowed)
+
+-- two small codes of heap types, and two of value types
+pub record Low (a b : ℕ) : Type 0 where
+  pub first : a < 500_000
+  pub second : b < 500_000
+
+pub record Small (a b : ℕ) : Type 0 where
+  pub first : a < 1_048_576
+  pub second : b < 1_048_576
+
+pub record CastLabel (work : List ℕ) (k : Scene) (depth l source target : ℕ) (r : Target) : Type 0 where
+  pub is : (codes : List ℕ) → targetRuled codes r
+      ≡ castLabelAt (labelsAt codes work k depth) (k .types) l (heapAtCode source) (heapAtCode target)
+  pub low : (vs : Values) → r ≡ Target.the-variants.Is vs → Low source target
+
+-- 25, by codes: what is taken before the object is one word's
+pub record Carries (codes : List ℕ) (ts : Types) (first source target carried falls : ℕ) (label : Values) (r : Planned) : Type 0 where
+  pub is : plannedOf codes r
+      ≡ test (valBelow ts (valAtCode target) (valAtCode source)) badBranch
+      (need (lastOf (valuesOf codes label)) badBranch (λ split.
+      test (valBelow ts (valAtCode carried) (split .1)) badBranch
+      (takes (wantsAt first ++ value (valAtCode source) ∷ fromTop (split .0)) (values (split .0 ++ valAtCode falls ∷ [])))))
+
+-- 25, by the cast
+abbrev pub carriedOf : Bool → Cast → Val
+carriedOf true k = restOf k
+carriedOf false k = targetOf k
+
+pub record Casts (codes : List ℕ) (ts : Types) (first : ℕ) (source target : Reference) (fail : Bool) (label : Values) (r : Planned) : Type 0 where
+  pub is : (l count : ℕ) (locals results : List Val) → plannedOf codes r
+      ≡ branches (contextOn ts count locals results) (wantsAt first) (castWith l source target) (carriedOf fail (castWith l source target)) (carriedOf (not fail) (castWith l source target)) (valuesOf codes label)

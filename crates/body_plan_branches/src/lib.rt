@@ -1,0 +1,279 @@
+// The rules of the instructions that branch: br, br_if and the branching casts. The tests stand in document 01's order:
+// 6, 21, 23, 25.
+use body_plan_parts::ABSENT;
+use body_plan_parts::BAD_BRANCH;
+use body_plan_parts::BAD_STRUCT;
+use body_plan_parts::GIVEN;
+use body_plan_parts::I32;
+use body_plan_parts::OUT_OF_REACH;
+use body_plan_parts::WANTED;
+use body_state::LOOP;
+use body_state::MOST;
+use body_state::Plain;
+use body_state::Planned;
+use body_state::Scene;
+use body_state::Values;
+use type_table::Link;
+ghost use mathlib.Core.Bool.{not, _&&_};
+ghost use Prim.Native.Nat.{_<_};
+ghost use Rattle.scope.specs.Instructions.{br, br-if};
+ghost use Rattle.scope.specs.Syntax.{ref};
+ghost use Rattle.type_table.specs.View.{heapAtCode, view};
+ghost use Rattle.body_plan_parts.specs.Planning.{CodeIs};
+ghost use Rattle.body_plan_branches.specs.Branches.{labelsAt, BlockLabel, LabelOf, SplitOf, Goes, castWith, castOp, descOp, CastLabel, Low, Small, Carries, Casts, Branching};
+
+// The types of a label.
+pub enum Label {
+    Absent,
+    Is(Values),
+}
+
+// The types of a label in a branching cast's reach, or a refusal's number.
+pub enum Target {
+    Fault(u64),
+    Is(Values),
+}
+
+// A list's last type by its code, and those before it.
+pub enum Split {
+    Nothing,
+    Is(Values, u64),
+}
+
+// A reference type: whether it may be null, and its heap type's code.
+pub struct Reference {
+    pub null: bool,
+    pub heap: u64,
+}
+
+// The types of the label of frame m. A loop's label has none.
+fn block_label(work: &[u32], m: u32) -> Values
+    ensures { λ r. ⌜ BlockLabel (now (work .entry)) m r ⌝ }
+{
+    let loops = body_state::frame_word(work, m, LOOP);
+    if loops == 1 {
+        return Values::Types(0, 0);
+    }
+    body_state::results_of(work, m)
+}
+
+// Label l from within so many blocks: the innermost is label 0, the function's own the last.
+pub fn label_of(work: &[u32], scene: Scene, depth: u16, l: u64) -> Label
+    ensures { λ r. ⌜ LabelOf (now (work .entry)) scene depth l r ⌝ }
+{
+    let blocks = depth as u64;
+    if blocks < l {
+        return Label::Absent;
+    }
+    if blocks == l {
+        let first = scene.first;
+        let results = scene.results;
+        return Label::Is(Values::Types(first, results));
+    }
+    let label = block_label(work, (blocks - l + 1) as u32);
+    Label::Is(label)
+}
+
+// br l
+pub fn br(work: &[u32], scene: Scene, depth: u16, l: u64) -> Planned
+    ensures { λ r. ⌜ Goes (now (work .entry)) scene depth (br l) r ⌝ }
+{
+    let label = label_of(work, scene, depth, l);
+    match label {
+        Label::Absent => Planned::Fault(ABSENT),
+        Label::Is(values) => body_plan_parts::stops(values),
+    }
+}
+
+// br_if l
+pub fn br_if(work: &[u32], scene: Scene, depth: u16, l: u64) -> Planned
+    ensures { λ r. ⌜ Goes (now (work .entry)) scene depth (br-if l) r ⌝ }
+{
+    let label = label_of(work, scene, depth, l);
+    match label {
+        Label::Absent => Planned::Fault(ABSENT),
+        Label::Is(values) => {
+            let top = I32 + WANTED;
+            Planned::Plain(Plain {
+                top: top,
+                second: 0,
+                rest: values,
+                back: true,
+                gives: 0,
+                marks: 0,
+                stops: false,
+            })
+        }
+    }
+}
+
+// A list's last type.
+fn split_last(codes: &[u16], values: Values) -> Split
+    ensures { λ r. ⌜ SplitOf (now (codes .entry)) values r ⌝ }
+{
+    match values {
+        Values::Types(first, n) => {
+            if n == 0 {
+                return Split::Nothing;
+            }
+            let before = n - 1;
+            let code = lent_u16::word(codes, first as u64 + before as u64);
+            Split::Is(Values::Types(first, before), code)
+        }
+        Values::Fields(first, n) => {
+            if n == 0 {
+                return Split::Nothing;
+            }
+            let before = n - 1;
+            let field = lent_u16::word(codes, first as u64 + before as u64);
+            Split::Is(Values::Fields(first, before), field / 2)
+        }
+        Values::One(c) => {
+            let code = c as u64 % MOST;
+            Split::Is(Values::Types(0, 0), code)
+        }
+    }
+}
+
+// The types of a branching cast's label, where its heap types are in reach.
+fn cast_label(work: &[u32], scene: Scene, depth: u16, l: u64, source: u64, target: u64) -> Target
+    ensures { λ r. ⌜ CastLabel (now (work .entry)) scene depth l source target r ⌝ }
+{
+    let types = scene.types;
+    if !type_reach::heap_in_reach(source, types as u64) {
+        return Target::Fault(OUT_OF_REACH);
+    }
+    if !type_reach::heap_in_reach(target, types as u64) {
+        return Target::Fault(OUT_OF_REACH);
+    }
+    let label = label_of(work, scene, depth, l);
+    match label {
+        Label::Absent => Target::Fault(ABSENT),
+        Label::Is(values) => Target::Is(values),
+    }
+}
+
+// The code of the rest: the source, not null where the target may be null.
+fn rest_code(source: bool, target: bool, heap: u64) -> u64
+    requires { ⌜ heap < 500000 ⌝ }
+    ensures { λ r. ⌜ CodeIs (ref (source && not target) (heapAtCode heap)) r ⌝ }
+{
+    if target {
+        body_plan_parts::ref_code(false, heap)
+    } else {
+        body_plan_parts::ref_code(source, heap)
+    }
+}
+
+// A branching cast's rule, by codes: the target is below the source, and what is carried below the label's last type.
+// `first` is taken before the object.
+fn carries(
+    rows: &[u16],
+    codes: &[u16],
+    first: u64,
+    source: u64,
+    target: u64,
+    carried: u64,
+    falls: u64,
+    label: Values,
+) -> Planned
+    requires { ⌜ Small source falls ⌝ }
+    ensures { λ r. ⌜ Carries (now (codes .entry)) (view (now (rows .entry)) (now (codes .entry))) first source target carried falls label r ⌝ }
+{
+    if !type_order::val_below(rows, codes, target, source) {
+        return Planned::Fault(BAD_BRANCH);
+    }
+    let split = split_last(codes, label);
+    match split {
+        Split::Nothing => Planned::Fault(BAD_BRANCH),
+        Split::Is(before, last) => {
+            if !type_order::val_below(rows, codes, carried, last) {
+                return Planned::Fault(BAD_BRANCH);
+            }
+            let second = source + WANTED;
+            let gives = falls + GIVEN;
+            Planned::Plain(Plain {
+                top: first,
+                second: second,
+                rest: before,
+                back: true,
+                gives: gives,
+                marks: 0,
+                stops: false,
+            })
+        }
+    }
+}
+
+// The plain form carries the target and falls through with the rest, the fail form the other way round.
+fn casts(
+    rows: &[u16],
+    codes: &[u16],
+    first: u64,
+    source: Reference,
+    target: Reference,
+    fail: bool,
+    label: Values,
+) -> Planned
+    requires { ⌜ Low (source .heap) (target .heap) ⌝ }
+    ensures { λ r. ⌜ Casts (now (codes .entry)) (view (now (rows .entry)) (now (codes .entry))) first source target fail label r ⌝ }
+{
+    let from = body_plan_parts::ref_code(source.null, source.heap);
+    let to = body_plan_parts::ref_code(target.null, target.heap);
+    let rest = rest_code(source.null, target.null, source.heap);
+    if fail {
+        return carries(rows, codes, first, from, to, rest, to, label);
+    }
+    carries(rows, codes, first, from, to, to, rest, label)
+}
+
+// br_on_cast and br_on_cast_fail.
+pub fn br_on_cast(
+    rows: &[u16],
+    codes: &[u16],
+    work: &[u32],
+    scene: Scene,
+    depth: u16,
+    l: u64,
+    source: Reference,
+    target: Reference,
+    fail: bool,
+) -> Planned
+    ensures { λ r. ⌜ Branching (now (codes .entry)) (view (now (rows .entry)) (now (codes .entry))) (scene .types) (labelsAt (now (codes .entry)) (now (work .entry)) scene depth) (castOp fail (castWith l source target)) r ⌝ }
+{
+    let label = cast_label(work, scene, depth, l, source.heap, target.heap);
+    match label {
+        Target::Fault(number) => Planned::Fault(number),
+        Target::Is(values) => casts(rows, codes, 0, source, target, fail, values),
+    }
+}
+
+// br_on_cast_desc_eq and br_on_cast_desc_eq_fail: the target's descriptor is taken first.
+pub fn br_on_cast_desc(
+    rows: &[u16],
+    codes: &[u16],
+    work: &[u32],
+    scene: Scene,
+    depth: u16,
+    l: u64,
+    source: Reference,
+    target: Reference,
+    fail: bool,
+) -> Planned
+    ensures { λ r. ⌜ Branching (now (codes .entry)) (view (now (rows .entry)) (now (codes .entry))) (scene .types) (labelsAt (now (codes .entry)) (now (work .entry)) scene depth) (descOp fail (castWith l source target)) r ⌝ }
+{
+    let label = cast_label(work, scene, depth, l, source.heap, target.heap);
+    match label {
+        Target::Fault(number) => Planned::Fault(number),
+        Target::Is(values) => {
+            let descriptor = body_plan_casts::descriptor_for(rows, codes, target.heap);
+            match descriptor {
+                Link::Nothing => Planned::Fault(BAD_STRUCT),
+                Link::To(d) => {
+                    let top = body_plan_parts::ref_code(true, d);
+                    casts(rows, codes, top + WANTED, source, target, fail, values)
+                }
+            }
+        }
+    }
+}

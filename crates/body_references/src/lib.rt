@@ -1,0 +1,123 @@
+// The two instructions whose result depends on the reference that they take: ref.as_non_null and ref.get_desc.
+use body_operands::Take;
+use body_state::Scene;
+use body_state::Stand;
+use body_state::Step;
+ghost use mathlib.Core.Path.{_≡_};
+ghost use mathlib.Core.Bool.{cond};
+ghost use Rattle.scope.specs.Syntax.{nullable, nonNull, defined, exact};
+ghost use Rattle.scope.specs.BodyRules.{value};
+ghost use Rattle.scope.specs.Bodies.{known, fits, nonNullOf, within};
+ghost use Rattle.type_table.specs.View.{view};
+ghost use Rattle.body_state.specs.Standing.{operandAtCode, stack, contextAt, stateAt, Upright, Stepped};
+ghost use Rattle.body_references.specs.OneMore.{withTop, nonNullDone, descriptorDone};
+
+// By which number each rule is refused.
+const OVERSIZE: u64 = 4;
+
+const BAD_OPERAND: u64 = 20;
+
+// A non-null reference of unknown heap, and where the words of references begin.
+const UNKNOWN_REFERENCE: u32 = 1;
+
+const REFERENCES: u32 = 6;
+
+// In what is wanted, any reference.
+const ANY_REFERENCE: u64 = 1;
+
+// One operand on top of those that are left of the frame's.
+fn put_operand(work: &mut [u32], locals: u16, stand: Stand, left: u32, o: u32) -> Step
+    requires { ⌜ Upright (now work) locals stand ⌝ }
+    ensures { λ r. ⌜ Stepped (now (work .entry)) (now (work .exit)) locals (stand .depth) (within (withTop (stateAt (now (work .entry)) locals stand) (operandAtCode o) (stack (now (work .entry)) (stand .base) left))) r ⌝ }
+{
+    let depth = stand.depth;
+    let base = stand.base;
+    let dead = stand.dead;
+    if body_push::MOST_OPERANDS < base as u64 + (left as u64 + 1) {
+        return Step::Fault(OVERSIZE);
+    }
+    body_operands::push(work, base, left, o as u64);
+    Step::On(Stand {
+        depth: depth,
+        base: base,
+        height: left + 1,
+        dead: dead,
+    })
+}
+
+// The reference that was taken, not null.
+fn non_null_word(o: u32) -> u32
+    ensures { λ r. ⌜ operandAtCode r ≡ nonNullOf (operandAtCode o) ⌝ }
+{
+    if o == 0 {
+        return UNKNOWN_REFERENCE;
+    }
+    if o < REFERENCES {
+        return o;
+    }
+    if o % 2 == 1 {
+        return o - 1;
+    }
+    o
+}
+
+// "ref.as_non_null of an unknown is a non-null reference of unknown heap."
+pub fn do_non_null(
+    rows: &[u16],
+    codes: &[u16],
+    work: &mut [u32],
+    scene: Scene,
+    stand: Stand,
+) -> Step
+    requires { ⌜ Upright (now work) (scene .locals) stand ⌝ }
+    ensures { λ r. ⌜ Stepped (now (work .entry)) (now (work .exit)) (scene .locals) (stand .depth) (nonNullDone (contextAt (now (rows .entry)) (now (codes .entry)) (now (work .entry)) scene) (stateAt (now (work .entry)) (scene .locals) stand)) r ⌝ }
+{
+    let locals = scene.locals;
+    let base = stand.base;
+    let height = stand.height;
+    let dead = stand.dead;
+    let taken = body_operands::take_one(rows, codes, work, ANY_REFERENCE, base, height, dead);
+    let Take::Took(o, left) = taken else {
+        return Step::Fault(BAD_OPERAND);
+    };
+    let word = non_null_word(o);
+    put_operand(work, locals, stand, left, word)
+}
+
+// "(ref y), exact when the operand is below (ref null (exact x))."
+fn descriptor_word(rows: &[u16], codes: &[u16], o: u32, x: u16, y: u16) -> u32
+    ensures { λ r. ⌜ operandAtCode r ≡ known (nonNull (cond (fits (view (now (rows .entry)) (now (codes .entry))) (operandAtCode o) (value (nullable (exact x)))) (exact y) (defined y))) ⌝ }
+{
+    let exact_x = 2 + (5 + 2 * (11 + 2 * x as u64));
+    let exactly = body_operands::fits_word(rows, codes, o as u64, exact_x);
+    if exactly {
+        return 2 + (4 + 2 * (11 + 2 * y as u32));
+    }
+    2 + (4 + 2 * (10 + 2 * y as u32))
+}
+
+// "ref.get_desc x takes (ref null x)."
+pub fn do_descriptor(
+    rows: &[u16],
+    codes: &[u16],
+    work: &mut [u32],
+    scene: Scene,
+    stand: Stand,
+    x: u16,
+    y: u16,
+) -> Step
+    requires { ⌜ Upright (now work) (scene .locals) stand ⌝ }
+    ensures { λ r. ⌜ Stepped (now (work .entry)) (now (work .exit)) (scene .locals) (stand .depth) (descriptorDone x y (contextAt (now (rows .entry)) (now (codes .entry)) (now (work .entry)) scene) (stateAt (now (work .entry)) (scene .locals) stand)) r ⌝ }
+{
+    let locals = scene.locals;
+    let base = stand.base;
+    let height = stand.height;
+    let dead = stand.dead;
+    let wanted = 2 + (5 + 2 * (10 + 2 * x as u64));
+    let taken = body_operands::take_one(rows, codes, work, wanted, base, height, dead);
+    let Take::Took(o, left) = taken else {
+        return Step::Fault(BAD_OPERAND);
+    };
+    let word = descriptor_word(rows, codes, o, x, y);
+    put_operand(work, locals, stand, left, word)
+}

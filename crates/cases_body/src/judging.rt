@@ -1,0 +1,108 @@
+// One line for each case: its name; `yes` with the count of instructions, or `no` with the refusal's number and place; and
+// `zero` or `not zero`, for what lent memory holds afterwards. Every element of it holds rubbish before the call.
+use cases_text::zero;
+use cases_text::zero32;
+use libc::STDOUT_FILENO;
+use scope::Verdict;
+
+// How many elements of each buffer are lent.
+pub struct Lent {
+    pub rows: u64,
+    pub codes: u64,
+    pub work: u64,
+}
+
+// A space, and a number.
+fn tell_number(n: u64) {
+    io::write_all(STDOUT_FILENO, b" ");
+    io::print_decimal(STDOUT_FILENO, n);
+}
+
+fn tell_verdict(verdict: Verdict) {
+    match verdict {
+        Verdict::Accepted(count) => {
+            io::write_all(STDOUT_FILENO, b" yes");
+            tell_number(count);
+        }
+        Verdict::Refused(number, place) => {
+            io::write_all(STDOUT_FILENO, b" no");
+            tell_number(number);
+            tell_number(place);
+        }
+    }
+}
+
+fn tell_memory(rows: &[u16], codes: &[u16], work: &[u32]) {
+    if zero(rows) {
+        if zero(codes) {
+            if zero32(work) {
+                io::write_all(STDOUT_FILENO, b" zero\n");
+                return;
+            }
+        }
+    }
+    io::write_all(STDOUT_FILENO, b" not zero\n");
+}
+
+fn judged_in(
+    name: &[u8],
+    section: &[u8],
+    body: &[u8],
+    number: u64,
+    rows: &mut [u16],
+    codes: &mut [u16],
+    work: &mut [u32],
+) {
+    let verdict = body_call::judge_body(section, body, number, rows, codes, work);
+    io::write_all(STDOUT_FILENO, name);
+    tell_verdict(verdict);
+    tell_memory(rows, codes, work);
+}
+
+// So many elements of each buffer are lent.
+fn judged_within(
+    name: &[u8],
+    section: &[u8],
+    body: &[u8],
+    number: u64,
+    lent: Lent,
+    rows: &mut [u16],
+    codes: &mut [u16],
+    work: &mut [u32],
+) {
+    let r = lent.rows as usize;
+    let c = lent.codes as usize;
+    let w = lent.work as usize;
+    if r <= rows.len() {
+        if c <= codes.len() {
+            if w <= work.len() {
+                judged_in(
+                    name,
+                    section,
+                    body,
+                    number,
+                    &mut rows[0..r],
+                    &mut codes[0..c],
+                    &mut work[0..w],
+                );
+            }
+        }
+    }
+}
+
+// Judges one body in fresh memory that holds rubbish, and writes the case's line.
+pub fn judged(name: &[u8], section: &[u8], body: &[u8], number: u64, lent: Lent) {
+    let mut rows = [42405u16; 3073];
+    let mut codes = [42405u16; 32769];
+    let mut work = [2779096485u32; 4097];
+    judged_within(
+        name,
+        section,
+        body,
+        number,
+        lent,
+        &mut rows,
+        &mut codes,
+        &mut work,
+    );
+}

@@ -1,0 +1,117 @@
+// The lines of the cases. From a `#` on a line is a remark. What stands before it is, by its first signs:
+//   :   the number of a function type, and the section that has it, for the cases that follow: `: 2 02 4E ..`
+//   =r  how many elements of `rows` are lent to the cases that follow: `=r 3071`; so =c for `codes` and =w for `work`
+// and anything else a case: its name, and the bytes of its body.
+use crate::judging::Lent;
+use crate::judging::judged;
+use cases_text::bytes;
+use cases_text::decimal;
+use cases_text::find;
+use cases_text::part;
+
+const SPACE: u8 = b' ';
+
+const LINE_END: u8 = b'\n';
+
+const REMARK: u8 = b'#';
+
+const SECTION: u8 = b':';
+
+const LENT: u8 = b'=';
+
+const ROWS: u8 = b'r';
+
+const CODES: u8 = b'c';
+
+// What the lines so far have fixed: how many bytes the section has, the function type's number, and the lent elements.
+pub struct Setting {
+    length: usize,
+    number: u64,
+    lent: Lent,
+}
+
+// A line's sign at a place, and past the end a line's end.
+fn sign(line: &[u8], at: usize) -> u8 {
+    if at < line.len() { line[at] } else { LINE_END }
+}
+
+// A line that begins with `:`.
+fn with_section(old: Setting, line: &[u8], section: &mut [u8]) -> Setting {
+    let to = find(line, 2, SPACE);
+    let number = decimal(part(line, 2, to));
+    let length = bytes(section, line, to);
+    let lent = old.lent;
+    Setting {
+        length,
+        number,
+        lent,
+    }
+}
+
+// A line that begins with `=`.
+fn with_lent(old: Setting, line: &[u8]) -> Setting {
+    let count = decimal(part(line, 2, line.len()));
+    let mut lent = old.lent;
+    match sign(line, 1) {
+        ROWS => lent.rows = count,
+        CODES => lent.codes = count,
+        _ => lent.work = count,
+    }
+    Setting {
+        length: old.length,
+        number: old.number,
+        lent,
+    }
+}
+
+// A case: its body is judged against the section of the lines before it.
+fn case(setting: Setting, line: &[u8], section: &[u8], body: &mut [u8]) {
+    let to = find(line, 0, SPACE);
+    let end = bytes(body, line, to);
+    let length = setting.length;
+    judged(
+        part(line, 0, to),
+        part(section, 0, length),
+        part(body, 0, end),
+        setting.number,
+        setting.lent,
+    );
+}
+
+// One line, up to its remark.
+fn read(setting: Setting, whole: &[u8], section: &mut [u8], body: &mut [u8]) -> Setting {
+    let end = find(whole, 0, REMARK);
+    let line = part(whole, 0, end);
+    match sign(line, 0) {
+        LINE_END => setting,
+        SECTION => with_section(setting, line, section),
+        LENT => with_lent(setting, line),
+        _ => {
+            case(setting, line, section, body);
+            setting
+        }
+    }
+}
+
+// Every line of a text. Both buffers have room for one byte more than a section or a body may have.
+pub fn all(text: &[u8], section: &mut [u8], body: &mut [u8]) {
+    let mut setting = Setting {
+        length: 0,
+        number: 0,
+        lent: Lent {
+            rows: 3072,
+            codes: 32768,
+            work: 4096,
+        },
+    };
+    let mut from: usize = 0;
+    while from < text.len() {
+        let to = find(text, from, LINE_END);
+        let line = part(text, from, to);
+        setting = read(setting, line, section, body);
+        if text.len() <= to {
+            return;
+        }
+        from = to + 1;
+    }
+}

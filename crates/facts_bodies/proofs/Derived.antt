@@ -1,0 +1,58 @@
+-- A rule's derivation is a plan of the checker: each premise makes its test pass, so the rule's plan is what is left.
+use mathlib.Core.Path.{_≡_, refl}
+use mathlib.Core.Bool.{true}
+use mathlib.Core.List.{List, [], _∷_, _++_}
+use lib.Dec.{ltb}
+use Rattle.scope.specs.Syntax.{Val, nullable}
+use Rattle.scope.specs.TypeRules.{heapNames}
+use Rattle.scope.specs.Instructions.{Cast, Op}
+use Rattle.scope.specs.BodyRules.{Context, Scope, Wanted, values, Plan, allowed, takes, sourceOf, targetOf, restOf, branches, planOf, fromTop, value}
+use Rattle.facts_bodies.specs.Rules.{Branching, Rule, rule-unreachable, rule-nop, rule-return, rule-drop, rule-br, rule-br-if, rule-local-get, rule-local-set, rule-local-tee, rule-i32-const, rule-ref-null, rule-ref-is-null, rule-ref-eq, rule-ref-as-non-null, rule-struct-new, rule-struct-new-default, rule-struct-get, rule-struct-set, rule-ref-test, rule-ref-cast, rule-br-on-cast, rule-br-on-cast-fail, rule-struct-new-desc, rule-struct-new-default-desc, rule-ref-get-desc, rule-ref-cast-desc-eq, rule-br-on-cast-desc-eq, rule-br-on-cast-desc-eq-fail}
+use Rattle.facts_bodies.proofs.Premises.{allBelow, append-every, number-reached-tested, heap-reached-tested, defaults-tested, set-tested, cast-takes-tested, last-found, Ordered}
+
+module _ (c : Context) (here : Scope) (ordered : Ordered (c .types)) where
+  names-reached : {k : Cast} {carried : Val} {vs : List Val}
+      → Branching c here k carried vs
+      → allBelow (c .count) (heapNames (k .source) ++ heapNames (k .target)) ≡ true
+  names-reached {k} b =
+      let source = heap-reached-tested (c .count) (b .sourceReached) in
+      let target = heap-reached-tested (c .count) (b .targetReached) in
+      append-every (λ x. ltb x (c .count)) (heapNames (k .source)) _ source target
+
+  branch-allowed : (k : Cast) (carried falls : Val) (first : List Wanted) {vs : List Val} (b : Branching c here k carried vs)
+      → branches c first k carried falls (vs ++ b .last ∷ []) ≡ takes (first ++ value (sourceOf k) ∷ fromTop vs) (values (vs ++ falls ∷ []))
+  branch-allowed k carried falls first {vs} b =
+      rw (ordered .tested (targetOf k) (sourceOf k) (b .matches), last-found vs (b .last), ordered .tested carried (b .last) (b .takesCarried))
+
+  pub derived-plan : {o : Op} {p : Plan} → Rule c here o p → planOf c here o ≡ allowed p
+  unfolding planOf
+  derived-plan rule-unreachable = refl
+  derived-plan rule-nop = refl
+  derived-plan rule-return = refl
+  derived-plan rule-drop = refl
+  derived-plan (rule-br label) = rw label
+  derived-plan (rule-br-if label) = rw label
+  derived-plan (rule-local-get {x = x} local isSet) = rw (local, set-tested (here .isSet) x isSet)
+  derived-plan (rule-local-set local) = rw local
+  derived-plan (rule-local-tee local) = rw local
+  derived-plan rule-i32-const = refl
+  derived-plan (rule-ref-null inReach) = rw (heap-reached-tested (c .count) inReach)
+  derived-plan rule-ref-is-null = refl
+  derived-plan rule-ref-eq = refl
+  derived-plan rule-ref-as-non-null = refl
+  derived-plan (rule-struct-new s none-there) = rw (number-reached-tested (c .count) (s .inReach), s .form, none-there)
+  derived-plan (rule-struct-new-default s none-there defaults) = rw (number-reached-tested (c .count) (s .inReach), s .form, none-there, defaults-tested defaults)
+  derived-plan (rule-struct-get f) = rw (number-reached-tested (c .count) (f .isStruct .inReach), f .isStruct .form, f .present)
+  derived-plan (rule-struct-set f mutable) = rw (number-reached-tested (c .count) (f .isStruct .inReach), f .isStruct .form, f .present, mutable)
+  derived-plan (rule-ref-test inReach) = rw (heap-reached-tested (c .count) inReach)
+  derived-plan (rule-ref-cast inReach) = rw (heap-reached-tested (c .count) inReach)
+  derived-plan (rule-br-on-cast {k = k} b) = rw (names-reached b, b .label) (branch-allowed k (targetOf k) (restOf k) [] b)
+  derived-plan (rule-br-on-cast-fail {k = k} b) = rw (names-reached b, b .label) (branch-allowed k (restOf k) (targetOf k) [] b)
+  derived-plan (rule-struct-new-desc s described) = rw (number-reached-tested (c .count) (s .inReach), s .form, described)
+  derived-plan (rule-struct-new-default-desc s described defaults) = rw (number-reached-tested (c .count) (s .inReach), s .form, described, defaults-tested defaults)
+  derived-plan (rule-ref-get-desc inReach described) = rw (number-reached-tested (c .count) inReach, described)
+  derived-plan (rule-ref-cast-desc-eq inReach d) = rw (heap-reached-tested (c .count) inReach, cast-takes-tested (c .types) d)
+  derived-plan (rule-br-on-cast-desc-eq {k = k} {d = d} b t) =
+      rw (names-reached b, b .label, cast-takes-tested (c .types) t) (branch-allowed k (targetOf k) (restOf k) (value (nullable d) ∷ []) b)
+  derived-plan (rule-br-on-cast-desc-eq-fail {k = k} {d = d} b t) =
+      rw (names-reached b, b .label, cast-takes-tested (c .types) t) (branch-allowed k (restOf k) (targetOf k) (value (nullable d) ∷ []) b)

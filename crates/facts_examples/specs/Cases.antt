@@ -1,0 +1,131 @@
+-- Document 01's starred examples and the three short cuts, each with the answer that the paper gives. One list.
+use Prim.Native.Nat.{ℕ}
+use mathlib.Core.Bool.{Bool}
+use mathlib.Core.List.{List, [], _∷_, _++_}
+use lib.ListN.{take}
+use Rattle.facts_examples.specs.Words.{sectionWords, typeWords, bodyWords, runWords, sameWords}
+
+-- what is asked: a section; a body of a type of a section; a run of such a body with a budget
+pub data Question : Type 0 where
+  section : List ℕ → Question
+  body : List ℕ → ℕ → List ℕ → Question
+  run : List ℕ → ℕ → List ℕ → ℕ → Question
+
+-- yes and the count; no, the refusal's number and place; how a run ended and all words of its state
+abbrev pub answer : Question → List ℕ
+answer (section s) = take 3 (sectionWords s)
+answer (body s x b) = bodyWords s x b
+answer (run s x b budget) = runWords s x b budget
+
+pub record Case : Type 0 where
+  pub asks : Question
+  pub says : List ℕ
+
+-- the answers
+
+abbrev pub no-types : List ℕ
+no-types = 1 ∷ 0 ∷ []
+
+abbrev pub instructions : ℕ → List ℕ
+instructions n = 1 ∷ n ∷ []
+
+abbrev pub refusal : ℕ → ℕ → List ℕ
+refusal number place = 0 ∷ number ∷ place ∷ []
+
+-- the count of types, and the form of the first: struct
+abbrev pub structs : ℕ → List ℕ
+structs n = 1 ∷ n ∷ 1 ∷ []
+
+-- the sections of the paper
+
+abbrev pub F1 : List ℕ
+F1 = 0x02 ∷ 0x4E ∷ 0x02 ∷ 0x4D ∷ 0x01 ∷ 0x5F ∷ 0x00 ∷ 0x4C ∷ 0x00 ∷ 0x5F ∷ 0x00 ∷ 0x60 ∷ 0x00 ∷ 0x01 ∷ 0x64 ∷ 0x62 ∷ 0x00 ∷ []
+
+abbrev pub F2 : List ℕ
+F2 = 0x02 ∷ 0x4E ∷ 0x02 ∷ 0x4D ∷ 0x01 ∷ 0x5F ∷ 0x00 ∷ 0x4C ∷ 0x00 ∷ 0x5F ∷ 0x00 ∷ 0x60 ∷ 0x00 ∷ 0x01 ∷ 0x64 ∷ 0x62 ∷ 0x01 ∷ []
+
+-- a descriptor object, and an object with it
+abbrev pub withDescriptor : List ℕ
+withDescriptor = 0x00 ∷ 0xFB ∷ 0x00 ∷ 0x01 ∷ 0xFB ∷ 0x20 ∷ 0x00 ∷ 0x0B ∷ []
+
+-- the incident as 003 has it: a short type 0 with descriptor 1, a long type 2 below it with descriptor 3
+abbrev pub shortAndLong : List ℕ
+shortAndLong =
+    (0x02 ∷ 0x4E ∷ 0x04 ∷ 0x50 ∷ 0x00 ∷ 0x4D ∷ 0x01 ∷ 0x5F ∷ 0x00 ∷ 0x50 ∷ 0x00 ∷ 0x4C ∷ 0x00 ∷ 0x5F ∷ 0x00 ∷ [])
+    ++ (0x50 ∷ 0x01 ∷ 0x00 ∷ 0x4D ∷ 0x03 ∷ 0x5F ∷ 0x01 ∷ 0x7F ∷ 0x00 ∷ 0x50 ∷ 0x01 ∷ 0x01 ∷ 0x4C ∷ 0x02 ∷ 0x5F ∷ 0x00 ∷ [])
+    ++ (0x60 ∷ 0x00 ∷ 0x01 ∷ 0x7F ∷ [])
+
+-- 001's "Ok (but strange)": type 3, below the descriptor 1 of type 0, describes a stranger, type 2
+abbrev pub strange : List ℕ
+strange =
+    (0x01 ∷ 0x4E ∷ 0x04 ∷ 0x50 ∷ 0x00 ∷ 0x4D ∷ 0x01 ∷ 0x5F ∷ 0x00 ∷ 0x50 ∷ 0x00 ∷ 0x4C ∷ 0x00 ∷ 0x5F ∷ 0x00 ∷ [])
+    ++ (0x5F ∷ 0x00 ∷ 0x50 ∷ 0x01 ∷ 0x01 ∷ 0x4C ∷ 0x02 ∷ 0x5F ∷ 0x00 ∷ [])
+
+-- the same as 003 has it, where the stranger has type 3 as its descriptor
+abbrev pub stranger : List ℕ
+stranger =
+    (0x01 ∷ 0x4E ∷ 0x04 ∷ 0x50 ∷ 0x00 ∷ 0x4D ∷ 0x01 ∷ 0x5F ∷ 0x00 ∷ 0x50 ∷ 0x00 ∷ 0x4C ∷ 0x00 ∷ 0x5F ∷ 0x00 ∷ [])
+    ++ (0x4D ∷ 0x03 ∷ 0x5F ∷ 0x00 ∷ 0x50 ∷ 0x01 ∷ 0x01 ∷ 0x4C ∷ 0x02 ∷ 0x5F ∷ 0x00 ∷ [])
+
+-- type 1 below type 0; a function that gives (ref (exact 0))
+abbrev pub exactOfSuper : List ℕ
+exactOfSuper =
+    0x03 ∷ 0x50 ∷ 0x00 ∷ 0x5F ∷ 0x00 ∷ 0x4F ∷ 0x01 ∷ 0x00 ∷ 0x5F ∷ 0x01 ∷ 0x7F ∷ 0x00 ∷ 0x60 ∷ 0x00 ∷ 0x01 ∷ 0x64 ∷ 0x62 ∷ 0x00 ∷ []
+
+abbrev pub starred : List Case
+starred =
+    record { asks = section (0x00 ∷ []); says = no-types }
+    ∷ record { asks = section []; says = refusal 1 0 }
+    ∷ record { asks = section (0x01 ∷ 0x4E ∷ 0x02 ∷ 0x4D ∷ 0x01 ∷ 0x5F ∷ 0x00 ∷ 0x4C ∷ 0x00 ∷ 0x5F ∷ 0x00 ∷ []); says = structs 2 }
+    ∷ record { asks = section (0x01 ∷ 0x4E ∷ 0x02 ∷ 0x4C ∷ 0x01 ∷ 0x5F ∷ 0x00 ∷ 0x4D ∷ 0x00 ∷ 0x5F ∷ 0x00 ∷ []); says = refusal 10 0 }
+    ∷ record { asks = section (0x01 ∷ 0x4E ∷ 0x03 ∷ 0x5F ∷ 0x00 ∷ 0x4D ∷ 0x02 ∷ 0x5F ∷ 0x00 ∷ 0x4C ∷ 0x00 ∷ 0x5F ∷ 0x00 ∷ []); says = refusal 11 1 }
+    ∷ record {
+      asks = section ((0x02 ∷ 0x4E ∷ 0x02 ∷ 0x50 ∷ 0x00 ∷ 0x4D ∷ 0x01 ∷ 0x5F ∷ 0x00 ∷ 0x50 ∷ 0x00 ∷ 0x4C ∷ 0x00 ∷ 0x5F ∷ 0x00 ∷ []) ++ (0x4F ∷ 0x01 ∷ 0x00 ∷ 0x5F ∷ 0x00 ∷ []));
+      says = refusal 12 2;
+    }
+    ∷ record { asks = body F1 2 withDescriptor; says = instructions 3 }
+    -- done after 3 steps at place 8: two objects, object 1 of type 0 with descriptor object 0, and it is the result
+    ∷ record {
+      asks = run F1 2 withDescriptor 3;
+      says = (1 ∷ 1 ∷ 0 ∷ 3 ∷ []) ++ (8 ∷ 2 ∷ 0 ∷ 0 ∷ 1 ∷ 0 ∷ []) ++ (1 ∷ 0 ∷ 0 ∷ 0 ∷ []) ++ (0 ∷ 1 ∷ 0 ∷ 0 ∷ []) ++ (6 ∷ 1 ∷ []);
+    }
+    -- spent after 2 steps, before the `end` at place 7
+    ∷ record {
+      asks = run F1 2 withDescriptor 2;
+      says = (1 ∷ 3 ∷ 0 ∷ 2 ∷ []) ++ (7 ∷ 2 ∷ 0 ∷ 0 ∷ 1 ∷ 0 ∷ []) ++ (1 ∷ 0 ∷ 0 ∷ 0 ∷ []) ++ (0 ∷ 1 ∷ 0 ∷ 0 ∷ []) ++ (6 ∷ 1 ∷ []);
+    }
+    ∷ record { asks = body F1 2 (0x00 ∷ 0xFB ∷ 0x00 ∷ 0x00 ∷ 0x0B ∷ []); says = refusal 23 1 }
+    ∷ record {
+      asks = body F1 2 (0x01 ∷ 0x01 ∷ 0x64 ∷ 0x01 ∷ 0xFB ∷ 0x00 ∷ 0x01 ∷ 0x21 ∷ 0x00 ∷ 0x20 ∷ 0x00 ∷ 0xFB ∷ 0x20 ∷ 0x00 ∷ 0x0B ∷ []);
+      says = refusal 20 11;
+    }
+    ∷ record { asks = body F2 2 (0x00 ∷ 0xD0 ∷ 0x71 ∷ 0xFB ∷ 0x22 ∷ 0x00 ∷ 0x0B ∷ []); says = instructions 3 }
+    -- trap 42 in the second step, at place 3; the null is still there
+    ∷ record {
+      asks = run F2 2 (0x00 ∷ 0xD0 ∷ 0x71 ∷ 0xFB ∷ 0x22 ∷ 0x00 ∷ 0x0B ∷ []) 1_000;
+      says = (1 ∷ 2 ∷ 42 ∷ 2 ∷ []) ++ (3 ∷ 0 ∷ 0 ∷ 0 ∷ 1 ∷ 0 ∷ []) ++ (5 ∷ 0 ∷ []);
+    }
+    ∷ []
+
+abbrev pub shortCuts : List Case
+shortCuts =
+    -- taking (ref y) as enough for struct.new_desc: a long descriptor is put on a short object, which is then read as long
+    record {
+      asks =
+          body shortAndLong 4
+          ((0x01 ∷ 0x01 ∷ 0x64 ∷ 0x01 ∷ 0xFB ∷ 0x01 ∷ 0x03 ∷ 0x21 ∷ 0x00 ∷ 0x20 ∷ 0x00 ∷ 0xFB ∷ 0x20 ∷ 0x00 ∷ [])
+          ++ (0xFB ∷ 0x16 ∷ 0x02 ∷ 0xFB ∷ 0x02 ∷ 0x02 ∷ 0x00 ∷ 0x0B ∷ []));
+      says = refusal 20 11;
+    }
+    -- following 001's "Ok (but strange)" case
+    ∷ record { asks = section strange; says = refusal 11 3 }
+    ∷ record { asks = section stranger; says = refusal 13 3 }
+    -- reading "exact x above exact subtype" as order: an object of type 1 for (ref (exact 0))
+    ∷ record { asks = body exactOfSuper 2 (0x00 ∷ 0xFB ∷ 0x01 ∷ 0x01 ∷ 0x0B ∷ []); says = refusal 20 4 }
+    ∷ []
+
+abbrev pub table : List Case
+table = starred ++ shortCuts
+
+abbrev pub agrees : Case → Bool
+agrees c = sameWords (answer (c .asks)) (c .says)

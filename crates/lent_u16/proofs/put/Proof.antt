@@ -1,0 +1,26 @@
+-- `words::put` meets its contract: out of range, a store to a list leaves it as it was.
+use borrow.Author.Needs.{needs}
+use Rattle.lent_u16.proofs.Laws.{put-exits}
+use Rattle.lent_u16.proofs.put.Statement.{statement}
+use Rattle.lent_u16.proofs.put.Tie as tie
+
+cast-m : tie.Need-cast-m
+cast-m c = search needs
+
+mul-m : tie.Need-mul-m
+mul-m c = search needs
+
+slice-write-m : tie.Need-slice-write-m
+slice-write-m c = search needs
+
+same-length : tie.Need-same-length
+same-length c = search needs
+
+returns : tie.Need-returns
+returns c = search needs
+
+returns-2 : tie.Need-returns-2
+returns-2 c = search (put-exits, needs)
+
+pub put-spec : {M : Type 1} → statement M
+put-spec = tie.close (tie.spec cast-m mul-m slice-write-m same-length returns returns-2)

@@ -1,0 +1,35 @@
+// Total access to lent memory of 32-bit words: the scratch of a body's check. As in crate words, no place is out of range: a
+// word past the end reads as 0, and a store there does nothing.
+ghost use mathlib.Core.Path.{_≡_};
+ghost use Prim.Native.Nat.{_%_};
+ghost use lib.ListN.{length, set, replicate};
+ghost use Rattle.lent_u32.specs.Scratch.{Word32At};
+
+// The word at a place, and 0 past the end.
+pub fn word32(m: &[u32], at: u64) -> u64
+    ensures { λ r. ⌜ Word32At (now (m .entry)) at r ⌝ }
+{
+    let i = at as usize;
+    if i < m.len() { m[i] as u64 } else { 0 }
+}
+
+// A number's lowest 32 bits, stored at a place.
+pub fn put32(m: &mut [u32], at: u64, v: u64)
+    ensures { λ r. ⌜ now (m .exit) ≡ set (now (m .entry)) at (v % 4294967296) ⌝ }
+{
+    let i = at as usize;
+    if i < m.len() {
+        m[i] = (v % 4294967296) as u32;
+    }
+}
+
+// Zero in every word.
+pub fn wipe32(m: &mut [u32])
+    ensures { λ r. ⌜ now (m .exit) ≡ replicate (length (now (m .entry))) 0 ⌝ }
+{
+    let mut i: usize = 0;
+    while i < m.len() {
+        m[i] = 0;
+        i += 1;
+    }
+}

@@ -1,0 +1,196 @@
+// Blocks of a trial run: opening one, `end`, a branch out of several, and the end of the run. A branch finds its target
+// without a search: the open block's words say where its instruction stands, and the matching end was kept for that place.
+use body_immediates::Instruction;
+use body_immediates::InstructionRead;
+use run_state::BELOW;
+use run_state::BLOCK;
+use run_state::MOST_BLOCKS;
+use run_state::PLACE;
+use run_state::Stage;
+use run_state::Stepped;
+ghost use mathlib.Core.Path.{_≡_};
+ghost use lib.ListN.{length};
+ghost use Rattle.body_decoded.specs.Decoded.{blockResults};
+ghost use Rattle.run_state.specs.Machines.{atHeight};
+ghost use Rattle.run_state.specs.Controlled.{Piled};
+ghost use Rattle.run_control.specs.Control.{Low, Opens, Finishes, Closable, Closes, Branchable, Leavable, LeavesTo, Descends, LeavesBlock, Branches};
+
+// The instruction at the stage's place opens a block of that kind, and its code begins at `next`.
+pub fn open(blocks: &mut [u16], stage: Stage, next: usize, kind: u16) -> Stepped
+    requires { ⌜ Low stage ⌝ }
+    ensures { λ r. ⌜ Opens (now (blocks .entry)) (now (blocks .exit)) stage next kind r ⌝ }
+{
+    let at = stage.place;
+    let depth = stage.depth;
+    if MOST_BLOCKS <= depth {
+        return Stepped::Astray;
+    }
+    let word = BLOCK * depth as u64;
+    let base = stage.base;
+    let height = stage.height;
+    let below = base as u64 + height as u64;
+    lent_u16::put(blocks, word, kind as u64);
+    lent_u16::put(blocks, word + 1, at as u64);
+    lent_u16::put(blocks, word + 2, below);
+    Stepped::Goes(Stage {
+        place: next,
+        objects: stage.objects,
+        cells: stage.cells,
+        base: below as u32,
+        height: 0,
+        depth: depth + 1,
+    })
+}
+
+// The run is done: the topmost of `left` operands are its results, and they alone remain.
+pub fn finish(operands: &mut [u64], stage: Stage, left: u32, results: u32, bytes: usize) -> Stepped
+    requires { ⌜ Piled (now operands) (atHeight stage left) ⌝ }
+    ensures { λ r. ⌜ Finishes (now (operands .entry)) (now (operands .exit)) stage left results bytes r ⌝ }
+{
+    if left < results {
+        return Stepped::Astray;
+    }
+    let base = stage.base;
+    let from = base + (left - results);
+    run_stack::move_down(operands, from, 0, results);
+    Stepped::Ends(Stage {
+        place: bytes,
+        objects: stage.objects,
+        cells: stage.cells,
+        base: 0,
+        height: results,
+        depth: 0,
+    })
+}
+
+// The `end` at the stage's place: of the innermost block, whose operands now lie on those below it; or of the function.
+pub fn close(
+    operands: &mut [u64],
+    blocks: &[u16],
+    stage: Stage,
+    next: usize,
+    results: u32,
+    bytes: usize,
+) -> Stepped
+    requires { ⌜ Closable (now operands) (now blocks) stage ⌝ }
+    ensures { λ r. ⌜ Closes (now (operands .entry)) (now (operands .exit)) (now (blocks .entry)) stage next results bytes r ⌝ }
+{
+    let depth = stage.depth;
+    let height = stage.height;
+    if depth == 0 {
+        return finish(operands, stage, height, results, bytes);
+    }
+    let base = stage.base;
+    let lower = run_state::lower_of(blocks, depth - 1);
+    Stepped::Goes(Stage {
+        place: next,
+        objects: stage.objects,
+        cells: stage.cells,
+        base: lower,
+        height: base - lower + height,
+        depth: depth - 1,
+    })
+}
+
+// How many values the label of a block takes, by its result's word.
+fn takes_of(w: u64) -> u32
+    ensures { λ r. ⌜ r ≡ length (blockResults w) ⌝ }
+{
+    if w == 0 { 0 } else { 1 }
+}
+
+// Out of open block d, which is no loop: its values go down onto the operands below it, and the code goes on past its end.
+fn leave_block(
+    ends: &[u16],
+    operands: &mut [u64],
+    blocks: &[u16],
+    stage: Stage,
+    left: u32,
+    d: u32,
+    takes: u32,
+) -> Stepped
+    requires { ⌜ Descends (now operands) (now blocks) stage left d ⌝ }
+    ensures { λ r. ⌜ LeavesBlock (now (ends .entry)) (now (operands .entry)) (now (operands .exit)) (now (blocks .entry)) stage left d takes r ⌝ }
+{
+    if left < takes {
+        return Stepped::Astray;
+    }
+    let place = run_state::block_word(blocks, d, PLACE);
+    let below = run_state::block_word(blocks, d, BELOW);
+    let lower = run_state::lower_of(blocks, d);
+    let to = lent_u16::word(ends, place);
+    let base = stage.base;
+    let from = base + (left - takes);
+    run_stack::move_down(operands, from, below as u32, takes);
+    Stepped::Goes(Stage {
+        place: to as usize,
+        objects: stage.objects,
+        cells: stage.cells,
+        base: lower,
+        height: below as u32 - lower + takes,
+        depth: d,
+    })
+}
+
+// To the label of open block d: out of a block, or to the instruction after its `loop`, the loop kept open.
+fn leave(
+    s: &[u8],
+    ends: &[u16],
+    operands: &mut [u64],
+    blocks: &[u16],
+    stage: Stage,
+    left: u32,
+    d: u32,
+) -> Stepped
+    requires { ⌜ Leavable (now s) (now ends) (now operands) (now blocks) stage left d ⌝ }
+    ensures { λ r. ⌜ LeavesTo (now (s .entry)) (now (ends .entry)) (now (operands .entry)) (now (operands .exit)) (now (blocks .entry)) stage left d r ⌝ }
+{
+    let place = run_state::block_word(blocks, d, PLACE);
+    let read = body_instruction::instruction_at(s, place as usize);
+    match read {
+        InstructionRead::Refused(_, _) => Stepped::Astray,
+        InstructionRead::Is(i, next) => match i {
+            Instruction::Loop(_) => {
+                let below = run_state::block_word(blocks, d, BELOW);
+                Stepped::Goes(Stage {
+                    place: next,
+                    objects: stage.objects,
+                    cells: stage.cells,
+                    base: below as u32,
+                    height: 0,
+                    depth: d + 1,
+                })
+            }
+            Instruction::Block(w) => {
+                let takes = takes_of(w);
+                leave_block(ends, operands, blocks, stage, left, d, takes)
+            }
+            _ => Stepped::Astray,
+        },
+    }
+}
+
+// A branch to a label, with `left` operands of the innermost frame.
+pub fn branch(
+    s: &[u8],
+    ends: &[u16],
+    operands: &mut [u64],
+    blocks: &[u16],
+    stage: Stage,
+    left: u32,
+    label: u64,
+    results: u32,
+) -> Stepped
+    requires { ⌜ Branchable (now s) (now ends) (now operands) (now blocks) stage left ⌝ }
+    ensures { λ r. ⌜ Branches (now (s .entry)) (now (ends .entry)) (now (operands .entry)) (now (operands .exit)) (now (blocks .entry)) stage left label results r ⌝ }
+{
+    let depth = stage.depth;
+    if (depth as u64) < label {
+        return Stepped::Astray;
+    }
+    if depth as u64 == label {
+        return finish(operands, stage, left, results, s.len());
+    }
+    let d = depth - 1 - label as u32;
+    leave(s, ends, operands, blocks, stage, left, d)
+}

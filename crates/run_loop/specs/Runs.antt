@@ -1,0 +1,52 @@
+-- What a trial run in lent memory comes to: the ending of the written machine's run, and the state that the words then say.
+use Prim.Native.Nat.{ℕ, _*_, _≤_}
+use mathlib.Core.Path.{_≡_}
+use mathlib.Core.List.{List, []}
+use lib.ListN.{length}
+use Rattle.scope.specs.Reading.{got}
+use Rattle.scope.specs.Instructions.{Instr, instrAt}
+use Rattle.scope.specs.Running as running
+use Rattle.scope.specs.Running.{done, trapped, spent, wrong, run}
+use Rattle.scope.specs.Memory.{stateWords}
+use Rattle.body_immediates.specs.Coding.{instructionOf}
+use Rattle.body_decoded.specs.Decoded.{instrOf}
+use Rattle.run_ends.specs.Matching.{codeAt}
+use Rattle.run_state.specs.declared.Stage.{Stage}
+use Rattle.run_state.specs.Machines.{Words, machineAt, programAt, Valued, Orderly}
+use Rattle.run_state.specs.Written.{StateTold}
+use Rattle.run_sound.specs.Sound.{Sound}
+use Rattle.run_loop.specs.declared.Ending.{Ending}
+use Rattle.run_loop.specs.declared.Ending
+
+-- at the first instruction, with an empty heap and no operand
+abbrev pub startStage : ℕ → Stage
+startStage first = record { place = first; objects = 0; cells = 0; base = 0; height = 0; depth = 0 }
+
+-- an instruction can be read at the stage's place, and what is kept of it is it
+pub record Readable (s ends : List ℕ) (count : ℕ) (w : Words) (st : Stage) : Type 0 where
+  pub orderly : Orderly s ends count w st
+  pub more : codeAt s (st .place) ≡ [] → ⊥
+  pub back : (i : Instr) (next : ℕ) → instrAt s (st .place) ≡ got i next → instrOf (instructionOf i) ≡ i
+
+-- memory that a run may start in: no step of the run from there is astray
+pub record Runnable (s rows codes ends : List ℕ) (count : ℕ) (w : Words) (results first : ℕ) : Type 0 where
+  pub orderly : Orderly s ends count w (startStage first)
+  pub sound : Sound s (programAt rows codes results) (machineAt s count w (startStage first))
+
+abbrev pub stageOf : ℕ → Ending → Stage
+stageOf first (Ending.the-variants.Done st steps) = st
+stageOf first (Ending.the-variants.Trapped number st steps) = st
+stageOf first (Ending.the-variants.Spent st steps) = st
+stageOf first Ending.the-variants.Astray = startStage first
+
+unfoldable pub endingAt : List ℕ → ℕ → Words → ℕ → Ending → running.Ending
+endingAt s count w first (Ending.the-variants.Done st steps) = done steps (machineAt s count w st)
+endingAt s count w first (Ending.the-variants.Trapped number st steps) = trapped number steps (machineAt s count w st)
+endingAt s count w first (Ending.the-variants.Spent st steps) = spent steps (machineAt s count w st)
+endingAt s count w first Ending.the-variants.Astray = wrong 0 (machineAt s count w (startStage first))
+
+pub record RanFrom (s rows codes : List ℕ) (count : ℕ) (w w′ : Words) (results first budget : ℕ) (r : Ending) : Type 0 where
+  pub is : endingAt s count w′ first r ≡ run (programAt rows codes results) budget 0 (machineAt s count w (startStage first))
+  pub told : StateTold count w′ (stageOf first r) (stateWords s (machineAt s count w′ (stageOf first r)))
+  pub valued : Valued count w′ (stageOf first r)
+  pub low : 3 * stageOf first r .depth ≤ length (w′ .blocks)

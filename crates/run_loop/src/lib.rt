@@ -1,0 +1,119 @@
+// A trial run in lent memory: step after step, until it is done, traps or has spent its budget.
+use body_immediates::InstructionRead;
+use run_state::Stage;
+use run_state::Stepped;
+ghost use Rattle.run_state.specs.Machines.{words};
+ghost use Rattle.run_step.specs.Carried.{StepOf};
+ghost use Rattle.run_loop.specs.Runs.{Readable, Runnable, RanFrom};
+
+// How it ended, where it then stands, and after how many steps. A trap has its number. Astray: no accepted body comes to it.
+pub enum Ending {
+    Done(Stage, u64),
+    Trapped(u64, Stage, u64),
+    Spent(Stage, u64),
+    Astray,
+}
+
+// The next step: of the instruction at the stage's place.
+fn step_next(
+    s: &[u8],
+    rows: &[u16],
+    codes: &[u16],
+    ends: &[u16],
+    objects: &mut [u16],
+    cells: &mut [u64],
+    locals: &mut [u64],
+    operands: &mut [u64],
+    blocks: &mut [u16],
+    count: u16,
+    results: u32,
+    stage: Stage,
+) -> Stepped
+    requires { ⌜ Readable (now s) (now ends) count (words (now objects) (now cells) (now locals) (now operands) (now blocks)) stage ⌝ }
+    ensures { λ r. ⌜ StepOf (now (s .entry)) (now (rows .entry)) (now (codes .entry)) (now (ends .entry)) count (words (now (objects .entry)) (now (cells .entry)) (now (locals .entry)) (now (operands .entry)) (now (blocks .entry))) (words (now (objects .exit)) (now (cells .exit)) (now (locals .exit)) (now (operands .exit)) (now (blocks .exit))) stage results r ⌝ }
+{
+    let place = stage.place;
+    let read = body_instruction::instruction_at(s, place);
+    match read {
+        InstructionRead::Refused(_, _) => Stepped::Astray,
+        InstructionRead::Is(i, next) => run_step::step(
+            s,
+            rows,
+            codes,
+            ends,
+            objects,
+            cells,
+            locals,
+            operands,
+            blocks,
+            count,
+            results,
+            stage,
+            next,
+            i,
+        ),
+    }
+}
+
+// A run from the place `first` on, with an empty heap and no operand.
+pub fn run_from(
+    s: &[u8],
+    rows: &[u16],
+    codes: &[u16],
+    ends: &[u16],
+    objects: &mut [u16],
+    cells: &mut [u64],
+    locals: &mut [u64],
+    operands: &mut [u64],
+    blocks: &mut [u16],
+    count: u16,
+    results: u32,
+    first: usize,
+    budget: u64,
+) -> Ending
+    requires { ⌜ Runnable (now s) (now rows) (now codes) (now ends) count (words (now objects) (now cells) (now locals) (now operands) (now blocks)) results first ⌝ }
+    ensures { λ r. ⌜ RanFrom (now (s .entry)) (now (rows .entry)) (now (codes .entry)) count (words (now (objects .entry)) (now (cells .entry)) (now (locals .entry)) (now (operands .entry)) (now (blocks .entry))) (words (now (objects .exit)) (now (cells .exit)) (now (locals .exit)) (now (operands .exit)) (now (blocks .exit))) results first budget r ⌝ }
+{
+    let mut stage = Stage {
+        place: first,
+        objects: 0,
+        cells: 0,
+        base: 0,
+        height: 0,
+        depth: 0,
+    };
+    let mut steps: u64 = 0;
+    while steps < budget {
+        let after = steps + 1;
+        let stepped = step_next(
+            s,
+            rows,
+            codes,
+            ends,
+            objects,
+            cells,
+            locals,
+            operands,
+            blocks,
+            count,
+            results,
+            stage,
+        );
+        match stepped {
+            Stepped::Astray => {
+                return Ending::Astray;
+            }
+            Stepped::Traps(number) => {
+                return Ending::Trapped(number, stage, after);
+            }
+            Stepped::Ends(later) => {
+                return Ending::Done(later, after);
+            }
+            Stepped::Goes(later) => {
+                stage = later;
+                steps = after;
+            }
+        }
+    }
+    Ending::Spent(stage, steps)
+}

@@ -1,0 +1,132 @@
+// The moves of the instructions that look only at operands and locals.
+use run_stack::HeldLocal;
+use run_stack::Topmost;
+use run_state::I32;
+use run_state::Move;
+use run_state::OBJECT;
+use run_state::Reference;
+ghost use Rattle.scope.specs.Instructions.{drop-value, br-if, local-get, local-set, local-tee, ref-is-null, ref-eq, ref-as-non-null};
+ghost use Rattle.run_state.specs.Planned.{TopPlans, LocalPlans};
+
+// The trap of ref.as_non_null.
+const TRAP_NULL: u64 = 42;
+
+// drop
+pub fn drop_move(first: Topmost, second: Topmost) -> Move
+    ensures { λ r. ⌜ TopPlans first second drop-value r ⌝ }
+{
+    match first {
+        Topmost::Nothing => Move::Astray,
+        Topmost::Is(_, _) => Move::Leaves(1),
+    }
+}
+
+// br_if
+pub fn branch_move(first: Topmost, second: Topmost, label: u64) -> Move
+    ensures { λ r. ⌜ TopPlans first second (br-if label) r ⌝ }
+{
+    match first {
+        Topmost::Nothing => Move::Astray,
+        Topmost::Is(kind, bits) => {
+            if kind == I32 {
+                if bits == 0 {
+                    return Move::Leaves(1);
+                }
+                return Move::Branches(1, label);
+            }
+            Move::Astray
+        }
+    }
+}
+
+// local.get
+pub fn get_move(locals: &[u64], count: u16, first: Topmost, x: u64) -> Move
+    ensures { λ r. ⌜ LocalPlans (now (locals .entry)) count first (local-get x) r ⌝ }
+{
+    let held = run_stack::held_local(locals, count, x);
+    match held {
+        HeldLocal::Absent => Move::Astray,
+        HeldLocal::Unset => Move::Astray,
+        HeldLocal::Is(kind, bits) => Move::Gives(0, kind, bits),
+    }
+}
+
+// local.set
+pub fn set_move(locals: &[u64], count: u16, first: Topmost, x: u64) -> Move
+    ensures { λ r. ⌜ LocalPlans (now (locals .entry)) count first (local-set x) r ⌝ }
+{
+    match first {
+        Topmost::Nothing => Move::Astray,
+        Topmost::Is(kind, bits) => {
+            if x < count as u64 {
+                return Move::SetsLocal(1, x, kind, bits);
+            }
+            Move::Astray
+        }
+    }
+}
+
+// local.tee
+pub fn tee_move(locals: &[u64], count: u16, first: Topmost, x: u64) -> Move
+    ensures { λ r. ⌜ LocalPlans (now (locals .entry)) count first (local-tee x) r ⌝ }
+{
+    match first {
+        Topmost::Nothing => Move::Astray,
+        Topmost::Is(kind, bits) => {
+            if x < count as u64 {
+                return Move::SetsLocal(0, x, kind, bits);
+            }
+            Move::Astray
+        }
+    }
+}
+
+// ref.is_null
+pub fn is_null_move(first: Topmost, second: Topmost) -> Move
+    ensures { λ r. ⌜ TopPlans first second ref-is-null r ⌝ }
+{
+    let reference = run_state::reference_of(first);
+    match reference {
+        Reference::Wrong => Move::Astray,
+        Reference::Null => Move::Gives(1, I32, 1),
+        Reference::To(_) => Move::Gives(1, I32, 0),
+    }
+}
+
+// ref.eq: null is the same as null, an object as itself.
+pub fn eq_move(first: Topmost, second: Topmost) -> Move
+    ensures { λ r. ⌜ TopPlans first second ref-eq r ⌝ }
+{
+    let one = run_state::reference_of(first);
+    let other = run_state::reference_of(second);
+    match one {
+        Reference::Wrong => Move::Astray,
+        Reference::Null => match other {
+            Reference::Wrong => Move::Astray,
+            Reference::Null => Move::Gives(2, I32, 1),
+            Reference::To(_) => Move::Gives(2, I32, 0),
+        },
+        Reference::To(o) => match other {
+            Reference::Wrong => Move::Astray,
+            Reference::Null => Move::Gives(2, I32, 0),
+            Reference::To(q) => {
+                if o == q {
+                    return Move::Gives(2, I32, 1);
+                }
+                Move::Gives(2, I32, 0)
+            }
+        },
+    }
+}
+
+// ref.as_non_null
+pub fn as_non_null_move(first: Topmost, second: Topmost) -> Move
+    ensures { λ r. ⌜ TopPlans first second ref-as-non-null r ⌝ }
+{
+    let reference = run_state::reference_of(first);
+    match reference {
+        Reference::Wrong => Move::Astray,
+        Reference::Null => Move::Traps(TRAP_NULL),
+        Reference::To(o) => Move::Gives(1, OBJECT, o),
+    }
+}

@@ -1,0 +1,131 @@
+-- The topmost operand as a value and as a reference: what the machine does with it is what is done with what was seen.
+use Prim.Native.Nat.{ℕ, _≤_}
+use mathlib.Core.Path.{_≡_, refl, sym, ap, subst, _∙_}
+use mathlib.Core.Logic.{_⊎_, inl, inr}
+use mathlib.Core.Bool.{true, false}
+use mathlib.Core.Option.{Option, none, some}
+use mathlib.Core.List.{List, [], _∷_}
+use native.Mathlib.Omega.{arith}
+use lib.ListN.{length, getElem?, drop}
+use lib.Dec.{eqb}
+use borrow.Author.Tests.{eqb-true, eqb-false, eq-eqb, ne-eqb}
+use Rattle.scope.specs.Machine.{Value, number, null, object, Outcome, stuck, onTaken, onReference}
+use Rattle.scope.proofs.Truths.{decided}
+use Rattle.run_values.specs.Values.{valueAt}
+use Rattle.run_values.proofs.Laws.{value-null, value-object, value-number}
+use Rattle.run_stack.specs.declared.Topmost.{Topmost}
+use Rattle.run_stack.specs.declared.Topmost
+use Rattle.run_stack.specs.Pile.{topOf, headOf}
+use Rattle.run_state.specs.declared.Reference.{Reference}
+use Rattle.run_state.specs.declared.Reference
+use Rattle.run_state.specs.Planned.{referenceAt, Seen}
+
+-- as a value
+
+pub on-top : (vs : List Value) {v : Value} → headOf vs ≡ some v → (f : Value → List Value → Outcome) → onTaken vs f ≡ f v (drop 1 vs)
+on-top [] e f = absurd (let z : _≡_ {A = ℕ} 0 1 = cc in omega arith)
+on-top (w ∷ vs) {v} e f = let same : w ≡ v = cc in rw same refl
+
+pub on-none : (vs : List Value) → headOf vs ≡ none → (f : Value → List Value → Outcome) → onTaken vs f ≡ stuck
+on-none [] e f = refl
+on-none (w ∷ vs) e f = absurd (let z : _≡_ {A = ℕ} 0 1 = cc in omega arith)
+
+pub top-low : (vs : List Value) {v : Value} → headOf vs ≡ some v → 1 ≤ length vs
+top-low [] e = absurd (let z : _≡_ {A = ℕ} 0 1 = cc in omega arith)
+top-low (w ∷ vs) e = omega arith
+
+pub two-low : (vs : List Value) {v w : Value} → headOf vs ≡ some v → headOf (drop 1 vs) ≡ some w → 2 ≤ length vs
+two-low [] e f = absurd (let z : _≡_ {A = ℕ} 0 1 = cc in omega arith)
+two-low (a ∷ []) e f = absurd (let z : _≡_ {A = ℕ} 0 1 = cc in omega arith)
+two-low (a ∷ b ∷ vs) e f = omega arith
+
+-- it is the first of them, and with those below it all of them
+
+pub head-there : (vs : List Value) {v : Value} → headOf vs ≡ some v → getElem? vs 0 ≡ some v
+head-there [] e = e
+head-there (w ∷ vs) e = e
+
+pub top-whole : (vs : List Value) {v : Value} → headOf vs ≡ some v → v ∷ drop 1 vs ≡ vs
+top-whole [] e = absurd (let z : _≡_ {A = ℕ} 0 1 = cc in omega arith)
+top-whole (w ∷ vs) {v} e = let same : v ≡ w = cc in rw same refl
+
+-- as it was seen
+
+pub value-top : {vs : List Value} {t : Topmost} {k n : ℕ} → Seen vs t → t ≡ Topmost.the-variants.Is k n → headOf vs ≡ some (valueAt k n)
+value-top s e = sym (s .is) ∙ ap topOf e
+
+pub no-top : {vs : List Value} {t : Topmost} → Seen vs t → t ≡ Topmost.the-variants.Nothing → headOf vs ≡ none
+no-top s e = sym (s .is) ∙ ap topOf e
+
+-- as a reference
+
+-- a reference that is not one is as good as missing: it may be looked at before the operand below it
+pub looked-first :
+    (vs : List Value) (f : Option ℕ → Value → List Value → Outcome)
+    → onTaken vs (λ v others. onTaken others (λ w below. onReference v (λ r. f r w below))) ≡ onTaken vs (λ v others. onReference v (λ r. onTaken others (f r)))
+looked-first [] f = refl
+looked-first (number k n ∷ []) f = refl
+looked-first (null ∷ []) f = refl
+looked-first (object o ∷ []) f = refl
+looked-first (number k n ∷ w ∷ vs) f = refl
+looked-first (null ∷ w ∷ vs) f = refl
+looked-first (object o ∷ w ∷ vs) f = refl
+
+pub reference-nothing : {t : Topmost} → t ≡ Topmost.the-variants.Nothing → Reference.the-variants.Wrong ≡ referenceAt t
+unfolding referenceAt
+reference-nothing e = rw e refl
+
+module _ {t : Topmost} {k n : ℕ} (e : t ≡ Topmost.the-variants.Is k n) where
+  pub reference-null : k ≡ 5 → Reference.the-variants.Null ≡ referenceAt t
+  unfolding referenceAt
+  reference-null h = rw (e, eq-eqb k 5 h) refl
+
+  pub reference-object : (k ≡ 5 → ⊥) → k ≡ 6 → Reference.the-variants.To n ≡ referenceAt t
+  unfolding referenceAt
+  reference-object g h = rw (e, ne-eqb k 5 g, eq-eqb k 6 h) refl
+
+  pub reference-number : (k ≡ 5 → ⊥) → (k ≡ 6 → ⊥) → Reference.the-variants.Wrong ≡ referenceAt t
+  unfolding referenceAt
+  reference-number g h = rw (e, ne-eqb k 5 g, ne-eqb k 6 h) refl
+
+pub ruleset reference-exits = (reference-nothing, reference-null, reference-object, reference-number)
+
+number-stuck : (k n : ℕ) → (k ≡ 5 → ⊥) → (k ≡ 6 → ⊥) → (f : Option ℕ → Outcome) → onReference (valueAt k n) f ≡ stuck
+number-stuck k n g h f = rw (value-number n g h) refl
+
+-- what the topmost operand is, by what it is as a reference: the value; or none, and the machine is stuck on it
+unfoldable Refers : List Value → Reference → Type 0
+Refers vs Reference.the-variants.Wrong =
+    (f : Value → List Value → Option ℕ → Outcome) → onTaken vs (λ v below. onReference v (f v below)) ≡ stuck
+Refers vs Reference.the-variants.Null = headOf vs ≡ some null
+Refers vs (Reference.the-variants.To o) = headOf vs ≡ some (object o)
+
+refers-by : (vs : List Value) (k n : ℕ) → headOf vs ≡ some (valueAt k n) → Refers vs (referenceAt (Topmost.the-variants.Is k n))
+unfolding Refers referenceAt
+refers-by vs k n e = go (decided (eqb k 5)) (decided (eqb k 6))
+  where
+    go : (eqb k 5 ≡ true) ⊎ (eqb k 5 ≡ false) → (eqb k 6 ≡ true) ⊎ (eqb k 6 ≡ false) → Refers vs (referenceAt (Topmost.the-variants.Is k n))
+    go (inl a) b = rw a (e ∙ ap some (value-null n (eqb-true k 5 a)))
+    go (inr a) (inl b) = rw (a, b) (e ∙ ap some (value-object n (eqb-true k 6 b)))
+    go (inr a) (inr b) = rw (a, b) (λ f. on-top vs e _ ∙ number-stuck k n (eqb-false k 5 a) (eqb-false k 6 b) _)
+
+refers : {vs : List Value} (t : Topmost) → Seen vs t → Refers vs (referenceAt t)
+unfolding Refers referenceAt
+refers {vs} Topmost.the-variants.Nothing s = λ f. on-none vs (no-top s refl) _
+refers {vs} (Topmost.the-variants.Is k n) s = refers-by vs k n (value-top s refl)
+
+module _ {vs : List Value} {t : Topmost} {r : Reference} (s : Seen vs t) (is : r ≡ referenceAt t) where
+  refers-here : {q : Reference} → r ≡ q → Refers vs q
+  refers-here e = subst (Refers vs) (sym is ∙ e) (refers t s)
+
+  pub wrong-top : r ≡ Reference.the-variants.Wrong → (f : Value → List Value → Option ℕ → Outcome) → onTaken vs (λ v below. onReference v (f v below)) ≡ stuck
+  unfolding Refers
+  wrong-top e = refers-here e
+
+  pub null-top : r ≡ Reference.the-variants.Null → headOf vs ≡ some null
+  unfolding Refers
+  null-top e = refers-here e
+
+  pub object-top : {o : ℕ} → r ≡ Reference.the-variants.To o → headOf vs ≡ some (object o)
+  unfolding Refers
+  object-top e = refers-here e

@@ -1,0 +1,71 @@
+-- What is seen of a machine, and what it is to tell the move of an instruction from what is seen.
+use Prim.Native.Nat.{ℕ, _+_}
+use mathlib.Core.Path.{_≡_}
+use mathlib.Core.Bool.{cond}
+use mathlib.Core.List.{List}
+use lib.ListN.{length, drop}
+use lib.Dec.{eqb}
+use Rattle.scope.specs.Instructions.{Op}
+use Rattle.scope.specs.Machine.{Value, Machine, Program, doOp}
+use Rattle.type_table.specs.View.{view}
+use Rattle.run_values.specs.Values.{heldFrom, Canon, AllCanon, AllHeldCanon}
+use Rattle.run_heap.specs.Heap.{storeAt, Kept}
+use Rattle.run_stack.specs.declared.Topmost.{Topmost}
+use Rattle.run_stack.specs.declared.Topmost
+use Rattle.run_stack.specs.Pile.{topOf, headOf, pile}
+use Rattle.run_state.specs.declared.Stage.{Stage}
+use Rattle.run_state.specs.declared.Move.{Move}
+use Rattle.run_state.specs.declared.Reference.{Reference}
+use Rattle.run_state.specs.declared.Reference
+use Rattle.run_state.specs.Moved.{MoveIs}
+
+-- 5 null, 6 an object; a number is no reference
+unfoldable pub referenceAt : Topmost → Reference
+referenceAt Topmost.the-variants.Nothing = Reference.the-variants.Wrong
+referenceAt (Topmost.the-variants.Is k n) =
+    cond (eqb k 5) Reference.the-variants.Null (cond (eqb k 6) (Reference.the-variants.To n) Reference.the-variants.Wrong)
+
+-- the topmost of these operands
+pub record Seen (vs : List Value) (t : Topmost) : Type 0 where
+  pub is : topOf t ≡ headOf vs
+  pub canon : (k n : ℕ) → t ≡ Topmost.the-variants.Is k n → Canon k n
+
+-- the two topmost operands, and the heap
+pub record Knows (m : Machine) (first second : Topmost) (objects cells : List ℕ) (n total : ℕ) : Type 0 where
+  pub top : Seen (m .operands) first
+  pub next : Seen (drop 1 (m .operands)) second
+  pub heap : m .heap ≡ storeAt objects cells n
+  pub kept : Kept objects cells n total
+
+-- the move of an instruction, by what it looks at: operands
+pub record TopPlans (first second : Topmost) (o : Op) (r : Move) : Type 0 where
+  pub is : (p : Program) (codes : List ℕ) (m : Machine)
+      → Seen (m .operands) first → Seen (drop 1 (m .operands)) second
+      → MoveIs p codes m (doOp p m (m .operands) o) r
+
+-- locals
+pub record LocalPlans (locals : List ℕ) (count : ℕ) (first : Topmost) (o : Op) (r : Move) : Type 0 where
+  pub is : (p : Program) (codes : List ℕ) (m : Machine)
+      → m .locals ≡ heldFrom locals 0 count → AllHeldCanon locals count → Seen (m .operands) first
+      → MoveIs p codes m (doOp p m (m .operands) o) r
+
+-- objects and their fields
+pub record FieldPlans (objects cells : List ℕ) (n : ℕ) (first second : Topmost) (o : Op) (r : Move) : Type 0 where
+  pub is : (p : Program) (codes : List ℕ) (m : Machine) (total : ℕ)
+      → Knows m first second objects cells n total
+      → MoveIs p codes m (doOp p m (m .operands) o) r
+
+-- the table, how many objects, cells and operands there are, and the topmost of these
+pub record MakePlans (rows codes : List ℕ) (n total height : ℕ) (first : Topmost) (o : Op) (r : Move) : Type 0 where
+  pub is : (p : Program) (m : Machine) (second : Topmost) (objects cells : List ℕ)
+      → p .types ≡ view rows codes → length (m .operands) ≡ height → Knows m first second objects cells n total
+      → MoveIs p codes m (doOp p m (m .operands) o) r
+
+-- the memory from which a machine's values are read
+pub record Holds (m : Machine) (objects cells locals operands : List ℕ) (count : ℕ) (st : Stage) : Type 0 where
+  pub heap : m .heap ≡ storeAt objects cells (st .objects)
+  pub values : m .operands ≡ pile operands (st .base) (st .height)
+  pub held : m .locals ≡ heldFrom locals 0 count
+  pub kept : Kept objects cells (st .objects) (st .cells)
+  pub localCanon : AllHeldCanon locals count
+  pub canon : AllCanon operands (st .base + st .height)

@@ -1,0 +1,108 @@
+// Where a trial run stands: a few numbers by value, and the words of its memory. Each answer is what the words say
+// (specs/Machines.antt), for any words. What an instruction comes to is told as a move (specs/Moved.antt).
+use run_stack::Topmost;
+ghost use mathlib.Core.Path.{_≡_};
+ghost use Prim.Native.Nat.{_+_, _*_};
+ghost use Rattle.lent_u16.specs.Words.{WordAt};
+ghost use Rattle.run_state.specs.Machines.{lower};
+ghost use Rattle.run_state.specs.Planned.{referenceAt};
+
+// The words of an open block: 1 a block, 2 a loop; the place of its instruction; how many operands lie below it.
+pub const BLOCK: u64 = 3;
+
+pub const KIND: u8 = 0;
+
+pub const PLACE: u8 = 1;
+
+pub const BELOW: u8 = 2;
+
+// "512 operands in all frames", "64 frames, the function's own counted".
+pub const MOST_OPERANDS: u64 = 512;
+
+pub const MOST_BLOCKS: u32 = 63;
+
+// The place of the next instruction; how many objects and cells there are; how many operands lie below the innermost frame,
+// and how many in it; how many blocks are open.
+pub struct Stage {
+    pub place: usize,
+    pub objects: u32,
+    pub cells: u32,
+    pub base: u32,
+    pub height: u32,
+    pub depth: u32,
+}
+
+// What an instruction inside its block comes to. The first number says how many operands it takes from the top; a value is
+// told by its kind and bits. It leaves the rest; puts a value there; puts one in a local, or in an object's field; makes an
+// object of a type with a descriptor (0 none, else one more than its number) of so many values that lie next on the stack,
+// or of the defaults of so many fields whose codes start in the table there; branches to a label; returns; traps. Astray: a
+// value is missing or of the wrong kind.
+pub enum Move {
+    Astray,
+    Traps(u64),
+    Leaves(u32),
+    Gives(u32, u64, u64),
+    SetsLocal(u32, u64, u64, u64),
+    SetsField(u32, u32, u32, u64, u64),
+    Makes(u32, u16, u16, u32),
+    MakesDefault(u32, u16, u16, u32, u32),
+    Branches(u32, u64),
+    Returns,
+}
+
+// What a step comes to: the run goes on, ends or traps.
+pub enum Stepped {
+    Goes(Stage),
+    Ends(Stage),
+    Traps(u64),
+    Astray,
+}
+
+// The kinds of values that moves are told by: i32, null and an object.
+pub const I32: u64 = 1;
+
+pub const NULL: u64 = 5;
+
+pub const OBJECT: u64 = 6;
+
+// What an operand is as a reference: missing or a number; null; an object by its number.
+pub enum Reference {
+    Wrong,
+    Null,
+    To(u64),
+}
+
+pub fn reference_of(top: Topmost) -> Reference
+    ensures { λ r. ⌜ r ≡ referenceAt top ⌝ }
+{
+    match top {
+        Topmost::Nothing => Reference::Wrong,
+        Topmost::Is(kind, bits) => {
+            if kind == NULL {
+                return Reference::Null;
+            }
+            if kind == OBJECT {
+                return Reference::To(bits);
+            }
+            Reference::Wrong
+        }
+    }
+}
+
+// A word of an open block; the outermost is 0.
+pub fn block_word(blocks: &[u16], d: u32, k: u8) -> u64
+    ensures { λ r. ⌜ WordAt (now (blocks .entry)) (3 * d + k) r ⌝ }
+{
+    lent_u16::word(blocks, BLOCK * d as u64 + k as u64)
+}
+
+// How many operands lie below the frame in which so many blocks are open.
+pub fn lower_of(blocks: &[u16], depth: u32) -> u32
+    ensures { λ r. ⌜ r ≡ lower (now (blocks .entry)) depth ⌝ }
+{
+    if depth == 0 {
+        return 0;
+    }
+    let below = block_word(blocks, depth - 1, BELOW);
+    below as u32
+}

@@ -1,0 +1,70 @@
+-- `loader::ask_type` meets its contract: the section is judged, then the number.
+use borrow.Author.Needs.{needs}
+use Rattle.section_call.proofs.Asking.{ask-exits}
+use Rattle.section_call.proofs.ask_type.Statement.{statement}
+use Rattle.section_call.proofs.ask_type.Tie as tie
+
+judge-section-requires : tie.Need-judge-section-requires
+judge-section-requires c κs = search needs
+
+enum-known-judged : tie.Need-enum-known-judged
+enum-known-judged c = search needs
+
+enum-known-judged-2 : tie.Need-enum-known-judged-2
+enum-known-judged-2 c = search needs
+
+from-of-requires : tie.Need-from-of-requires
+from-of-requires c κs = search needs
+
+to-of-requires : tie.Need-to-of-requires
+to-of-requires c κs = search needs
+
+same-length : tie.Need-same-length
+same-length c = search needs
+
+same-length-2 : tie.Need-same-length-2
+same-length-2 c = search needs
+
+returns : tie.Need-returns
+returns c = search (ask-exits, needs)
+
+clear-requires : tie.Need-clear-requires
+clear-requires c κs = search needs
+
+same-length-3 : tie.Need-same-length-3
+same-length-3 c = search needs
+
+same-length-4 : tie.Need-same-length-4
+same-length-4 c = search needs
+
+returns-2 : tie.Need-returns-2
+returns-2 c = search (ask-exits, needs)
+
+same-length-5 : tie.Need-same-length-5
+same-length-5 c = search needs
+
+same-length-6 : tie.Need-same-length-6
+same-length-6 c = search needs
+
+returns-3 : tie.Need-returns-3
+returns-3 c = search (ask-exits, needs)
+
+pub ask-type-spec : {M : Type 1} → statement M
+ask-type-spec =
+    tie.close
+    (tie.spec
+    judge-section-requires
+    enum-known-judged
+    enum-known-judged-2
+    from-of-requires
+    to-of-requires
+    same-length
+    same-length-2
+    returns
+    clear-requires
+    same-length-3
+    same-length-4
+    returns-2
+    same-length-5
+    same-length-6
+    returns-3)

@@ -1,0 +1,57 @@
+-- What the reader of a definition answers and leaves in the table, by the definitions of document 01.
+use Prim.Native.Nat.{ℕ, _+_, _%_, _≤_}
+use mathlib.Core.Path.{_≡_}
+use mathlib.Core.List.{List, [], _∷_, _++_, map}
+use lib.ListN.{length}
+use Rattle.scope.specs.Reading.{Read, got, refused}
+use Rattle.scope.specs.Syntax.{Form, struct, func, Definition}
+use Rattle.scope.specs.Sections.{formAt, definitionAt}
+use Rattle.scope.specs.Memory.{formCodes, formWords}
+use Rattle.type_table.specs.Kept.{keptForm, keptDefinition}
+use Rattle.type_table.specs.View.{row}
+use Rattle.type_table.proofs.Puts.{Puts}
+use Rattle.section_forms.specs.Reads.{Room}
+use Rattle.section_definition.specs.declared.DefinitionRead.{DefinitionRead}
+use Rattle.section_definition.specs.declared.DefinitionRead
+
+-- a word holds the lowest 16 bits of a number
+abbrev pub low : ℕ → ℕ
+low n = n % 65_536
+
+-- the twelve words of a row
+abbrev pub rowLow : ℕ → ℕ → ℕ → ℕ → ℕ → ℕ → ℕ → ℕ → ℕ → ℕ → ℕ → ℕ → List ℕ
+rowLow kind n results opens first described describing from to reach used further =
+    map low (kind ∷ n ∷ results ∷ opens ∷ first ∷ described ∷ describing ∷ from ∷ to ∷ reach ∷ used ∷ further ∷ [])
+
+-- the row of a form that ends at a place, by what was read before it
+unfoldable pub rowOf : ℕ → ℕ → ℕ → ℕ → ℕ → ℕ → ℕ → ℕ → Form → ℕ → List ℕ
+rowOf opens first described describing from reach used further f to =
+    map low (formWords f ++ opens ∷ first ∷ described ∷ describing ∷ from ∷ to ∷ reach ∷ used ∷ further ∷ [])
+
+-- the table has room for the row and for the codes
+pub record Place (s rows codes : List ℕ) (at row used : ℕ) : Type 0 where
+  pub room : Room s codes at used
+  pub line : row + 12 ≤ length rows
+
+abbrev pub formedIs : ℕ → Read Form → DefinitionRead
+formedIs used (got f end) = DefinitionRead.the-variants.Got end (used + length (formCodes (keptForm f)))
+formedIs used (refused n p) = DefinitionRead.the-variants.Refused n p
+
+-- a form that was read, with the row that is made of it
+pub record FormedRead (made : Form → ℕ → List ℕ) (s : List ℕ) (at : ℕ) (rows rows′ : List ℕ) (row : ℕ) (codes codes′ : List ℕ) (used : ℕ) (r : DefinitionRead) : Type 0 where
+  pub answer : r ≡ formedIs used (formAt s at)
+  pub rowPut : (f : Form) (end : ℕ) → formAt s at ≡ got f end → Puts rows rows′ row (made (keptForm f) end)
+  pub codesPut : (f : Form) (end : ℕ) → formAt s at ≡ got f end → Puts codes codes′ used (formCodes (keptForm f))
+  pub rowsSize : length rows′ ≡ length rows
+  pub codesSize : length codes′ ≡ length codes
+
+abbrev pub definitionIs : ℕ → Read Definition → DefinitionRead
+definitionIs used (got d end) = DefinitionRead.the-variants.Got end (used + length (formCodes (keptForm (d .form))))
+definitionIs used (refused n p) = DefinitionRead.the-variants.Refused n p
+
+pub record DefinitionPut (reach : ℕ) (s : List ℕ) (at : ℕ) (rows rows′ : List ℕ) (line : ℕ) (codes codes′ : List ℕ) (used : ℕ) (r : DefinitionRead) : Type 0 where
+  pub answer : r ≡ definitionIs used (definitionAt reach s at)
+  pub rowPut : (d : Definition) (end : ℕ) → definitionAt reach s at ≡ got d end → Puts rows rows′ line (map low (row used (keptDefinition d)))
+  pub codesPut : (d : Definition) (end : ℕ) → definitionAt reach s at ≡ got d end → Puts codes codes′ used (formCodes (keptForm (d .form)))
+  pub rowsSize : length rows′ ≡ length rows
+  pub codesSize : length codes′ ≡ length codes

@@ -1,0 +1,147 @@
+// Reading a definition: what stands before its form, its form, and its row in the lent table.
+use section_clauses::Front;
+use section_forms::FormRead;
+ghost use Prim.Native.Nat.{_+_, _≤_};
+ghost use mathlib.Core.List.{_∷_, []};
+ghost use lib.ListN.{length};
+ghost use Rattle.type_table.proofs.Puts.{Puts};
+ghost use Rattle.section_definition.specs.Rows.{low, rowLow, rowOf, Place, FormedRead, DefinitionPut};
+
+// Four words, one after the other.
+fn put_four(m: &mut [u16], at: u64, a: u64, b: u64, c: u64, d: u64)
+    requires { ⌜ at + 4 ≤ length (now m) ⌝ }
+    ensures { λ r. ⌜ Puts (now (m .entry)) (now (m .exit)) at (low a ∷ low b ∷ low c ∷ low d ∷ []) ⌝ }
+{
+    lent_u16::put(m, at, a);
+    lent_u16::put(m, at + 1, b);
+    lent_u16::put(m, at + 2, c);
+    lent_u16::put(m, at + 3, d);
+}
+
+// The twelve words of a row, in the order of table's View.antt.
+fn put_row(
+    m: &mut [u16],
+    at: u64,
+    kind: u64,
+    n: u64,
+    results: u64,
+    opens: u64,
+    first: u64,
+    described: u64,
+    describing: u64,
+    from: u64,
+    to: u64,
+    reach: u64,
+    used: u64,
+    further: u64,
+)
+    requires { ⌜ at + 12 ≤ length (now m) ⌝ }
+    ensures { λ r. ⌜ Puts (now (m .entry)) (now (m .exit)) at (rowLow kind n results opens first described describing from to reach used further) ⌝ }
+{
+    put_four(m, at, kind, n, results, opens);
+    put_four(m, at + 4, first, described, describing, from);
+    put_four(m, at + 8, to, reach, used, further);
+}
+
+// The place after a definition and the codes that are used then; or a refusal's number and place.
+pub enum DefinitionRead {
+    Got(usize, u64),
+    Refused(u64, usize),
+}
+
+// The form of a definition that began at `from`, and then its row.
+fn formed_at(
+    s: &[u8],
+    at: usize,
+    from: usize,
+    reach: u64,
+    opens: u64,
+    first: u64,
+    further: u64,
+    described: u64,
+    describing: u64,
+    rows: &mut [u16],
+    row: u64,
+    codes: &mut [u16],
+    used: u64,
+) -> DefinitionRead
+    requires { ⌜ Place (now s) (now rows) (now codes) at row used ⌝ }
+    ensures { λ r. ⌜ FormedRead (rowOf opens first described describing from reach used further) (now (s .entry)) at (now (rows .entry)) (now (rows .exit)) row (now (codes .entry)) (now (codes .exit)) used r ⌝ }
+{
+    let form = section_forms::form_at(s, at, codes, used);
+    match form {
+        FormRead::Refused(number, place) => DefinitionRead::Refused(number, place),
+        FormRead::Struct(n, end) => {
+            put_row(
+                rows,
+                row,
+                1,
+                n,
+                0,
+                opens,
+                first,
+                described,
+                describing,
+                from as u64,
+                end as u64,
+                reach,
+                used,
+                further,
+            );
+            DefinitionRead::Got(end, used + n)
+        }
+        FormRead::Func(n, m, end) => {
+            put_row(
+                rows,
+                row,
+                2,
+                n,
+                m,
+                opens,
+                first,
+                described,
+                describing,
+                from as u64,
+                end as u64,
+                reach,
+                used,
+                further,
+            );
+            DefinitionRead::Got(end, used + n + m)
+        }
+    }
+}
+
+// A definition of a group that reaches so far, its row put at `row` and its codes from `used` on.
+pub fn definition_at(
+    s: &[u8],
+    at: usize,
+    reach: u64,
+    rows: &mut [u16],
+    row: u64,
+    codes: &mut [u16],
+    used: u64,
+) -> DefinitionRead
+    requires { ⌜ Place (now s) (now rows) (now codes) at row used ⌝ }
+    ensures { λ r. ⌜ DefinitionPut reach (now (s .entry)) at (now (rows .entry)) (now (rows .exit)) row (now (codes .entry)) (now (codes .exit)) used r ⌝ }
+{
+    let front = section_clauses::front_at(s, at);
+    match front {
+        Front::Refused(number, place) => DefinitionRead::Refused(number, place),
+        Front::Got(opens, first, further, described, describing, next) => formed_at(
+            s,
+            next,
+            at,
+            reach,
+            opens,
+            first,
+            further,
+            described,
+            describing,
+            rows,
+            row,
+            codes,
+            used,
+        ),
+    }
+}

@@ -1,0 +1,54 @@
+-- `groups::alone_at` meets its contract: one definition, where there is a row for it.
+use borrow.Author.Needs.{needs}
+use Rattle.section_group.proofs.Ways.{alone-exits}
+use Rattle.section_group.proofs.alone_at.Statement.{statement}
+use Rattle.section_group.proofs.alone_at.Tie as tie
+
+returns : tie.Need-returns
+returns c = search (alone-exits, needs)
+
+add-definition-at : tie.Need-add-definition-at
+add-definition-at c = search needs
+
+definition-at-requires : tie.Need-definition-at-requires
+definition-at-requires c κs = search needs
+
+enum-known-read : tie.Need-enum-known-read
+enum-known-read c = search needs
+
+enum-known-read-2 : tie.Need-enum-known-read-2
+enum-known-read-2 c = search needs
+
+same-length : tie.Need-same-length
+same-length c = search needs
+
+same-length-2 : tie.Need-same-length-2
+same-length-2 c = search needs
+
+returns-2 : tie.Need-returns-2
+returns-2 c = search (alone-exits, needs)
+
+same-length-3 : tie.Need-same-length-3
+same-length-3 c = search needs
+
+same-length-4 : tie.Need-same-length-4
+same-length-4 c = search needs
+
+returns-3 : tie.Need-returns-3
+returns-3 c = search (alone-exits, needs)
+
+pub alone-at-spec : {M : Type 1} → statement M
+alone-at-spec =
+    tie.close
+    (tie.spec
+    returns
+    add-definition-at
+    definition-at-requires
+    enum-known-read
+    enum-known-read-2
+    same-length
+    same-length-2
+    returns-2
+    same-length-3
+    same-length-4
+    returns-3)

@@ -1,0 +1,121 @@
+// Reading groups and the whole section into the lent table. While a group is read, it is lent only the rest of the table
+// from its first row on.
+use number::Byte;
+use number::Natural;
+use section_definition::DefinitionRead;
+ghost use Rattle.scope.specs.Sections.{groupAt};
+ghost use Rattle.section_group.specs.Lent.{Lent, GroupPut, entriesAt, severalAt, aloneAt};
+
+// How many definitions were read, the place after them and the codes that are used then; or a refusal.
+pub enum GroupRead {
+    Got(u64, usize, u64),
+    Refused(u64, usize),
+}
+
+// n definitions of a group that reaches so far and whose first type has the number `first`. `rows` starts at the group's
+// first row.
+fn entries_at(
+    s: &[u8],
+    at: usize,
+    n: u64,
+    reach: u64,
+    first: u64,
+    rows: &mut [u16],
+    codes: &mut [u16],
+    used: u64,
+) -> GroupRead
+    requires { ⌜ Lent (now s) (now rows) (now codes) at first used ⌝ }
+    ensures { λ r. ⌜ GroupPut (entriesAt reach first n) (now (s .entry)) at (now (rows .entry)) (now (rows .exit)) (now (codes .entry)) (now (codes .exit)) used r ⌝ }
+{
+    let mut next = at;
+    let mut count: u64 = 0;
+    let mut taken = used;
+    while count < n {
+        if 256 <= first + count {
+            return GroupRead::Refused(4, next);
+        }
+        let read = section_definition::definition_at(
+            s,
+            next,
+            reach,
+            rows,
+            12 * count,
+            codes,
+            taken,
+        );
+        match read {
+            DefinitionRead::Refused(number, place) => {
+                return GroupRead::Refused(number, place);
+            }
+            DefinitionRead::Got(after, more) => {
+                next = after;
+                taken = more;
+                count = count + 1;
+            }
+        }
+    }
+    GroupRead::Got(count, next, taken)
+}
+
+// 4E was read: a list of definitions.
+fn several_at(
+    s: &[u8],
+    at: usize,
+    first: u64,
+    rows: &mut [u16],
+    codes: &mut [u16],
+    used: u64,
+) -> GroupRead
+    requires { ⌜ Lent (now s) (now rows) (now codes) at first used ⌝ }
+    ensures { λ r. ⌜ GroupPut (severalAt first) (now (s .entry)) at (now (rows .entry)) (now (rows .exit)) (now (codes .entry)) (now (codes .exit)) used r ⌝ }
+{
+    let counted = number::u32_at(s, at);
+    match counted {
+        Natural::Refused(number, place) => GroupRead::Refused(number, place),
+        Natural::Is(n, next) => entries_at(s, next, n, first + n, first, rows, codes, used),
+    }
+}
+
+// One definition alone, where there is a row for it.
+fn alone_at(
+    s: &[u8],
+    at: usize,
+    first: u64,
+    rows: &mut [u16],
+    codes: &mut [u16],
+    used: u64,
+) -> GroupRead
+    requires { ⌜ Lent (now s) (now rows) (now codes) at first used ⌝ }
+    ensures { λ r. ⌜ GroupPut (aloneAt first) (now (s .entry)) at (now (rows .entry)) (now (rows .exit)) (now (codes .entry)) (now (codes .exit)) used r ⌝ }
+{
+    if 256 <= first {
+        return GroupRead::Refused(4, at);
+    }
+    let read = section_definition::definition_at(s, at, first + 1, rows, 0, codes, used);
+    match read {
+        DefinitionRead::Refused(number, place) => GroupRead::Refused(number, place),
+        DefinitionRead::Got(next, taken) => GroupRead::Got(1, next, taken),
+    }
+}
+
+// A group: 4E and a list of definitions, or one definition alone.
+pub fn group_at(
+    s: &[u8],
+    at: usize,
+    first: u64,
+    rows: &mut [u16],
+    codes: &mut [u16],
+    used: u64,
+) -> GroupRead
+    requires { ⌜ Lent (now s) (now rows) (now codes) at first used ⌝ }
+    ensures { λ r. ⌜ GroupPut (groupAt first) (now (s .entry)) at (now (rows .entry)) (now (rows .exit)) (now (codes .entry)) (now (codes .exit)) used r ⌝ }
+{
+    let form = number::byte_at(s, at);
+    let Byte::Is(b) = form else {
+        return GroupRead::Refused(1, at);
+    };
+    if b == 0x4E {
+        return several_at(s, at + 1, first, rows, codes, used);
+    }
+    alone_at(s, at, first, rows, codes, used)
+}

@@ -1,0 +1,115 @@
+// Type rule 2: whether a type's form matches its supertype's. Fields and value types are codes that lie one after the
+// other in the table; each answer is the rule's (scope's TypeRules.antt) over what the table says, for any words.
+use type_table::Link;
+use type_table::Shape;
+ghost use mathlib.Core.Path.{_≡_};
+ghost use Rattle.scope.specs.Syntax.{struct, func};
+ghost use Rattle.scope.specs.TypeRules.{fieldMatches, formMatches, matchesSuper};
+ghost use Rattle.type_table.specs.View.{valAtCode, fieldAtCode, codesAt, view};
+ghost use Rattle.type_matching.specs.Lists.{codeMatches, codesMatch};
+
+// Mutability is equal; a fixed field's type is a subtype, a mutable one's is identical.
+fn field_matches(rows: &[u16], codes: &[u16], a: u64, b: u64) -> bool
+    ensures { λ r. ⌜ r ≡ fieldMatches (view (now (rows .entry)) (now (codes .entry))) (fieldAtCode a) (fieldAtCode b) ⌝ }
+{
+    if a % 2 == 1 {
+        if b % 2 == 1 {
+            type_order::same_val(a / 2, b / 2)
+        } else {
+            false
+        }
+    } else {
+        if b % 2 == 1 {
+            false
+        } else {
+            type_order::val_below(rows, codes, a / 2, b / 2)
+        }
+    }
+}
+
+// Two codes against each other: those of fields, or of value types.
+fn code_matches(rows: &[u16], codes: &[u16], fields: bool, a: u64, b: u64) -> bool
+    ensures { λ r. ⌜ r ≡ codeMatches fields (view (now (rows .entry)) (now (codes .entry))) a b ⌝ }
+{
+    if fields {
+        field_matches(rows, codes, a, b)
+    } else {
+        type_order::val_below(rows, codes, a, b)
+    }
+}
+
+// The n codes from i on against the m codes from j on, one by one. Of fields there are at least as many, of value types
+// just as many.
+fn codes_match(rows: &[u16], codes: &[u16], fields: bool, i: u32, n: u32, j: u32, m: u32) -> bool
+    ensures { λ r. ⌜ r ≡ codesMatch fields (view (now (rows .entry)) (now (codes .entry))) (now (codes .entry)) i n j m ⌝ }
+{
+    let mut at = i as u64;
+    let mut left = n as u64;
+    let mut up = j as u64;
+    let mut more = m as u64;
+    while 0 < more {
+        if left == 0 {
+            return false;
+        }
+        let a = lent_u16::word(codes, at);
+        let b = lent_u16::word(codes, up);
+        if !code_matches(rows, codes, fields, a, b) {
+            return false;
+        }
+        at = at + 1;
+        left = left - 1;
+        up = up + 1;
+        more = more - 1;
+    }
+    if fields {
+        return true;
+    }
+    left == 0
+}
+
+// A struct of n fields from i on against the form of p.
+fn struct_matches(rows: &[u16], codes: &[u16], i: u32, n: u32, p: u64) -> bool
+    ensures { λ r. ⌜ r ≡ formMatches (view (now (rows .entry)) (now (codes .entry))) (struct (codesAt fieldAtCode (now (codes .entry)) i n)) (view (now (rows .entry)) (now (codes .entry)) p .form) ⌝ }
+{
+    let upper = type_table::shape_of(rows, codes, p);
+    match upper {
+        Shape::Struct(j, m) => codes_match(rows, codes, true, i, n, j, m),
+        Shape::Func(_, _, _, _) => false,
+    }
+}
+
+// A function of n parameters from i on and o results from k on against the form of p: parameters against, results along.
+fn func_matches(rows: &[u16], codes: &[u16], i: u32, n: u32, k: u32, o: u32, p: u64) -> bool
+    ensures { λ r. ⌜ r ≡ formMatches (view (now (rows .entry)) (now (codes .entry))) (func (codesAt valAtCode (now (codes .entry)) i n) (codesAt valAtCode (now (codes .entry)) k o)) (view (now (rows .entry)) (now (codes .entry)) p .form) ⌝ }
+{
+    let upper = type_table::shape_of(rows, codes, p);
+    match upper {
+        Shape::Struct(_, _) => false,
+        Shape::Func(j, m, l, q) => {
+            if !codes_match(rows, codes, false, j, m, i, n) {
+                return false;
+            }
+            codes_match(rows, codes, false, k, o, l, q)
+        }
+    }
+}
+
+pub fn form_matches(rows: &[u16], codes: &[u16], x: u64, p: u64) -> bool
+    ensures { λ r. ⌜ r ≡ formMatches (view (now (rows .entry)) (now (codes .entry))) (view (now (rows .entry)) (now (codes .entry)) x .form) (view (now (rows .entry)) (now (codes .entry)) p .form) ⌝ }
+{
+    let lower = type_table::shape_of(rows, codes, x);
+    match lower {
+        Shape::Struct(i, n) => struct_matches(rows, codes, i, n, p),
+        Shape::Func(i, n, k, o) => func_matches(rows, codes, i, n, k, o, p),
+    }
+}
+
+pub fn matches_super(rows: &[u16], codes: &[u16], x: u64) -> bool
+    ensures { λ r. ⌜ r ≡ matchesSuper (view (now (rows .entry)) (now (codes .entry))) x ⌝ }
+{
+    let above = type_table::super_of(rows, codes, x);
+    match above {
+        Link::Nothing => true,
+        Link::To(p) => form_matches(rows, codes, x, p),
+    }
+}

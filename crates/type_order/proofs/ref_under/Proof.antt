@@ -1,0 +1,46 @@
+-- `order::ref_under` meets its contract: heaps decide, unless a nullable reference would be below one that is not.
+use borrow.Author.Needs.{needs}
+use Rattle.type_order.proofs.Same.{ref-exits}
+use Rattle.type_order.proofs.ref_under.Statement.{statement}
+use Rattle.type_order.proofs.ref_under.Tie as tie
+
+val-of-requires : tie.Need-val-of-requires
+val-of-requires c κs = search needs
+
+enum-told : tie.Need-enum-told
+enum-told c = search needs
+
+enum-known-upper : tie.Need-enum-known-upper
+enum-known-upper c = search needs
+
+heap-below-requires : tie.Need-heap-below-requires
+heap-below-requires c κs = search needs
+
+returns : tie.Need-returns
+returns c = search (ref-exits, needs)
+
+returns-2 : tie.Need-returns-2
+returns-2 c = search (ref-exits, needs)
+
+heap-below-requires-2 : tie.Need-heap-below-requires-2
+heap-below-requires-2 c κs = search needs
+
+returns-3 : tie.Need-returns-3
+returns-3 c = search (ref-exits, needs)
+
+returns-4 : tie.Need-returns-4
+returns-4 c = search (ref-exits, needs)
+
+pub ref-under-spec : {M : Type 1} → statement M
+ref-under-spec =
+    tie.close
+    (tie.spec
+    val-of-requires
+    enum-told
+    enum-known-upper
+    heap-below-requires
+    returns
+    returns-2
+    heap-below-requires-2
+    returns-3
+    returns-4)

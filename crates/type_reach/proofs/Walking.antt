@@ -1,0 +1,55 @@
+-- The loop of codes_in_reach and the list of names walk the same codes: the first code's names stand before the others'.
+use Prim.Native.Nat.{ℕ, _+_, _-_, _≤_, _<_, _^_}
+use mathlib.Core.Path.{_≡_, refl, sym, ap, _∙_}
+use mathlib.Core.Bool.{Bool, true, false, not, _&&_}
+use mathlib.Core.List.{List, [], _++_}
+use native.Mathlib.Omega.{arith}
+use mir.Syntax.{w32, w64}
+use mir.Val.{Fits}
+use Rattle.lent_u16.specs.Words.{WordAt}
+use Rattle.type_table.specs.View.{valAtCode, fieldAtCode}
+use Rattle.type_table.proofs.Laws.{no-codes, first-code}
+use Rattle.type_reach.specs.Names.{allBelow, codeNames, codesNames}
+use Rattle.type_reach.proofs.Naming.{below-none, below-append, part-out, part-in}
+
+no-names : (fields : Bool) (codes : List ℕ) (at left : ℕ) → left ≤ 0 → codesNames fields codes at left ≡ []
+unfolding codesNames
+no-names true codes at left h = rw (no-codes fieldAtCode codes at left h)
+no-names false codes at left h = rw (no-codes valAtCode codes at left h)
+
+first-names : (fields : Bool) (codes : List ℕ) (at left : ℕ) {c : ℕ} → 0 < left → WordAt codes at c → codesNames fields codes at left ≡ codeNames fields c ++ codesNames fields codes (at + 1) (left - 1)
+unfolding codesNames codeNames
+first-names true codes at left h w = rw (first-code fieldAtCode codes at left h w)
+first-names false codes at left h w = rw (first-code valAtCode codes at left h w)
+
+-- what the loop holds
+
+pub record Walk (fields : Bool) (codes : List ℕ) (i n reach at left : ℕ) : Type 0 where
+  pub same : allBelow reach (codesNames fields codes i n) ≡ allBelow reach (codesNames fields codes at left)
+  pub near : at + left < 2 ^ 33
+
+pub walk-first : (fields : Bool) (codes : List ℕ) (i n reach : ℕ) → Fits w32 i → Fits w32 n → Walk fields codes i n reach i n
+walk-first fields codes i n reach a b = let p : i < 2 ^ 32 = a .fits in let q : n < 2 ^ 32 = b .fits in record { same = refl; near = omega arith }
+
+module _ {fields : Bool} {codes : List ℕ} {i n reach at left : ℕ} (w : Walk fields codes i n reach at left) where
+  pub walk-done : left ≤ 0 → true ≡ allBelow reach (codesNames fields codes i n)
+  walk-done h = below-none reach ∙ sym (w .same ∙ ap (allBelow reach) (no-names fields codes at left h))
+
+  pub next-fits : Fits w64 (at + 1)
+  next-fits = let h : at + left < 2 ^ 33 = w .near in record { fits = omega arith }
+
+  module _ (h : 0 < left) {c : ℕ} (p : WordAt codes at c) {r : Bool} (e : r ≡ allBelow reach (codeNames fields c)) where
+    whole : allBelow reach (codesNames fields codes i n) ≡ (r && allBelow reach (codesNames fields codes (at + 1) (left - 1)))
+    whole =
+        w .same
+        ∙ ap (allBelow reach) (first-names fields codes at left h p)
+        ∙ below-append reach (codeNames fields c) _
+        ∙ ap (λ (t : Bool). t && allBelow reach (codesNames fields codes (at + 1) (left - 1))) (sym e)
+
+    pub walk-stopped : not r ≡ true → false ≡ allBelow reach (codesNames fields codes i n)
+    walk-stopped t = part-out r _ t ∙ sym whole
+
+    pub walk-turn : not r ≡ false → Walk fields codes i n reach (at + 1) (left - 1)
+    walk-turn t = let c : at + left < 2 ^ 33 = w .near in record { same = whole ∙ sym (part-in r _ t); near = omega arith }
+
+pub ruleset walk-exits = (walk-first, walk-done, next-fits, walk-stopped, walk-turn)

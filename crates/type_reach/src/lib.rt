@@ -1,0 +1,122 @@
+// Type rule 1, first part: a number may name any type up to the end of its own group. Every number of a definition is
+// looked at: its supertypes, its clauses, and those in its fields, parameters and results.
+use type_table::HeapKind;
+use type_table::Link;
+use type_table::Shape;
+use type_table::Supers;
+use type_table::ValKind;
+ghost use mathlib.Core.Path.{_≡_};
+ghost use mathlib.Core.Bool.{_&&_};
+ghost use Rattle.scope.specs.Lists.{asList};
+ghost use Rattle.scope.specs.TypeRules.{heapNames, valNames, formNames, inReach};
+ghost use Rattle.type_table.specs.View.{heapAtCode, valAtCode, view};
+ghost use Rattle.type_reach.specs.Names.{allBelow, linkBelow, codeNames, codesNames};
+
+// The number in the heap type with the code h, if there is one.
+pub fn heap_in_reach(h: u64, reach: u64) -> bool
+    ensures { λ r. ⌜ r ≡ allBelow reach (heapNames (heapAtCode h)) ⌝ }
+{
+    let heap = type_table::heap_of(h);
+    match heap {
+        HeapKind::Abstract(_) => true,
+        HeapKind::Defined(x) => x < reach,
+        HeapKind::Exact(x) => x < reach,
+    }
+}
+
+pub fn val_in_reach(c: u64, reach: u64) -> bool
+    ensures { λ r. ⌜ r ≡ allBelow reach (valNames (valAtCode c)) ⌝ }
+{
+    let val = type_table::val_of(c);
+    match val {
+        ValKind::Number(_) => true,
+        ValKind::Ref(_, h) => heap_in_reach(h, reach),
+    }
+}
+
+// A field's code, or a value type's.
+fn code_in_reach(fields: bool, c: u64, reach: u64) -> bool
+    ensures { λ r. ⌜ r ≡ allBelow reach (codeNames fields c) ⌝ }
+{
+    if fields {
+        val_in_reach(c / 2, reach)
+    } else {
+        val_in_reach(c, reach)
+    }
+}
+
+// The n codes from i on.
+fn codes_in_reach(codes: &[u16], fields: bool, i: u32, n: u32, reach: u64) -> bool
+    ensures { λ r. ⌜ r ≡ allBelow reach (codesNames fields (now (codes .entry)) i n) ⌝ }
+{
+    let mut at = i as u64;
+    let mut left = n as u64;
+    while 0 < left {
+        let c = lent_u16::word(codes, at);
+        if !code_in_reach(fields, c, reach) {
+            return false;
+        }
+        at = at + 1;
+        left = left - 1;
+    }
+    true
+}
+
+fn form_in_reach(rows: &[u16], codes: &[u16], x: u64, reach: u64) -> bool
+    ensures { λ r. ⌜ r ≡ allBelow reach (formNames (view (now (rows .entry)) (now (codes .entry)) x .form)) ⌝ }
+{
+    let shape = type_table::shape_of(rows, codes, x);
+    match shape {
+        Shape::Struct(i, n) => codes_in_reach(codes, true, i, n, reach),
+        Shape::Func(i, n, k, m) => {
+            if !codes_in_reach(codes, false, i, n, reach) {
+                return false;
+            }
+            codes_in_reach(codes, false, k, m, reach)
+        }
+    }
+}
+
+fn supers_in_reach(rows: &[u16], codes: &[u16], x: u64, reach: u64) -> bool
+    ensures { λ r. ⌜ r ≡ allBelow reach (view (now (rows .entry)) (now (codes .entry)) x .supers) ⌝ }
+{
+    let supers = type_table::supers_of(rows, codes, x);
+    match supers {
+        Supers::Nothing => true,
+        Supers::One(p) => p < reach,
+        Supers::Two(p, q) => { if p < reach { q < reach } else { false } }
+    }
+}
+
+fn link_in_reach(link: Link, reach: u64) -> bool
+    ensures { λ r. ⌜ r ≡ linkBelow reach link ⌝ }
+{
+    match link {
+        Link::Nothing => true,
+        Link::To(x) => x < reach,
+    }
+}
+
+fn clauses_in_reach(rows: &[u16], codes: &[u16], x: u64, reach: u64) -> bool
+    ensures { λ r. ⌜ r ≡ (allBelow reach (asList (view (now (rows .entry)) (now (codes .entry)) x .describes)) && allBelow reach (asList (view (now (rows .entry)) (now (codes .entry)) x .descriptor))) ⌝ }
+{
+    let described = type_table::describes_of(rows, codes, x);
+    if !link_in_reach(described, reach) {
+        return false;
+    }
+    let descriptor = type_table::descriptor_of(rows, codes, x);
+    link_in_reach(descriptor, reach)
+}
+
+pub fn in_reach(rows: &[u16], codes: &[u16], x: u64) -> bool
+    ensures { λ r. ⌜ r ≡ inReach (view (now (rows .entry)) (now (codes .entry))) x ⌝ }
+{
+    let reach = type_table::reach_of(rows, codes, x);
+    if !supers_in_reach(rows, codes, x, reach) {
+        return false;
+    }
+    if !clauses_in_reach(rows, codes, x, reach) {
+        return false;
+    }
+    form_in_reach(rows, codes, x, reach)
+}

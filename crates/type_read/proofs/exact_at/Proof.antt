@@ -1,0 +1,42 @@
+-- `valtypes::exact_at` meets its contract: the number as the table keeps it, or its refusal.
+use borrow.Author.Needs.{needs}
+use Rattle.type_read.proofs.Heaps.{number-exits}
+use Rattle.type_read.proofs.exact_at.Statement.{statement}
+use Rattle.type_read.proofs.exact_at.Tie as tie
+
+u32-at-requires : tie.Need-u32-at-requires
+u32-at-requires c κs = search needs
+
+enum-known-read : tie.Need-enum-known-read
+enum-known-read c = search needs
+
+kept-number-requires : tie.Need-kept-number-requires
+kept-number-requires c κs = search needs
+
+mul-t10 : tie.Need-mul-t10
+mul-t10 c = search needs
+
+add-t11 : tie.Need-add-t11
+add-t11 c = search needs
+
+enum-known-read-2 : tie.Need-enum-known-read-2
+enum-known-read-2 c = search needs
+
+returns : tie.Need-returns
+returns c = search (number-exits, needs)
+
+returns-2 : tie.Need-returns-2
+returns-2 c = search (number-exits, needs)
+
+pub exact-at-spec : {M : Type 1} → statement M
+exact-at-spec =
+    tie.close
+    (tie.spec
+    u32-at-requires
+    enum-known-read
+    kept-number-requires
+    mul-t10
+    add-t11
+    enum-known-read-2
+    returns
+    returns-2)
