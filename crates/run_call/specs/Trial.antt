@@ -12,7 +12,8 @@ use Rattle.scope.specs.Bodies.{Body, judgeBody}
 use Rattle.scope.specs.Running as running
 use Rattle.scope.specs.Running.{run, trialOf, withParameters, Trial, trialRun}
 use Rattle.scope.specs.Memory.{StateWords, stateWords, wiped}
-use Rattle.scope.specs.Answers.{after, tableLent, holds, workSize, endsSize, RunMemory, runCall, machineOf, endedAs, ranOf}
+use Rattle.scope.specs.Answers.{after, tableLent, holds, RunMemory, runCall, machineOf, endedAs, ranOf}
+use Rattle.scope.specs.Layout.{workSize, endsSize}
 use Rattle.scope.proofs.Soundness.{Runs}
 use Rattle.run_state.specs.Machines.{Words, words, machineAt, programAt}
 use Rattle.run_buffers.specs.States.{Written}

@@ -13,49 +13,13 @@ use Rattle.scope.specs.declared.Asked
 use Rattle.scope.specs.declared.Ran.{Ran}
 use Rattle.scope.specs.declared.Ran
 use Rattle.scope.specs.Refusals.{bufferTooSmall}
+use Rattle.scope.specs.Layout.{rowsSize, codesSize, workSize, endsSize, countsSize, objectsSize, cellsSize, localsSize, operandsSize, blocksSize}
 use Rattle.scope.specs.Syntax.{Definition}
 use Rattle.scope.specs.Judging.{Judged, accepted, rejected, andThen, judgeSection, askType, partOf}
 use Rattle.scope.specs.Bodies.{Code, Body, instructions, judgeBody}
 use Rattle.scope.specs.Machine.{Machine}
 use Rattle.scope.specs.Running.{Ending, done, trapped, spent, wrong, Trial, trialRun, placeOf}
 use Rattle.scope.specs.Memory.{filled, wiped, tableRows, tableCodes, StateWords, stateWords}
-
--- the sizes of the lent buffers, in elements; docs/LAYOUT.md has their bytes
-
--- the table, u16: 256 rows of 12 words, and the codes of fields, parameters and results
-abbrev pub rowsSize : ℕ
-rowsSize = 3_072
-
-abbrev pub codesSize : ℕ
-codesSize = 32_768
-
--- a body's scratch, u32
-abbrev pub workSize : ℕ
-workSize = 4_096
-
--- a run's scratch, u16: a place for each byte of the body
-abbrev pub endsSize : ℕ
-endsSize = 32_768
-
--- a run's state: u64 counts, u16 objects of 4 words, u64 cells of 2 words, u64 locals and operands of 2 words, u16 blocks
--- of 3 words
-abbrev pub countsSize : ℕ
-countsSize = 6
-
-abbrev pub objectsSize : ℕ
-objectsSize = 4_096
-
-abbrev pub cellsSize : ℕ
-cellsSize = 8_192
-
-abbrev pub localsSize : ℕ
-localsSize = 512
-
-abbrev pub operandsSize : ℕ
-operandsSize = 1_024
-
-abbrev pub blocksSize : ℕ
-blocksSize = 189
 
 -- 14: a lent buffer under its one size, at 0; never otherwise
 abbrev pub holds : ℕ → List ℕ → Bool

@@ -1,4 +1,5 @@
 pub mod Sizes
+pub mod Layout
 pub mod Refusals
 pub mod Reading
 pub mod Numbers

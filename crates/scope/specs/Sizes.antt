@@ -1,5 +1,5 @@
 -- The sizes of document 01, from "Sizes" and "The trial run". Each number of the paper stands here once.
-use Prim.Native.Nat.{ℕ}
+use Prim.Native.Nat.{ℕ, _-_}
 
 -- 32,768 bytes a section or body
 abbrev pub mostBytes : ℕ
@@ -28,6 +28,10 @@ mostOperands = 512
 -- 64 frames, the function's own counted
 abbrev pub mostFrames : ℕ
 mostFrames = 64
+
+-- so 63 open blocks
+abbrev pub mostBlocks : ℕ
+mostBlocks = mostFrames - 1
 
 -- a budget of at most 1,000,000
 abbrev pub mostBudget : ℕ

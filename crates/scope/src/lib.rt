@@ -1,5 +1,8 @@
 // The answers of the loader's public calls, as document 01 has them. specs/Answers.antt gives the paper's number and
 // values for each case.
+pub mod refusals;
+pub mod sizes;
+pub mod traps;
 
 // Judging a section or a body: the count of types or of instructions; or the refusal's number and place.
 pub enum Verdict {

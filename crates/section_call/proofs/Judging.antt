@@ -15,7 +15,8 @@ use Rattle.scope.specs.Syntax.{Definition, Group, typesOf}
 use Rattle.scope.specs.Sections.{readSection}
 use Rattle.scope.specs.Judging.{Judged, accepted, rejected, andThen, linksFault, ruleFault, scan, judgeTypes, judgeSection}
 use Rattle.scope.specs.Memory.{filled, wiped, tableRows, tableCodes}
-use Rattle.scope.specs.Answers.{rowsSize, codesSize, holds, tableLent, lentEnough, verdictOf, after, sectionCall, SectionJudged}
+use Rattle.scope.specs.Answers.{holds, tableLent, lentEnough, verdictOf, after, sectionCall, SectionJudged}
+use Rattle.scope.specs.Layout.{rowsSize, codesSize}
 use Rattle.scope.specs.declared.Verdict.{Verdict}
 use Rattle.scope.specs.declared.Verdict
 use Rattle.type_table.specs.Kept.{keptDefinition}

@@ -1,28 +1,10 @@
 // The verdict on the types of a section, in document 01's order: type by type rule 1 and the chain; then, type by type
 // again, rules 2 to 5 in rising number of refusal. The first fault is the answer, with the number of its type.
+use scope::refusals;
 ghost use mathlib.Core.Path.{_≡_};
 ghost use Rattle.scope.specs.Judging.{linksFault, ruleFault, scan, judgeTypes};
 ghost use Rattle.type_table.specs.View.{view};
 ghost use Rattle.section_judge.specs.Verdict.{faultIs, judgementIs, clausesFault, followFault, faultOf};
-
-// By which number each rule is refused.
-const OVERSIZE: u64 = 4;
-
-const OUT_OF_REACH: u64 = 6;
-
-const BAD_SUPERTYPE: u64 = 7;
-
-const NO_MATCH: u64 = 8;
-
-const CLAUSE_NOT_ON_STRUCT: u64 = 9;
-
-const DESCRIBES_NOT_EARLIER: u64 = 10;
-
-const CLAUSES_DISAGREE: u64 = 11;
-
-const BAD_DESCRIPTOR: u64 = 12;
-
-const BAD_DESCRIBES: u64 = 13;
 
 // The number of the first rule that a type breaks.
 pub enum Fault {
@@ -41,13 +23,13 @@ fn links_fault(rows: &[u16], codes: &[u16], x: u64) -> Fault
     ensures { λ r. ⌜ r ≡ faultIs (linksFault (view (now (rows .entry)) (now (codes .entry))) x) ⌝ }
 {
     if !type_reach::in_reach(rows, codes, x) {
-        return Fault::Number(OUT_OF_REACH);
+        return Fault::Number(refusals::OUT_OF_REACH);
     }
     if !type_rules::super_earlier_and_open(rows, codes, x) {
-        return Fault::Number(BAD_SUPERTYPE);
+        return Fault::Number(refusals::BAD_SUPERTYPE);
     }
     if !type_rules::short_chain(rows, codes, x) {
-        return Fault::Number(OVERSIZE);
+        return Fault::Number(refusals::OVERSIZE);
     }
     Fault::Nothing
 }
@@ -57,10 +39,10 @@ fn follow_fault(rows: &[u16], codes: &[u16], x: u64) -> Fault
     ensures { λ r. ⌜ r ≡ faultIs (followFault (view (now (rows .entry)) (now (codes .entry))) x) ⌝ }
 {
     if !type_rules::descriptor_follows(rows, codes, x) {
-        return Fault::Number(BAD_DESCRIPTOR);
+        return Fault::Number(refusals::BAD_DESCRIPTOR);
     }
     if !type_rules::describes_follows(rows, codes, x) {
-        return Fault::Number(BAD_DESCRIBES);
+        return Fault::Number(refusals::BAD_DESCRIBES);
     }
     Fault::Nothing
 }
@@ -70,13 +52,13 @@ fn clauses_fault(rows: &[u16], codes: &[u16], x: u64) -> Fault
     ensures { λ r. ⌜ r ≡ faultIs (clausesFault (view (now (rows .entry)) (now (codes .entry))) x) ⌝ }
 {
     if !type_rules::clauses_on_struct(rows, codes, x) {
-        return Fault::Number(CLAUSE_NOT_ON_STRUCT);
+        return Fault::Number(refusals::CLAUSE_NOT_ON_STRUCT);
     }
     if !type_rules::describes_earlier(rows, codes, x) {
-        return Fault::Number(DESCRIBES_NOT_EARLIER);
+        return Fault::Number(refusals::DESCRIBES_NOT_EARLIER);
     }
     if !type_rules::clauses_agree(rows, codes, x) {
-        return Fault::Number(CLAUSES_DISAGREE);
+        return Fault::Number(refusals::CLAUSES_DISAGREE);
     }
     follow_fault(rows, codes, x)
 }
@@ -86,7 +68,7 @@ fn rule_fault(rows: &[u16], codes: &[u16], x: u64) -> Fault
     ensures { λ r. ⌜ r ≡ faultIs (ruleFault (view (now (rows .entry)) (now (codes .entry))) x) ⌝ }
 {
     if !type_matching::matches_super(rows, codes, x) {
-        return Fault::Number(NO_MATCH);
+        return Fault::Number(refusals::NO_MATCH);
     }
     clauses_fault(rows, codes, x)
 }

@@ -8,7 +8,7 @@ use Rattle.scope.specs.Numbers.{u32}
 use Rattle.scope.specs.Lists.{joined}
 use Rattle.scope.specs.Syntax.{Definition, Group}
 use Rattle.scope.specs.Sections.{groupsAt, ended}
-use Rattle.scope.specs.Answers.{rowsSize, codesSize}
+use Rattle.scope.specs.Layout.{rowsSize, codesSize}
 use Rattle.type_table.specs.View.{rowsOf, codesOf}
 use Rattle.type_table.proofs.Puts.{Puts}
 use Rattle.section_definition.specs.Rows.{low}
