@@ -16,6 +16,7 @@ use Rattle.scope.specs.Bodies.{instructions, judgeBody}
 use Rattle.scope.specs.Answers.{tableLent, lentEnough, verdictOf, sectionCall, SectionJudged, BodyJudged}
 use Rattle.scope.specs.declared.Verdict.{Verdict}
 use Rattle.scope.specs.declared.Verdict
+use Rattle.scope.proofs.Impossible.{impossible}
 use Rattle.section_reader.proofs.Modest.{Each, no-more, one-more, Few, few-fields, few-values, Modest, read-fits}
 use Rattle.body_state.proofs.Alike.{both-false}
 use Rattle.section_call.proofs.Asking.{verdict-refused, verdict-accepted, call-accepted, viewed}
@@ -39,19 +40,19 @@ module _ {rows codes work : List ℕ} {types x : ℕ} (z : Sized rows codes work
 
 -- a section that is accepted was read
 accepted-read : (o : Read (List Group)) {ds : List Definition} → judgeRead o ≡ accepted ds → (gs : List Group) × (end : ℕ) × (o ≡ got gs end) × (ds ≡ joined gs)
-accepted-read (refused n p) e = absurd (let z : _≡_ {A = ℕ} 0 1 = cc in omega arith)
+accepted-read (refused n p) e = impossible cc
 accepted-read (got gs end) {ds} e = (gs, end, refl, go (judgeTypes (typesOf (joined gs)) (length (joined gs))) e)
   where
     go : (j : Judged ℕ) → andThen j (λ all. accepted (joined gs)) ≡ accepted ds → ds ≡ joined gs
     go (accepted n) f = cc
-    go (rejected n p) f = absurd (let z : _≡_ {A = ℕ} 0 1 = cc in omega arith)
+    go (rejected n p) f = impossible cc
 
 few-of : {f : Form} → Few f → {ps rs : List Val} → f ≡ func ps rs → length ps ≤ 64
-few-of (few-fields h) e = absurd (let z : _≡_ {A = ℕ} 0 1 = cc in omega arith)
+few-of (few-fields h) e = impossible cc
 few-of (few-values {ps = qs} h g) {ps} e = let same : qs ≡ ps = cc in rw (← same) h
 
 few-parameters : {ds : List Definition} → Each Modest ds → (x : ℕ) {ps rs : List Val} → typesOf ds x .form ≡ func ps rs → length ps ≤ 64
-few-parameters no-more x e = absurd (let z : _≡_ {A = ℕ} 0 1 = cc in omega arith)
+few-parameters no-more x e = impossible cc
 few-parameters (one-more m more) zero e = few-of (m .few) e
 few-parameters (one-more m more) (suc x) e = few-parameters more x e
 

@@ -19,6 +19,7 @@ use Rattle.scope.specs.Bodies.{State, Function, Code, Body, instructions, start
 use Rattle.scope.specs.Answers.{verdictOf}
 use Rattle.scope.specs.declared.Verdict.{Verdict}
 use Rattle.scope.specs.declared.Verdict
+use Rattle.scope.proofs.Impossible.{impossible}
 use Rattle.type_table.specs.declared.Shape.{Shape}
 use Rattle.type_table.specs.declared.Shape
 use Rattle.type_table.specs.Answers.{shapeForm}
@@ -72,10 +73,10 @@ read-verdict ds f s ls (refused n p) = refl
 
 pub started-got : (params : ℕ) (o : Read (List Val)) {r : Started} {locals next : ℕ} → r ≡ startedIs params o → r ≡ Started.the-variants.Is locals next → (vs : List Val) × (o ≡ got vs next) × (locals ≡ params + length vs)
 started-got params (got vs m) {next = next} p q = let e : m ≡ next = cc in (vs, ap (got vs) e, cc)
-started-got params (refused n m) p q = absurd (let z : _≡_ {A = ℕ} 0 1 = cc in omega arith)
+started-got params (refused n m) p q = impossible cc
 
 pub started-refused : (params : ℕ) (o : Read (List Val)) {r : Started} {n place : ℕ} → r ≡ startedIs params o → r ≡ Started.the-variants.Refused n place → o ≡ refused n place
-started-refused params (got vs m) p q = absurd (let z : _≡_ {A = ℕ} 0 1 = cc in omega arith)
+started-refused params (got vs m) p q = impossible cc
 started-refused params (refused m k) p q = cc
 
 -- the function's type

@@ -10,6 +10,7 @@ use Rattle.scope.specs.Syntax.{Val}
 use Rattle.scope.specs.BodyRules.{Context, Ruled, allowed, andRuled, fromTop}
 use Rattle.scope.specs.Bodies.{Operand, Frame, State, Taken, Next, goesOn, finished, onTop, takeAll, noneLeft, within, leave, close, judgeInstr}
 use Rattle.scope.specs.Instructions.{end}
+use Rattle.scope.proofs.Impossible.{contradiction}
 use Rattle.type_table.specs.View.{view}
 use Rattle.lent_u32.specs.Scratch.{Word32At}
 use Rattle.body_state.specs.declared.Stand.{Stand}
@@ -115,7 +116,7 @@ module _ {rows codes work : List ℕ} (scene : Scene) {st : Stand} where
     own-fault f = stepped-fault (scene .locals) (st .depth) refl (rw (own, f))
 
     pub own-finished : r ≡ End.the-variants.Fine → Stepped work work (scene .locals) (st .depth) (judgeInstr (contextAt rows codes work scene) (stateAt work (scene .locals) st) end) Step.the-variants.Finished
-    own-finished f = stepped-stop (scene .locals) (st .depth) Step.the-variants.Finished (λ s g. let z : _≡_ {A = ℕ} 0 1 = cc in omega arith) refl (rw (own, f))
+    own-finished f = stepped-stop (scene .locals) (st .depth) Step.the-variants.Finished (λ s g. contradiction cc) refl (rw (own, f))
 
   module _ (n : st .depth ≡ 0 → ⊥) {list : Values} (l : ResultsOf work (st .depth + 1) list) {r : End} (a : EndsWith rows codes work list (st .base) (st .height) (st .dead) r) where
     innermost : framesAt work (scene .locals) (st .depth) ≡ frameAt work (scene .locals) (st .depth + 1) ∷ framesAt work (scene .locals) (st .depth - 1)

@@ -19,6 +19,7 @@ use Rattle.scope.specs.TypeRules.{valNames}
 use Rattle.scope.specs.BodyRules.{allowed, fault}
 use Rattle.scope.specs.Bodies.{State, goesOn}
 use Rattle.scope.proofs.Truths.{decided}
+use Rattle.scope.proofs.Impossible.{impossible}
 use Rattle.type_table.specs.View.{valAtCode}
 use Rattle.type_reach.specs.Names.{allBelow}
 use Rattle.body_decoded.specs.Decoded.{blockResults}
@@ -188,8 +189,8 @@ module _ {work : List ℕ} {st : Stand} {at : ℕ} (k : Scene) (o : Opening work
   refused e want =
       record {
         answer = want;
-        upright = λ st′ f. absurd (let z : _≡_ {A = ℕ} 0 1 = cc in omega arith);
-        stamped = λ st′ f. absurd (let z : _≡_ {A = ℕ} 0 1 = cc in omega arith);
+        upright = λ st′ f. impossible cc;
+        stamped = λ st′ f. impossible cc;
         types = λ i h. rw e;
         size = rw e;
       }

@@ -12,6 +12,7 @@ use Rattle.scope.specs.Numbers.{u32}
 use Rattle.scope.specs.Syntax.{Heap}
 use Rattle.scope.specs.Sections.{heapAt}
 use Rattle.scope.specs.Instructions.{Cast, Op, Instr, op, castAt}
+use Rattle.scope.proofs.Impossible.{impossible}
 use Rattle.number.specs.declared.Byte.{Byte}
 use Rattle.number.specs.declared.Byte
 use Rattle.number.specs.declared.Natural.{Natural}
@@ -100,7 +101,7 @@ pub ruleset cast-exits = (next-fits, cast-missing, cast-neither, cast-from-null,
 -- casting_at
 
 cast-refused : (o : Read Cast) {r : CastRead} {number place : ℕ} → r ≡ castIs o → r ≡ CastRead.the-variants.Refused number place → o ≡ refused number place
-cast-refused (got k stop) p q = absurd (let z : _≡_ {A = ℕ} 0 1 = cc in omega arith)
+cast-refused (got k stop) p q = impossible cc
 cast-refused (refused i j) p q = cc
 
 module _ (b : ℕ) (s : List ℕ) (at : ℕ) {r : CastRead} (a : r ≡ castIs (castAt s at)) where
@@ -119,7 +120,7 @@ module _ (b : ℕ) (s : List ℕ) (at : ℕ) {r : CastRead} (a : r ≡ castIs (c
       where
         go : (o : Read Cast) → r ≡ castIs o → r ≡ CastRead.the-variants.Is l m h n k next → InstructionRead.the-variants.Is i next ≡ instructionIs (then o (λ c stop. got (op (casting b c)) stop))
         go (got c stop) p q = let made : i ≡ operationOf (casting b c) = f c (cc) (cc) (cc) (cc) (cc) in cc
-        go (refused i j) p q = absurd (let z : _≡_ {A = ℕ} 0 1 = cc in omega arith)
+        go (refused i j) p q = impossible cc
 
     pub casting-code : {i : Instruction} (d : ℕ) → b ≡ d → Made i (casting d) → InstructionRead.the-variants.Is i next ≡ instructionIs (castingAt b s at)
     casting-code d f g = casting-with (λ c v w x y z. rw f (g c v w x y z))

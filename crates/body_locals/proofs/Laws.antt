@@ -13,16 +13,17 @@ use Rattle.scope.specs.Syntax.{Val}
 use Rattle.scope.specs.TypeRules.{valNames}
 use Rattle.scope.specs.Bodies.{localsAt}
 use Rattle.scope.proofs.Forward.{Ends, stops, reaches, ends-then, ends-cond, ends-from, one-less, unsigned-takes, val-takes}
+use Rattle.scope.proofs.Impossible.{impossible}
 use Rattle.body_locals.specs.declared.LocalsRead.{LocalsRead}
 use Rattle.body_locals.specs.declared.LocalsRead
 use Rattle.body_locals.specs.Entries.{localsIs}
 
 pub locals-got : (before : ℕ) (o : Read (List Val)) {r : LocalsRead} {count next : ℕ} → r ≡ localsIs before o → r ≡ LocalsRead.the-variants.Got count next → (vs : List Val) × (o ≡ got vs next) × (count ≡ before + length vs)
 locals-got before (got vs m) {next = next} p q = let e : m ≡ next = cc in (vs, ap (got vs) e, cc)
-locals-got before (refused n m) p q = absurd (let z : _≡_ {A = ℕ} 0 1 = cc in omega arith)
+locals-got before (refused n m) p q = impossible cc
 
 pub locals-refused : (before : ℕ) (o : Read (List Val)) {r : LocalsRead} {n place : ℕ} → r ≡ localsIs before o → r ≡ LocalsRead.the-variants.Refused n place → o ≡ refused n place
-locals-refused before (got vs m) p q = absurd (let z : _≡_ {A = ℕ} 0 1 = cc in omega arith)
+locals-refused before (got vs m) p q = impossible cc
 locals-refused before (refused m k) p q = cc
 
 locals-ends : (types n before : ℕ) (s : List ℕ) (at : ℕ) → at ≤ length s → Ends at (length s) (localsAt types n before s at)
@@ -41,5 +42,5 @@ pub locals-inside : (types n before : ℕ) (s : List ℕ) (at : ℕ) {vs : List 
 locals-inside types n before s at {vs} {next} h e = go (locals-ends types n before s at h) e
   where
     go : {o : Read (List Val)} → Ends at (length s) o → o ≡ got vs next → (at ≤ next) × (next ≤ length s)
-    go stops q = absurd (let z : _≡_ {A = ℕ} 0 1 = cc in omega arith)
+    go stops q = impossible cc
     go (reaches {next = m} a b) q = let same : m ≡ next = cc in (omega arith, omega arith)

@@ -18,6 +18,7 @@ use Rattle.scope.specs.Syntax.{Val}
 use Rattle.scope.specs.Sections.{valAt}
 use Rattle.scope.specs.TypeRules.{valNames}
 use Rattle.scope.specs.Bodies.{localsAt}
+use Rattle.scope.proofs.Impossible.{impossible}
 use Rattle.type_table.proofs.Puts.{Puts, puts-none, puts-more, puts-length}
 use Rattle.type_table.proofs.CodesBack.{val-code-small}
 use Rattle.type_read.specs.Codes.{valCodeKept}
@@ -33,10 +34,10 @@ use Rattle.body_locals.specs.Entries.{Limits, Space, Lent, entryAt, entr
 entry-inv : (o : Read (ℕ × Val)) {r : Entry} {k code next : ℕ} → r ≡ entryIs o → r ≡ Entry.the-variants.Is k code next → (v : Val) × (o ≡ got (k, v) next) × (code ≡ valCodeKept v)
 entry-inv (got e n) {k = k} {next = next} p q =
     let same : e .0 ≡ k = cc in let stop : n ≡ next = cc in (e .1, ap₂ (λ (x y : ℕ). got (x, e .1) y) same stop, cc)
-entry-inv (refused n m) p q = absurd (let z : _≡_ {A = ℕ} 0 1 = cc in omega arith)
+entry-inv (refused n m) p q = impossible cc
 
 entry-refused-inv : (o : Read (ℕ × Val)) {r : Entry} {n place : ℕ} → r ≡ entryIs o → r ≡ Entry.the-variants.Refused n place → o ≡ refused n place
-entry-refused-inv (got e m) p q = absurd (let z : _≡_ {A = ℕ} 0 1 = cc in omega arith)
+entry-refused-inv (got e m) p q = impossible cc
 entry-refused-inv (refused m k) p q = cc
 
 -- an entry that was read leaves no more than 256 locals
@@ -66,7 +67,7 @@ entry-within types before s at = go (u32 s at)
     go (refused n p) = none-read
 
 entry-few : {before : ℕ} {o : Read (ℕ × Val)} {k : ℕ} {v : Val} {next : ℕ} → Within before o → o ≡ got (k, v) next → before + k ≤ 256
-entry-few none-read q = absurd (let z : _≡_ {A = ℕ} 0 1 = cc in omega arith)
+entry-few none-read q = impossible cc
 entry-few {before} {k = k} {v} {next} (within {k = j} {v = w} {next = n} h) q = let same : j ≡ k = ap counted q in omega arith
   where
     counted : Read (ℕ × Val) → ℕ
@@ -165,7 +166,7 @@ module _ {types n before : ℕ} {s : List ℕ} {at : ℕ} {work₀ work : List �
         let all : localsAt types n before s at ≡ refused k place = p .same ∙ ap (onto (p .done)) (locals-refused types left count s next more (entry-refused-inv (entryAt types count s next) a e)) in
         record {
           answer = rw all;
-          memory = λ vs stop f. absurd (let z : _≡_ {A = ℕ} 0 1 = cc in omega arith);
+          memory = λ vs stop f. impossible cc;
           size = puts-length (p .puts);
         }
 

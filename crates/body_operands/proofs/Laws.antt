@@ -13,6 +13,7 @@ use Rattle.scope.specs.Refusals.{badOperand}
 use Rattle.scope.specs.Syntax.{Types, Val}
 use Rattle.scope.specs.BodyRules.{Wanted, value, Ruled, allowed, fault, test, andRuled}
 use Rattle.scope.specs.Bodies.{Operand, known, unknown, Taken, alsoTaken, fits, takeAll, onTop}
+use Rattle.scope.proofs.Impossible.{impossible}
 use Rattle.type_table.specs.View.{valAtCode}
 use Rattle.body_state.specs.Standing.{operandAtCode, wantedAtCode, mostCode, stack}
 use Rattle.body_operands.specs.declared.Left.{Left}
@@ -45,7 +46,7 @@ known-kept {c} h =
 -- lists
 
 take-there : {A : Type 0} (xs : List A) (i : ℕ) {x : A} → getElem? xs i ≡ some x → take (suc i) xs ≡ take i xs ++ (x ∷ [])
-take-there [] i e = absurd (let z : _≡_ {A = ℕ} 0 1 = cc in omega arith)
+take-there [] i e = impossible cc
 take-there (y ∷ ys) zero e = cc
 take-there (y ∷ ys) (suc i) e = ap (λ (l : List _). y ∷ l) (take-there ys i e)
 
@@ -105,11 +106,11 @@ pub left-got : (work : List ℕ) (base : ℕ) (t : Ruled Taken) {r : Left} {heig
 left-got work base (allowed u) {height = height} e a =
     let same : allowed (stack work base height) ≡ allowed (u .left) = rw e at a in (u, refl, cc)
 left-got work base (fault n) {height = height} e a =
-    let same : allowed (stack work base height) ≡ fault n = rw e at a in absurd (let z : _≡_ {A = ℕ} 0 1 = cc in omega arith)
+    let same : allowed (stack work base height) ≡ fault n = rw e at a in impossible cc
 
 pub left-missed : (work : List ℕ) (base : ℕ) (t : Ruled Taken) {r : Left} → r ≡ Left.the-variants.Missing → leftOf work base r ≡ leftIn t → t ≡ fault badOperand
 left-missed work base (allowed u) e a =
-    let same : fault badOperand ≡ allowed (u .left) = rw e at a in absurd (let z : _≡_ {A = ℕ} 0 1 = cc in omega arith)
+    let same : fault badOperand ≡ allowed (u .left) = rw e at a in impossible cc
 left-missed work base (fault n) e a = let same : _≡_ {A = Ruled (List Operand)} (fault badOperand) (fault n) = rw e at a in cc
 
 -- putting

@@ -3,7 +3,6 @@ use Prim.Native.Nat.{ℕ, _+_}
 use mathlib.Core.Path.{_≡_, refl, _∙_}
 use mathlib.Core.Bool.{Bool, true, false, not, _&&_}
 use mathlib.Core.List.{List, [], _∷_, _++_}
-use native.Mathlib.Omega.{arith}
 use lib.ListN.{getElem?}
 use lib.Dec.{ltb}
 use borrow.Author.Tests.{not-true, not-false}
@@ -14,6 +13,7 @@ use Rattle.scope.specs.Syntax.{Heap, Val, ref, nullable, Types}
 use Rattle.scope.specs.Order.{valBelow}
 use Rattle.scope.specs.TypeRules.{heapNames}
 use Rattle.scope.specs.BodyRules.{value, need, andRuled, descriptorFor, branches, planOf}
+use Rattle.scope.proofs.Impossible.{impossible}
 use Rattle.type_table.specs.View.{heapAtCode, valAtCode}
 use Rattle.type_table.specs.declared.Link.{Link}
 use Rattle.type_table.specs.declared.Link
@@ -52,7 +52,7 @@ module _ (work : List ℕ) (k : Scene) (depth l source target : ℕ) {r : Bool} 
   source-out t =
       record {
         is = λ codes. rw (both-reached (k .types) (heapNames (heapAtCode source)) (heapNames (heapAtCode target)) a refl, not-true r t);
-        low = λ vs e. absurd (let z : _≡_ {A = ℕ} 0 1 = cc in omega arith);
+        low = λ vs e. impossible cc;
       }
 
   module _ (t : not r ≡ false) {s : Bool} (b : s ≡ allBelow (k .types) (heapNames (heapAtCode target))) where
@@ -61,7 +61,7 @@ module _ (work : List ℕ) (k : Scene) (depth l source target : ℕ) {r : Bool} 
     target-out u =
         record {
           is = λ codes. rw (both-reached (k .types) (heapNames (heapAtCode source)) (heapNames (heapAtCode target)) a b, not-false r t, not-true s u);
-          low = λ vs e. absurd (let z : _≡_ {A = ℕ} 0 1 = cc in omega arith);
+          low = λ vs e. impossible cc;
         }
 
     module _ (u : not s ≡ false) {m : Label} (d : LabelOf work k depth l m) where
@@ -71,7 +71,7 @@ module _ (work : List ℕ) (k : Scene) (depth l source target : ℕ) {r : Bool} 
           record {
             is = λ codes.
                 rw (both-reached (k .types) (heapNames (heapAtCode source)) (heapNames (heapAtCode target)) a b, not-false r t, not-false s u, label-none d q codes);
-            low = λ vs e. absurd (let z : _≡_ {A = ℕ} 0 1 = cc in omega arith);
+            low = λ vs e. impossible cc;
           }
 
       pub target-there : Fits w16 (k .types) → {v : Values} → m ≡ Label.the-variants.Is v → CastLabel work k depth l source target (Target.the-variants.Is v)

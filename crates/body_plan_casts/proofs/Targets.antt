@@ -13,6 +13,7 @@ use Rattle.scope.specs.Memory.{abstractCode}
 use Rattle.scope.specs.Order.{kindOf}
 use Rattle.scope.specs.TypeRules.{heapNames}
 use Rattle.scope.specs.BodyRules.{topOf, descriptorFor}
+use Rattle.scope.proofs.Impossible.{impossible}
 use Rattle.type_abstract.specs.Heaps.{abstractAt}
 use Rattle.type_abstract.proofs.Laws.{at-code}
 use Rattle.type_table.specs.View.{heapAtCode}
@@ -55,13 +56,13 @@ module _ (ts : Types) (h : Heap) {u : HeapKind} (e : u ≡ heapIs h) where
 
   pub abstract-described : {a : ℕ} → u ≡ HeapKind.the-variants.Abstract a → DescriptorFor (descriptorFor ts h) Link.the-variants.Nothing
   abstract-described q =
-      record { is = rw (is-abstract h e q); small = λ k f. absurd (let z : _≡_ {A = ℕ} 0 1 = cc in omega arith) }
+      record { is = rw (is-abstract h e q); small = λ k f. impossible cc }
 
   module _ {x : ℕ} {d : Link} (b : DescriptorOf (ts x .descriptor) d) where
     module _ (q : u ≡ HeapKind.the-variants.Defined x) where
       pub defined-undescribed : d ≡ Link.the-variants.Nothing → DescriptorFor (descriptorFor ts h) Link.the-variants.Nothing
       defined-undescribed g =
-          record { is = rw (is-defined h e q, ← b .is, g); small = λ k f. absurd (let z : _≡_ {A = ℕ} 0 1 = cc in omega arith) }
+          record { is = rw (is-defined h e q, ← b .is, g); small = λ k f. impossible cc }
 
       pub defined-described : {y : ℕ} → d ≡ Link.the-variants.To y → DescriptorFor (descriptorFor ts h) (Link.the-variants.To (10 + 2 * y))
       defined-described {y} g =
@@ -74,7 +75,7 @@ module _ (ts : Types) (h : Heap) {u : HeapKind} (e : u ≡ heapIs h) where
     module _ (q : u ≡ HeapKind.the-variants.Exact x) where
       pub exact-undescribed : d ≡ Link.the-variants.Nothing → DescriptorFor (descriptorFor ts h) Link.the-variants.Nothing
       exact-undescribed g =
-          record { is = rw (is-exact h e q, ← b .is, g); small = λ k f. absurd (let z : _≡_ {A = ℕ} 0 1 = cc in omega arith) }
+          record { is = rw (is-exact h e q, ← b .is, g); small = λ k f. impossible cc }
 
       pub exact-described : {y : ℕ} → d ≡ Link.the-variants.To y → DescriptorFor (descriptorFor ts h) (Link.the-variants.To (11 + 2 * y))
       exact-described {y} g =

@@ -16,6 +16,7 @@ use Rattle.type_table.specs.declared.Link.{Link}
 use Rattle.type_table.specs.Answers.{linkIs}
 use Rattle.type_table.proofs.Laws.{link-to, link-read}
 use Rattle.scope.specs.Memory.{valCode}
+use Rattle.scope.proofs.Impossible.{impossible}
 use Rattle.type_table.proofs.Codes.{heap-code-at}
 use Rattle.type_table.proofs.CodesBack.{val-code}
 use Rattle.body_state.specs.declared.Values.{Values}
@@ -103,7 +104,7 @@ nullable-defined-code x h = code-is (ref true (defined x)) (omega arith) (omega 
 -- a descriptor: its number is one less than a word
 
 link-less : (w : ℕ) (b : Bool) {y : ℕ} → cond b none (some (w - 1)) ≡ some y → w - 1 ≡ y
-link-less w true e = absurd (let z : _≡_ {A = ℕ} 0 1 = cc in omega arith)
+link-less w true e = impossible cc
 link-less w false e = cc
 
 pub descriptor-small : (rows codes : List ℕ) (x : ℕ) → getD rows (12 * x + 6) 0 < 2 ^ 16 → {r : Link} → r ≡ linkIs (view rows codes x .descriptor) → DescriptorOf (view rows codes x .descriptor) r

@@ -12,6 +12,7 @@ use mir.Val.{Fits}
 use Rattle.scope.specs.Syntax.{defined, ref, Val, nullable, Types}
 use Rattle.scope.specs.Instructions.{struct-get, struct-set}
 use Rattle.scope.specs.BodyRules.{Scope, value, values, allowed, fault, test, need, andRuled, takes, changeable, fieldsOf, planOf}
+use Rattle.scope.proofs.Impossible.{impossible}
 use Rattle.lent_u16.specs.Words.{WordAt}
 use Rattle.type_table.specs.View.{fieldAtCode, codesAt}
 use Rattle.type_table.specs.declared.Shape.{Shape}
@@ -37,7 +38,7 @@ module _ (codes : List ℕ) (ts : Types) (count x : ℕ) where
   pub struct-out : count ≤ x → StructOf codes ts count x (Fields.the-variants.Fault 6)
   unfolding structAt fieldsRuled
   struct-out h =
-      record { is = rw (le-ltb x count h); low = λ first n e. absurd (let z : _≡_ {A = ℕ} 0 1 = cc in omega arith) }
+      record { is = rw (le-ltb x count h); low = λ first n e. impossible cc }
 
   module _ (h : x < count) {s : Shape} (e : ts x .form ≡ shapeForm codes s) where
     pub struct-there : {first n : ℕ} → s ≡ Shape.the-variants.Struct first n → StructOf codes ts count x (Fields.the-variants.Are first n)
@@ -47,7 +48,7 @@ module _ (codes : List ℕ) (ts : Types) (count x : ℕ) where
     pub struct-func : {first n second m : ℕ} → s ≡ Shape.the-variants.Func first n second m → StructOf codes ts count x (Fields.the-variants.Fault 23)
     unfolding structAt fieldsRuled
     struct-func q =
-        record { is = rw (lt-ltb x count h, e, q); low = λ first n f. absurd (let z : _≡_ {A = ℕ} 0 1 = cc in omega arith) }
+        record { is = rw (lt-ltb x count h, e, q); low = λ first n f. impossible cc }
 
 -- what a caller learns
 
@@ -76,13 +77,13 @@ module _ {codes : List ℕ} {ts : Types} {count x : ℕ} {r : Fields} (a : Struc
     field-past i h =
         record {
           is = rw (struct-found, codes-past fieldAtCode codes first n i h);
-          low = λ k f. absurd (let z : _≡_ {A = ℕ} 0 1 = cc in omega arith);
+          low = λ k f. impossible cc;
         }
 
   pub field-refused : (i : ℕ) {m : ℕ} → r ≡ Fields.the-variants.Fault m → FieldOf ts count x i (Field.the-variants.Fault m)
   unfolding fieldAt fieldRuled
   field-refused i q =
-      record { is = rw (struct-refused q); low = λ k f. absurd (let z : _≡_ {A = ℕ} 0 1 = cc in omega arith) }
+      record { is = rw (struct-refused q); low = λ k f. impossible cc }
 
 pub ruleset finding-exits = (struct-out, struct-there, struct-func, field-there, field-past, field-refused)
 

@@ -12,6 +12,7 @@ use Rattle.scope.specs.Lists.{isNone}
 use Rattle.scope.specs.Syntax.{exact, Val, ref, nullable, nonNull, Types}
 use Rattle.scope.specs.Instructions.{struct-new, struct-new-default, struct-new-desc, struct-new-default-desc}
 use Rattle.scope.specs.BodyRules.{Scope, value, values, allowed, fault, andRuled, takes, fromTop, fieldsOf, holdsOf, defaulted, planOf}
+use Rattle.scope.proofs.Impossible.{impossible}
 use Rattle.type_table.specs.View.{fieldAtCode, codesAt}
 use Rattle.type_table.specs.declared.Link.{Link}
 use Rattle.type_table.specs.declared.Link
@@ -36,12 +37,12 @@ module _ {codes : List ℕ} {ts : Types} {count x : ℕ} {r : Fields} (a : Struc
     pub undescribed-refused : Undescribed codes ts count x (Fields.the-variants.Fault m)
     unfolding fieldsRuled undescribedAt
     undescribed-refused =
-        record { is = rw (struct-refused a q); low = λ first n e. absurd (let z : _≡_ {A = ℕ} 0 1 = cc in omega arith) }
+        record { is = rw (struct-refused a q); low = λ first n e. impossible cc }
 
     pub described-refused : Described codes ts count x (Pair.the-variants.Fault m)
     unfolding pairRuled describedAt
     described-refused =
-        record { is = rw (struct-refused a q); low = λ first n y e. absurd (let z : _≡_ {A = ℕ} 0 1 = cc in omega arith) }
+        record { is = rw (struct-refused a q); low = λ first n y e. impossible cc }
 
   module _ {first n : ℕ} (q : r ≡ Fields.the-variants.Are first n) {d : Link} (b : DescriptorOf (ts x .descriptor) d) where
     module _ (e : d ≡ Link.the-variants.Nothing) where
@@ -57,7 +58,7 @@ module _ {codes : List ℕ} {ts : Types} {count x : ℕ} {r : Fields} (a : Struc
       described-not =
           record {
             is = rw (struct-found a q, none-is);
-            low = λ i k y f. absurd (let z : _≡_ {A = ℕ} 0 1 = cc in omega arith);
+            low = λ i k y f. impossible cc;
           }
 
     module _ {y : ℕ} (e : d ≡ Link.the-variants.To y) where
@@ -69,7 +70,7 @@ module _ {codes : List ℕ} {ts : Types} {count x : ℕ} {r : Fields} (a : Struc
       undescribed-not =
           record {
             is = rw (struct-found a q, some-is);
-            low = λ i k f. absurd (let z : _≡_ {A = ℕ} 0 1 = cc in omega arith);
+            low = λ i k f. impossible cc;
           }
 
       pub described-is : Described codes ts count x (Pair.the-variants.Are first n y)

@@ -9,6 +9,7 @@ use lib.ListN.{length, length-append}
 use borrow.Author.Tests.{ne-eqb}
 use Rattle.scope.specs.Syntax.{Val}
 use Rattle.scope.specs.Bodies.{onTop}
+use Rattle.scope.proofs.Impossible.{impossible}
 use Rattle.body_state.specs.declared.Values.{Values}
 use Rattle.body_state.specs.Standing.{operandAtCode, valAtWord, resultsAt, valuesOf, LengthOf}
 use Rattle.body_operands.specs.Taking.{Room, Pushed}
@@ -93,7 +94,7 @@ module _ (codes : List ℕ) {list : Values} {back : Bool} {gives n g : ℕ} (a :
   pub give-full : (work : List ℕ) (base height : ℕ) {most : ℕ} → most < base + (height + n + g) → 512 ≤ most → GivenTo work work base height (givenOf codes list back gives) Given.the-variants.Full
   give-full work base height h limit =
       record {
-        gave = λ k e. absurd (let z : _≡_ {A = ℕ} 0 1 = cc in omega arith);
+        gave = λ k e. impossible cc;
         full = λ e. record { many = omega (arith, all-long); same = refl };
       }
 
@@ -116,7 +117,7 @@ module _ (codes : List ℕ) {list : Values} {back : Bool} {gives n g : ℕ} (a :
             gave = λ k e.
                 let same : height + n + g ≡ k = cc in
                 rw (← same) (record { high = omega arith; few = h; pushed = whole });
-            full = λ e. absurd (let z : _≡_ {A = ℕ} 0 1 = cc in omega arith);
+            full = λ e. impossible cc;
           }
 
 pub ruleset give-exits = (long-back, nothing-back, back-room, back-put, back-not, gives-none, gives-one, gives-room, gives-put, gives-not, give-full, space-back, space-gives, give-all)

@@ -16,6 +16,7 @@ use Rattle.scope.specs.Syntax.{Val}
 use Rattle.scope.specs.BodyRules.{hasDefault}
 use Rattle.scope.specs.Bodies.{localsAt}
 use Rattle.scope.proofs.Truths.{decided}
+use Rattle.scope.proofs.Impossible.{contradiction, impossible}
 use Rattle.number.specs.declared.Natural.{Natural}
 use Rattle.number.specs.declared.Natural
 use Rattle.number.specs.Answers.{naturalIs}
@@ -48,7 +49,7 @@ module _ {types n params : ℕ} {s : List ℕ} {entries : ℕ} {work₁ work₂ 
       let read = locals-refused params (localsAt types n params s entries) (l .answer) e in
       record {
         answer = rw read;
-        begun = λ vs next f. absurd (let z : _≡_ {A = ℕ} 0 1 = cc in omega arith);
+        begun = λ vs next f. impossible cc;
         size = l .size ∙ ps .size;
       }
 
@@ -140,7 +141,7 @@ module _ {s : List ℕ} {r : Natural} (a : r ≡ naturalIs (u32 s 0)) where
       let read : u32 s 0 ≡ refused k place = natural-refused (u32 s 0) a e in
       record {
         answer = rw read;
-        begun = λ vs next f. absurd (let g : refused k place ≡ got vs next = rw read at f in let z : _≡_ {A = ℕ} 0 1 = cc in omega arith);
+        begun = λ vs next f. absurd (let g : refused k place ≡ got vs next = rw read at f in contradiction cc);
         size = rw same;
       }
 

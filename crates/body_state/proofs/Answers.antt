@@ -11,6 +11,7 @@ use lib.Dec.{eqb}
 use borrow.Author.Tests.{ne-eqb, lt-ltb, lt-leb, le-leb}
 use Rattle.scope.specs.Syntax.{Val}
 use Rattle.scope.specs.BodyRules.{holdsOf}
+use Rattle.scope.proofs.Impossible.{impossible}
 use Rattle.type_table.specs.View.{valAtCode, fieldAtCode, codesAt}
 use Rattle.lent_u16.specs.Words.{WordAt}
 use Rattle.lent_u32.specs.Scratch.{Word32At}
@@ -42,7 +43,7 @@ codes-past f codes at (suc n) zero h = absurd (omega arith)
 codes-past f codes at (suc n) (suc i) h = codes-past f codes (at + 1) n i (omega arith)
 
 map-there : {A B : Type 0} (f : A → B) (xs : List A) (i : ℕ) {x : A} → getElem? xs i ≡ some x → getElem? (map f xs) i ≡ some (f x)
-map-there f [] i e = absurd (let z : _≡_ {A = ℕ} 0 1 = cc in omega arith)
+map-there f [] i e = impossible cc
 map-there f (y ∷ ys) zero e = cc
 map-there f (y ∷ ys) (suc i) e = map-there f ys i e
 
@@ -73,7 +74,7 @@ module _ {work : List ℕ} {count x : ℕ} where
       }
 
   pub local-absent : count ≤ x → LocalOf work count x Local.the-variants.Absent
-  local-absent h = record { is = sym (codes-past valAtWord work 0 count x h); small = λ k e. absurd (let z : _≡_ {A = ℕ} 0 1 = cc in omega arith) }
+  local-absent h = record { is = sym (codes-past valAtWord work 0 count x h); small = λ k e. impossible cc }
 
 -- lists
 

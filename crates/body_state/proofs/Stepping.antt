@@ -3,12 +3,12 @@ use Prim.Native.Nat.{ℕ, _+_, _≤_, _<_}
 use mathlib.Core.Path.{_≡_, ap}
 use mathlib.Core.Bool.{Bool}
 use mathlib.Core.List.{List, map}
-use native.Mathlib.Omega.{arith}
 use lib.ListN.{getD, length}
 use borrow.Author.Tests.{lt-leb, le-leb}
 use Rattle.scope.specs.Lists.{sum}
 use Rattle.scope.specs.BodyRules.{Ruled, allowed, fault}
 use Rattle.scope.specs.Bodies.{Operand, outerOf, Next, goesOn, within}
+use Rattle.scope.proofs.Impossible.{contradiction}
 use Rattle.body_state.specs.declared.Stand.{Stand}
 use Rattle.body_state.specs.declared.Step.{Step}
 use Rattle.body_state.specs.declared.Step
@@ -37,7 +37,7 @@ stepped-stop count depth r never e want =
     }
 
 pub stepped-fault : {work work′ : List ℕ} (count depth : ℕ) {want : Ruled Next} {n : ℕ} → work′ ≡ work → fault n ≡ want → Stepped work work′ count depth want (Step.the-variants.Fault n)
-stepped-fault count depth {n = n} e want = stepped-stop count depth (Step.the-variants.Fault n) (λ st f. let z : _≡_ {A = ℕ} 0 1 = cc in omega arith) e want
+stepped-fault count depth {n = n} e want = stepped-stop count depth (Step.the-variants.Fault n) (λ st f. contradiction cc) e want
 
 -- what a step is to come to may be written in another way
 pub stepped-as : {work work′ : List ℕ} {count depth : ℕ} {want want′ : Ruled Next} {r : Step} → want ≡ want′ → Stepped work work′ count depth want r → Stepped work work′ count depth want′ r

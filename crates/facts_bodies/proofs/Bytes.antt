@@ -20,6 +20,7 @@ use Rattle.scope.specs.BodyRules.{Context, Ruled, allowed, fault}
 use Rattle.scope.specs.Bodies.{State, Next, goesOn, finished, judgeInstr, Code, onRuled, onNext, judgeFrom, localsAt}
 use Rattle.scope.proofs.Forward.{never-back}
 use Rattle.scope.proofs.ForwardBodies.{instr-takes}
+use Rattle.scope.proofs.Impossible.{contradiction}
 use Rattle.facts_bodies.specs.Premises.{ValReached}
 use Rattle.facts_bodies.specs.Typing.{TypedInstr, TypedBody, last-end, goes-on, InstrsAt, no-instr, next-instr, Entry, Locals, no-locals, more-locals, EntriesAt, no-entry, next-entry}
 use Rattle.facts_bodies.proofs.Premises.{Ordered, allBelow, tested-value-reached, value-reached-tested}
@@ -28,7 +29,7 @@ use Rattle.facts_bodies.proofs.Steps.{allowed-typed, typed-allowed}
 -- readings
 
 pub refused-is-not-got : {A : Type 0} {n p next : ℕ} {x : A} → refused n p ≡ got x next → ⊥
-refused-is-not-got e = let z : _≡_ {A = ℕ} 0 1 = cc in omega arith
+refused-is-not-got e = contradiction cc
 
 pub same-got : {A : Type 0} {x y : A} {n m : ℕ} → got x n ≡ got y m → (x ≡ y) × (n ≡ m)
 same-got e = (cc, cc)

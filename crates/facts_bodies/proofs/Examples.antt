@@ -2,7 +2,6 @@
 -- derivation: an object with its descriptor, and ref.get_desc of an unknown. Where it is no, the theorem says that there is
 -- none: struct.new of a type with a descriptor, and (ref y) where struct.new_desc takes (ref null (exact y)).
 use Prim.Native.Nat.{ℕ}
-use native.Mathlib.Omega.{arith}
 use mathlib.Core.Path.{_≡_, refl}
 use mathlib.Core.Bool.{Bool, true, false, false≢true}
 use mathlib.Core.List.{List, [], _∷_}
@@ -11,6 +10,7 @@ use Rattle.scope.specs.Syntax.{Definition}
 use Rattle.scope.specs.Judging.{Judged, accepted, rejected, judgeSection}
 use Rattle.scope.specs.Bodies.{judgeBody}
 use Rattle.scope.proofs.Computes.{computes}
+use Rattle.scope.proofs.Impossible.{contradiction}
 use Rattle.facts_bodies.specs.Typing.{AllowedBody}
 use Rattle.facts_bodies.proofs.Main.{accepted-exactly-when-allowed}
 
@@ -49,8 +49,7 @@ module _ (gives : ℕ) (judged : judgeSection (F gives) ≡ accepted (types give
   underivable : {n p : ℕ} → judgeBody (F gives) s 2 ≡ rejected n p → ¬ AllowedBody (types gives) 2 s
   underivable e a =
       let (b, yes′) = accepted-exactly-when-allowed (F gives) s 2 judged .1 a in
-      let z : _≡_ {A = ℕ} 0 1 = cc in
-      omega arith
+      contradiction cc
 
 -- a yes
 

@@ -4,11 +4,11 @@ use Prim.Native.Nat.{ℕ}
 use mathlib.Core.Path.{_≡_, refl}
 use mathlib.Core.Bool.{Bool, true, false}
 use mathlib.Core.Option.{Option, none, some}
-use native.Mathlib.Omega.{arith}
 use Rattle.scope.specs.BodyRules.{Ruled, allowed, fault, test, need, andRuled}
+use Rattle.scope.proofs.Impossible.{contradiction}
 
 pub fault-is-not-allowed : {A : Type 0} {n : ℕ} {x : A} → fault n ≡ allowed x → ⊥
-fault-is-not-allowed e = let z : _≡_ {A = ℕ} 0 1 = cc in omega arith
+fault-is-not-allowed e = contradiction cc
 
 pub same-allowed : {A : Type 0} {x y : A} → allowed x ≡ allowed y → x ≡ y
 same-allowed e = cc

@@ -19,6 +19,7 @@ use Rattle.scope.specs.Judging.{Judged, accepted, rejected, andThen, judgeSecti
 use Rattle.scope.specs.Instructions.{Instr}
 use Rattle.scope.specs.Bodies.{Code, judgeFrom, localsAt, Function, functionOf, Body, startState, contextOf, bodyAt, judgedOf, judgeBody}
 use Rattle.scope.proofs.Truths.{none-is-not-some}
+use Rattle.scope.proofs.Impossible.{contradiction}
 use Rattle.facts_bodies.specs.Typing.{TypedBody, Entry, Locals, InstrsAt, FunctionType, Writing, Derivation}
 use Rattle.facts_bodies.proofs.Premises.{same-some, Ordered}
 use Rattle.facts_bodies.proofs.Bytes.{same-got, first-got, cond-got, got-locals, locals-got, instructionsOf, got-walked, typed-got}
@@ -26,7 +27,7 @@ use Rattle.facts_bodies.proofs.Bytes.{same-got, first-got, cond-got, go
 -- acceptances
 
 rejected-is-not-accepted : {A : Type 0} {n p : ℕ} {x : A} → rejected n p ≡ accepted x → ⊥
-rejected-is-not-accepted e = let z : _≡_ {A = ℕ} 0 1 = cc in omega arith
+rejected-is-not-accepted e = contradiction cc
 
 not-rejected : {A : Type 0} {x : A} (t : Bool) (n p : ℕ) (more : Judged A) → cond t (rejected n p) more ≡ accepted x → (t ≡ false) × (more ≡ accepted x)
 not-rejected true n p more e = absurd (rejected-is-not-accepted e)

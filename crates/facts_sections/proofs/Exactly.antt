@@ -2,7 +2,6 @@
 -- within the sizes and meets type rules 1 to 6. specs/Allowed.antt says what that is; proofs/Verdict.antt proves both
 -- ways. proofs/FaultOrder.antt says the same of no: the first fault in document 01's order.
 use Prim.Native.Nat.{ℕ}
-use native.Mathlib.Omega.{arith}
 use mathlib.Core.Path.{_≡_, refl}
 use mathlib.Core.Logic.{_↔_}
 use mathlib.Core.Bool.{true, false}
@@ -12,6 +11,7 @@ use Rattle.scope.specs.Refusals.{clauseNotOnStruct}
 use Rattle.scope.specs.Syntax.{struct, Definition}
 use Rattle.scope.specs.Judging.{accepted, rejected, judgeSection}
 use Rattle.scope.proofs.Computes.{computes}
+use Rattle.scope.proofs.Impossible.{contradiction}
 use Rattle.facts_sections.specs.Allowed.{Allowed}
 use Rattle.facts_sections.proofs.Verdict.{accepted-allowed, allowed-accepted}
 
@@ -57,4 +57,4 @@ pub function-not-allowed : (ds : List Definition) → Allowed clauseOnFunction d
 function-not-allowed ds a =
     let yes-to-it = accepted-exactly clauseOnFunction ds .1 a in
     let no-to-it = function-refused in
-    let z : _≡_ {A = ℕ} 0 1 = cc in omega arith
+    contradiction cc

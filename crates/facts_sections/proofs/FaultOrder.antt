@@ -21,6 +21,7 @@ use Rattle.scope.specs.TypeRules.{inReach, superEarlierAndOpen, shortChain, mat
 use Rattle.scope.specs.Judging.{Judged, accepted, rejected, andThen, firstBroken, linksFault, ruleFault, scan, judgeTypes, judgeRead, judgeSection}
 use Rattle.scope.proofs.Truths.{none-is-not-some, decided}
 use Rattle.scope.proofs.Accepted.{scan-met-none}
+use Rattle.scope.proofs.Impossible.{contradiction, impossible}
 use Rattle.facts_sections.specs.FirstFault.{Rule, AllKept, all-kept, kept-and, FirstBroken, broken, kept-then, linkRules, typeRules, FirstAmong, FirstFault, in-links, in-rules, Refused, by-bytes, by-rules}
 use Rattle.facts_sections.proofs.Judge.{scan-accepts}
 use Rattle.facts_sections.proofs.SectionReading.{section-found, section-read}
@@ -114,7 +115,7 @@ record Stops (fault : ℕ → Option ℕ) (x n number place : ℕ) : Type 0 wher
 
 scan-stops : (fault : ℕ → Option ℕ) (x n : ℕ) {number place : ℕ} → scan fault x n ≡ rejected number place → Stops fault x n number place
 unfolding scan
-scan-stops fault x zero e = absurd (let z : _≡_ {A = ℕ} 0 1 = cc in omega arith)
+scan-stops fault x zero e = impossible cc
 scan-stops fault x (suc n) {number} {place} e = go (fault x) refl e (scan-stops fault (x + 1) n)
   where
     reached : Stops fault (x + 1) n number place → fault x ≡ none → Stops fault x (suc n) number place
@@ -195,7 +196,7 @@ refused-exactly s number place = (λ e. read (readSection s) refl e, back)
   where
     rules : (gs : List Group) {end : ℕ} → readSection s ≡ got gs end → (j : Judged ℕ) → judgeTypes (typesOf (joined gs)) (length (joined gs)) ≡ j
         → andThen j (λ n. accepted (joined gs)) ≡ rejected number place → Refused s number place
-    rules gs q (accepted n) j f = absurd (let z : _≡_ {A = ℕ} 0 1 = cc in omega arith)
+    rules gs q (accepted n) j f = absurd (contradiction cc)
     rules gs q (rejected k p) j f =
         let found = section-found s q in
         let first : judgeTypes (typesOf (joined gs)) (length (joined gs)) ≡ rejected number place = cc in

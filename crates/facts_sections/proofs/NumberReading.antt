@@ -13,6 +13,7 @@ use lib.Dec.{ltb}
 use borrow.Author.Tests.{ltb-true, ltb-false, leb-true, lt-ltb, le-ltb, le-leb}
 use Rattle.scope.specs.Reading.{got, Reader}
 use Rattle.scope.specs.Numbers.{Bits, bits, cut, long, under, bitsAt, greatestLength, inRange, unsigned, Whole, plus, minus, signed-of, within, signed}
+use Rattle.scope.proofs.Impossible.{contradiction}
 use Rattle.facts_sections.specs.Writing.{Sevens, last-seven, seven-more, Unsigned, a-natural, Signed, not-negative, negative, Anywhere}
 use Rattle.facts_sections.proofs.Between.{Between, nothing, byte}
 use Rattle.facts_sections.proofs.Readers.{Found, Reads, AnySize, refused-is-not-got, by-cond, by-given, found-got}
@@ -27,8 +28,8 @@ record BitsFound (room : ℕ) (s : List ℕ) (at v k next : ℕ) : Type 0 where
   short : length bytes ≤ room
 
 no-bits : {v k next : ℕ} {r : Bits} → r ≡ bits v k next → (r ≡ cut) ⊎ (r ≡ long) → ⊥
-no-bits e (inl f) = let z : _≡_ {A = ℕ} 0 1 = cc in omega arith
-no-bits e (inr f) = let z : _≡_ {A = ℕ} 0 1 = cc in omega arith
+no-bits e (inl f) = contradiction cc
+no-bits e (inr f) = contradiction cc
 
 last-bits : (room : ℕ) {s : List ℕ} {at b v k next : ℕ} → getElem? s at ≡ some b → b < 128 → bits b 1 (at + 1) ≡ bits v k next → BitsFound (suc room) s at v k next
 last-bits room {at = at} {b} {v} {k} {next} there low e =

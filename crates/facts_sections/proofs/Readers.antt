@@ -1,7 +1,6 @@
 -- `Reads W Small r`: the reader r gives a value exactly where a writing of it lies that is small enough. And what a
 -- reader that is put together from `then`, `onByte`, `cond` and `given` has given, taken apart.
 use Prim.Native.Nat.{ℕ, _+_}
-use native.Mathlib.Omega.{arith}
 use mathlib.Core.Path.{_≡_, refl}
 use mathlib.Core.Bool.{Bool, true, false, cond}
 use mathlib.Core.Option.{Option, none, some}
@@ -10,6 +9,7 @@ use lib.ListN.{getElem?}
 use lib.Dec.{eqb}
 use borrow.Author.Tests.{eqb-true}
 use Rattle.scope.specs.Reading.{Read, got, refused, Reader, given, then, onByte}
+use Rattle.scope.proofs.Impossible.{contradiction}
 use Rattle.facts_sections.proofs.Between.{Between, byte}
 
 -- a writing of x lies in s between the two places
@@ -30,7 +30,7 @@ AnySize x = Unit {0}
 -- What was read, taken apart
 
 pub refused-is-not-got : {A : Type 0} {n p next : ℕ} {x : A} → refused n p ≡ got x next → ⊥
-refused-is-not-got e = let z : _≡_ {A = ℕ} 0 1 = cc in omega arith
+refused-is-not-got e = contradiction cc
 
 pub by-cond : {A C : Type 0} (t : Bool) {p q r : A} → (t ≡ true → p ≡ r → C) → (t ≡ false → q ≡ r → C) → cond t p q ≡ r → C
 by-cond true first second e = first refl e

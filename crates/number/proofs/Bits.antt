@@ -14,6 +14,7 @@ use mir.Syntax.{w64}
 use mir.Val.{Fits}
 use Rattle.scope.specs.Reading.{given}
 use Rattle.scope.specs.Numbers.{Bits, bits, cut, long, under, bitsAt}
+use Rattle.scope.proofs.Impossible.{impossible}
 use Rattle.number.specs.declared.Byte.{Byte}
 use Rattle.number.specs.declared.Byte
 use Rattle.number.specs.declared.Leb.{Leb}
@@ -58,12 +59,12 @@ bits-cut room s at e = rw e
 -- a byte reader's answer, taken apart
 
 pub byte-got : (o : Option ℕ) {r : Byte} {b : ℕ} → r ≡ byteIs o → r ≡ Byte.the-variants.Is b → o ≡ some b
-byte-got none p q = absurd (let z : _≡_ {A = ℕ} 0 1 = cc in omega arith)
+byte-got none p q = impossible cc
 byte-got (some x) p q = cc
 
 pub byte-none : (o : Option ℕ) {r : Byte} → r ≡ byteIs o → r ≡ Byte.the-variants.Missing → o ≡ none
 byte-none none p q = refl
-byte-none (some x) p q = absurd (let z : _≡_ {A = ℕ} 0 1 = cc in omega arith)
+byte-none (some x) p q = impossible cc
 
 -- what the loop holds: `left` bytes may still follow
 
@@ -145,7 +146,7 @@ module _ {s : List ℕ} {at value weight next left : ℕ} (p : Part s at value w
   -- the bytes end
   pub part-cut : {r : Byte} → ByteAt s next r → r ≡ Byte.the-variants.Missing → BitsRead s at Leb.the-variants.Cut
   part-cut {r} a e =
-      record { is = rw (p .same, go left more); small = λ v k n q. absurd (let z : _≡_ {A = ℕ} 0 1 = cc in omega arith) }
+      record { is = rw (p .same, go left more); small = λ v k n q. impossible cc }
     where
       go : (n : ℕ) → 0 < n → bitsAt n s next ≡ cut
       go zero q = absurd (omega arith)
@@ -159,7 +160,7 @@ bits-long s at (suc n) h = absurd (omega arith)
 
 pub part-long : {s : List ℕ} {at value weight next left : ℕ} → Part s at value weight next left → left ≤ 0 → BitsRead s at Leb.the-variants.Long
 part-long {s} {at} {value} {weight} {next} {left} p h =
-    record { is = rw (p .same, bits-long s next left h); small = λ v k n q. absurd (let z : _≡_ {A = ℕ} 0 1 = cc in omega arith) }
+    record { is = rw (p .same, bits-long s next left h); small = λ v k n q. impossible cc }
 
 -- no sum and no product of the loop wraps
 

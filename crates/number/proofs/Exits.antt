@@ -9,6 +9,7 @@ use lib.ListN.{length, getD, getElem?}
 use Rattle.number.specs.declared.Byte.{Byte}
 use Rattle.number.specs.declared.Byte
 use Rattle.number.specs.Answers.{byteIs, ByteAt}
+use Rattle.scope.proofs.Impossible.{impossible}
 
 -- the element of a list at a place inside it, and past its end
 
@@ -29,6 +30,6 @@ byte-there {s} {at} h small = record { is = rw (element-there s at h); small = �
 
 pub byte-missing : {s : List ℕ} {at : ℕ} → length s ≤ at → ByteAt s at Byte.the-variants.Missing
 byte-missing {s} {at} h =
-    record { is = rw (element-missing s at h); small = λ b e. absurd (let z : _≡_ {A = ℕ} 0 1 = cc in omega arith) }
+    record { is = rw (element-missing s at h); small = λ b e. impossible cc }
 
 pub ruleset byte-exits = (byte-there, byte-missing)

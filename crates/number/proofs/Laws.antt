@@ -3,13 +3,13 @@ use Prim.Native.Nat.{ℕ, _+_, _-_, _^_, _≤_, _<_}
 use mathlib.Core.Path.{_≡_, refl, sym, _∙_}
 use mathlib.Core.Bool.{Bool, true, false, cond}
 use mathlib.Core.List.{List}
-use native.Mathlib.Omega.{arith}
 use lib.ListN.{length}
 use lib.Dec.{ltb, leb}
 use borrow.Author.Tests.{ltb-true, leb-true}
 use Rattle.scope.specs.Reading.{Read, got, refused}
 use Rattle.scope.specs.Numbers.{Bits, bits, cut, long, bitsAt, greatestLength, inRange, Whole, plus, minus, signed-of, within, unsigned, signed, u32, s33}
 use Rattle.scope.proofs.Forward.{unsigned-takes, signed-takes, never-back}
+use Rattle.scope.proofs.Impossible.{impossible}
 use Rattle.number.specs.declared.Natural.{Natural}
 use Rattle.number.specs.declared.Natural
 use Rattle.number.specs.declared.Integer.{Integer}
@@ -20,37 +20,37 @@ use Rattle.number.specs.Answers.{naturalIs, integerIs}
 
 pub natural-got : (o : Read ℕ) {r : Natural} {v next : ℕ} → r ≡ naturalIs o → r ≡ Natural.the-variants.Is v next → o ≡ got v next
 natural-got (got u m) p q = cc
-natural-got (refused n m) p q = absurd (let z : _≡_ {A = ℕ} 0 1 = cc in omega arith)
+natural-got (refused n m) p q = impossible cc
 
 pub natural-refused : (o : Read ℕ) {r : Natural} {n place : ℕ} → r ≡ naturalIs o → r ≡ Natural.the-variants.Refused n place → o ≡ refused n place
-natural-refused (got u m) p q = absurd (let z : _≡_ {A = ℕ} 0 1 = cc in omega arith)
+natural-refused (got u m) p q = impossible cc
 natural-refused (refused m k) p q = cc
 
 pub integer-plus : (o : Read Whole) {r : Integer} {v next : ℕ} → r ≡ integerIs o → r ≡ Integer.the-variants.Plus v next → o ≡ got (plus v) next
 integer-plus (got (plus u) m) p q = cc
-integer-plus (got (minus u) m) p q = absurd (let z : _≡_ {A = ℕ} 0 1 = cc in omega arith)
-integer-plus (refused n m) p q = absurd (let z : _≡_ {A = ℕ} 0 1 = cc in omega arith)
+integer-plus (got (minus u) m) p q = impossible cc
+integer-plus (refused n m) p q = impossible cc
 
 pub integer-minus : (o : Read Whole) {r : Integer} {v next : ℕ} → r ≡ integerIs o → r ≡ Integer.the-variants.Minus v next → o ≡ got (minus v) next
-integer-minus (got (plus u) m) p q = absurd (let z : _≡_ {A = ℕ} 0 1 = cc in omega arith)
+integer-minus (got (plus u) m) p q = impossible cc
 integer-minus (got (minus u) m) p q = cc
-integer-minus (refused n m) p q = absurd (let z : _≡_ {A = ℕ} 0 1 = cc in omega arith)
+integer-minus (refused n m) p q = impossible cc
 
 pub integer-refused : (o : Read Whole) {r : Integer} {n place : ℕ} → r ≡ integerIs o → r ≡ Integer.the-variants.Refused n place → o ≡ refused n place
-integer-refused (got (plus u) m) p q = absurd (let z : _≡_ {A = ℕ} 0 1 = cc in omega arith)
-integer-refused (got (minus u) m) p q = absurd (let z : _≡_ {A = ℕ} 0 1 = cc in omega arith)
+integer-refused (got (plus u) m) p q = impossible cc
+integer-refused (got (minus u) m) p q = impossible cc
 integer-refused (refused m k) p q = cc
 
 -- what was read is in the range of its width
 
 range-kept : {A : Type 0} (at : ℕ) (r : Bits) (value : ℕ → ℕ → A) (fits : A → Bool) {x : A} {next : ℕ} → inRange at r value fits ≡ got x next → fits x ≡ true
-range-kept at cut value fits e = absurd (let z : _≡_ {A = ℕ} 0 1 = cc in omega arith)
-range-kept at long value fits e = absurd (let z : _≡_ {A = ℕ} 0 1 = cc in omega arith)
+range-kept at cut value fits e = impossible cc
+range-kept at long value fits e = impossible cc
 range-kept {A} at (bits v k n) value fits {x} {next} e = go (fits (value v k)) refl e
   where
     go : (t : Bool) → fits (value v k) ≡ t → cond t (got (value v k) n) (refused 2 at) ≡ got x next → fits x ≡ true
     go true p q = let same : value v k ≡ x = cc in rw same at p
-    go false p q = absurd (let z : _≡_ {A = ℕ} 0 1 = cc in omega arith)
+    go false p q = impossible cc
 
 pub unsigned-small : (width : ℕ) (s : List ℕ) (at : ℕ) {v next : ℕ} → unsigned width s at ≡ got v next → v < 2 ^ width
 unfolding unsigned

@@ -13,6 +13,7 @@ use borrow.Author.Tests.{lt-ltb, le-ltb, le-leb, lt-leb}
 use Rattle.scope.specs.Reading.{Read, got, refused}
 use Rattle.scope.specs.Numbers.{Bits, bits, cut, long, bitsAt, greatestLength, inRange, Whole, plus, minus, signed-of, within, unsigned, signed, u32, s32, s33}
 use Rattle.scope.proofs.Forward.{Takes, unsigned-takes, signed-takes, never-back}
+use Rattle.scope.proofs.Impossible.{impossible}
 use Rattle.number.specs.declared.Leb.{Leb}
 use Rattle.number.specs.declared.Leb
 use Rattle.number.specs.declared.Natural.{Natural}
@@ -25,17 +26,17 @@ use Rattle.number.specs.Answers.{lebIs, Few, BitsRead, naturalIs, intege
 
 leb-got : (o : Bits) {r : Leb} {v k n : ℕ} → r ≡ lebIs o → r ≡ Leb.the-variants.Bits v k n → o ≡ bits v k n
 leb-got (bits u j m) p q = cc
-leb-got cut p q = absurd (let z : _≡_ {A = ℕ} 0 1 = cc in omega arith)
-leb-got long p q = absurd (let z : _≡_ {A = ℕ} 0 1 = cc in omega arith)
+leb-got cut p q = impossible cc
+leb-got long p q = impossible cc
 
 leb-cut : (o : Bits) {r : Leb} → r ≡ lebIs o → r ≡ Leb.the-variants.Cut → o ≡ cut
-leb-cut (bits u j m) p q = absurd (let z : _≡_ {A = ℕ} 0 1 = cc in omega arith)
+leb-cut (bits u j m) p q = impossible cc
 leb-cut cut p q = refl
-leb-cut long p q = absurd (let z : _≡_ {A = ℕ} 0 1 = cc in omega arith)
+leb-cut long p q = impossible cc
 
 leb-long : (o : Bits) {r : Leb} → r ≡ lebIs o → r ≡ Leb.the-variants.Long → o ≡ long
-leb-long (bits u j m) p q = absurd (let z : _≡_ {A = ℕ} 0 1 = cc in omega arith)
-leb-long cut p q = absurd (let z : _≡_ {A = ℕ} 0 1 = cc in omega arith)
+leb-long (bits u j m) p q = impossible cc
+leb-long cut p q = impossible cc
 leb-long long p q = refl
 
 -- u32_at

@@ -12,6 +12,7 @@ use Rattle.scope.specs.Bodies.{Body}
 use Rattle.scope.specs.Answers.{tableLent, verdictOf, sectionCall, SectionJudged}
 use Rattle.scope.specs.declared.Verdict.{Verdict}
 use Rattle.scope.specs.declared.Verdict
+use Rattle.scope.proofs.Impossible.{contradiction}
 use Rattle.type_table.specs.declared.Shape.{Shape}
 use Rattle.type_table.specs.declared.Shape
 use Rattle.type_table.specs.Answers.{shapeForm}
@@ -49,7 +50,7 @@ module _ {section s : List ℕ} {x : ℕ} {b : Body} (p : Parts section s x b) w
     verdict-again = a .answer ∙ ap (verdictOf length) call-again
 
     pub section-unrefused : {n place : ℕ} → v ≡ Verdict.the-variants.Refused n place → ⊥
-    section-unrefused e = let f = verdict-again in let z : _≡_ {A = ℕ} 0 1 = cc in omega arith
+    section-unrefused e = let f = verdict-again in contradiction cc
 
     pub section-again : {count : ℕ} → v ≡ Verdict.the-variants.Accepted count → TypesAgain b rows₁ codes₁ count
     section-again {count} e =
@@ -67,7 +68,7 @@ module _ {section s : List ℕ} {x : ℕ} {b : Body} (p : Parts section s x b) w
     form-again shape a = sym (form-is rows codes x shape a (b .types) (t .types)) ∙ p .form
 
     pub shape-not-struct : {shape : Shape} {first n : ℕ} → shape ≡ Shape.the-variants.Struct first n → view rows codes x .form ≡ shapeForm codes shape → ⊥
-    shape-not-struct {shape} e a = let f = ap (shapeForm codes) (sym e) ∙ form-again shape a in let z : _≡_ {A = ℕ} 0 1 = cc in omega arith
+    shape-not-struct {shape} e a = let f = ap (shapeForm codes) (sym e) ∙ form-again shape a in contradiction cc
 
     pub shape-again :
         {shape : Shape} {first n second m : ℕ} → shape ≡ Shape.the-variants.Func first n second m → view rows codes x .form ≡ shapeForm codes shape
@@ -87,7 +88,7 @@ module _ {section s : List ℕ} {x : ℕ} {b : Body} (p : Parts section s x b) w
 
     module _ {work work₁ : List ℕ} {r : Started} (a : StartedAs (localsFirst types n s) s codes work work₁ first n r) where
       pub start-unrefused : {k place : ℕ} → r ≡ Started.the-variants.Refused k place → ⊥
-      start-unrefused e = let g = started-refused n (localsFirst types n s) (a .answer) e in let h = read-again in let z : _≡_ {A = ℕ} 0 1 = cc in omega arith
+      start-unrefused e = let g = started-refused n (localsFirst types n s) (a .answer) e in let h = read-again in contradiction cc
 
       pub start-again : {count next : ℕ} → r ≡ Started.the-variants.Is count next → LocalsAgain b s work₁ count next
       start-again {count} {next} e =

@@ -17,6 +17,7 @@ use Rattle.scope.specs.Running.{withParameters, Trial, trialRun}
 use Rattle.scope.specs.Memory.{StateWords, stateWords, filled, wiped}
 use Rattle.scope.specs.Answers.{after, tableLent, verdictOf, stateLent, bodyCall, BodyJudged, runCall, machineOf, ranOf, RunTried}
 use Rattle.scope.proofs.Truths.{from-both}
+use Rattle.scope.proofs.Impossible.{impossible}
 use Rattle.run_buffers.specs.States.{stateOf, Cleared}
 use Rattle.run_call.specs.Trial.{StateRoom, Zeroed, Fresh, Tried, Allowed, RunJudged, Lent, RunLent, scratchLent, memory, RunEnough, ScratchCleared}
 
@@ -67,12 +68,12 @@ module _ (section s : List ℕ) (x budget : ℕ) where
 -- the verdict on the body
 
 body-refused : (j : Judged Body) {v : Verdict} {n p : ℕ} → v ≡ verdictOf instructions j → v ≡ Verdict.the-variants.Refused n p → j ≡ rejected n p
-body-refused (accepted b) e f = absurd (let z : _≡_ {A = ℕ} 0 1 = cc in omega arith)
+body-refused (accepted b) e f = impossible cc
 body-refused (rejected n p) e f = cc
 
 body-accepted : (j : Judged Body) {v : Verdict} {k : ℕ} → v ≡ verdictOf instructions j → v ≡ Verdict.the-variants.Accepted k → (b : Body) × (j ≡ accepted b)
 body-accepted (accepted b) e f = (b, refl)
-body-accepted (rejected n p) e f = absurd (let z : _≡_ {A = ℕ} 0 1 = cc in omega arith)
+body-accepted (rejected n p) e f = impossible cc
 
 module _ {rows codes work ends c o e l q b : List ℕ} (lent : Lent rows codes work ends (stateOf c o e l q b)) {section s : List ℕ} {x : ℕ}
     {rows₁ codes₁ work₁ : List ℕ} {v : Verdict} (a : BodyJudged section s x rows codes work rows₁ codes₁ work₁ v) where

@@ -2,8 +2,8 @@
 use Prim.Native.Nat.{ℕ}
 use mathlib.Core.Path.{_≡_, refl}
 use mathlib.Core.List.{List}
-use native.Mathlib.Omega.{arith}
 use Rattle.scope.specs.Machine.{Machine, Outcome, stuck}
+use Rattle.scope.proofs.Impossible.{contradiction, impossible}
 use Rattle.run_state.specs.declared.Stage.{Stage}
 use Rattle.run_state.specs.declared.Stepped.{Stepped}
 use Rattle.run_state.specs.declared.Stepped
@@ -26,13 +26,13 @@ module _ {s ends operands blocks : List ℕ} {st : Stage} {m : Machine} {want : 
       record {
         is = λ n. absurd (n refl);
         astray = λ e. a;
-        piled = λ l e. absurd (let z : _≡_ {A = ℕ} 0 1 = cc in omega arith);
-        framed = λ l e. absurd (let z : _≡_ {A = ℕ} 0 1 = cc in omega arith);
-        heap = λ l e. absurd (let z : _≡_ {A = ℕ} 0 1 = cc in omega arith);
-        results = λ l e. absurd (let z : _≡_ {A = ℕ} 0 1 = cc in omega arith);
-        closed = λ l e. absurd (let z : _≡_ {A = ℕ} 0 1 = cc in omega arith);
-        lastHeap = λ l e. absurd (let z : _≡_ {A = ℕ} 0 1 = cc in omega arith);
-        traps-not = λ n e. let z : _≡_ {A = ℕ} 0 1 = cc in omega arith;
+        piled = λ l e. impossible cc;
+        framed = λ l e. impossible cc;
+        heap = λ l e. impossible cc;
+        results = λ l e. impossible cc;
+        closed = λ l e. impossible cc;
+        lastHeap = λ l e. impossible cc;
+        traps-not = λ n e. contradiction cc;
       }
 
   pub control-stuck : want ≡ stuck → ControlIs s ends operands blocks st m want Stepped.the-variants.Astray
@@ -44,14 +44,14 @@ module _ {s ends operands blocks : List ℕ} {st : Stage} {m : Machine} {want : 
   control-goes later is piled framed heap =
       record {
         is = λ n. is;
-        astray = λ e. absurd (let z : _≡_ {A = ℕ} 0 1 = cc in omega arith);
+        astray = λ e. impossible cc;
         piled = λ l e. let same : later ≡ l = cc in rw (← same) piled;
         framed = λ l e. let same : later ≡ l = cc in rw (← same) framed;
         heap = λ l e. let same : later ≡ l = cc in rw (← same) heap;
-        results = λ l e. absurd (let z : _≡_ {A = ℕ} 0 1 = cc in omega arith);
-        closed = λ l e. absurd (let z : _≡_ {A = ℕ} 0 1 = cc in omega arith);
-        lastHeap = λ l e. absurd (let z : _≡_ {A = ℕ} 0 1 = cc in omega arith);
-        traps-not = λ n e. let z : _≡_ {A = ℕ} 0 1 = cc in omega arith;
+        results = λ l e. impossible cc;
+        closed = λ l e. impossible cc;
+        lastHeap = λ l e. impossible cc;
+        traps-not = λ n e. contradiction cc;
       }
 
   pub control-ends :
@@ -60,12 +60,12 @@ module _ {s ends operands blocks : List ℕ} {st : Stage} {m : Machine} {want : 
   control-ends later is piled closed heap =
       record {
         is = λ n. is;
-        astray = λ e. absurd (let z : _≡_ {A = ℕ} 0 1 = cc in omega arith);
-        piled = λ l e. absurd (let z : _≡_ {A = ℕ} 0 1 = cc in omega arith);
-        framed = λ l e. absurd (let z : _≡_ {A = ℕ} 0 1 = cc in omega arith);
-        heap = λ l e. absurd (let z : _≡_ {A = ℕ} 0 1 = cc in omega arith);
+        astray = λ e. impossible cc;
+        piled = λ l e. impossible cc;
+        framed = λ l e. impossible cc;
+        heap = λ l e. impossible cc;
         results = λ l e. let same : later ≡ l = cc in rw (← same) piled;
         closed = λ l e. let same : later ≡ l = cc in rw (← same) closed;
         lastHeap = λ l e. let same : later ≡ l = cc in rw (← same) heap;
-        traps-not = λ n e. let z : _≡_ {A = ℕ} 0 1 = cc in omega arith;
+        traps-not = λ n e. contradiction cc;
       }

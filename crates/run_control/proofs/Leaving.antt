@@ -15,6 +15,7 @@ use Rattle.scope.specs.Syntax.{Val}
 use Rattle.scope.specs.Instructions.{Instr, block, loop, end, instrAt}
 use Rattle.scope.specs.Bodies.{Code}
 use Rattle.scope.specs.Machine.{Value, Block, openBlock, openLoop, Machine, Program, goes, stuck, withControl, splitTop, past, finish, jump, branch}
+use Rattle.scope.proofs.Impossible.{contradiction, impossible}
 use Rattle.lent_u16.specs.Words.{WordAt}
 use Rattle.body_immediates.specs.declared.Instruction.{Instruction}
 use Rattle.body_immediates.specs.declared.Instruction
@@ -100,11 +101,11 @@ module _ {s : List ℕ} {kind at next : ℕ} {rs : List Val} where
   opened-block : Opened s kind at next → {onto : ℕ} → instrAt s at ≡ got (block rs) onto → (vs : List Value) → blockOf s kind at vs ≡ openBlock at (length rs) vs
   unfolding blockOf
   opened-block (a-block k e) read vs = rw (k, read) refl
-  opened-block (a-loop k e) read vs = absurd (let z : _≡_ {A = ℕ} 0 1 = cc in omega arith)
+  opened-block (a-loop k e) read vs = impossible cc
 
   opened-loop : Opened s kind at next → {onto : ℕ} → instrAt s at ≡ got (loop rs) onto → (vs : List Value) → blockOf s kind at vs ≡ openLoop at vs (codeAt s onto)
   unfolding blockOf codeAfter
-  opened-loop (a-block k e) read vs = absurd (let z : _≡_ {A = ℕ} 0 1 = cc in omega arith)
+  opened-loop (a-block k e) read vs = impossible cc
   opened-loop (a-loop k e) read vs = rw (k, read) refl
 
 -- the operands below open block d
@@ -224,8 +225,8 @@ abbrev pub other-codes : List ℕ
 other-codes = 0 ∷ 1 ∷ 4 ∷ 5 ∷ 6 ∷ 7 ∷ 8 ∷ 9 ∷ 10 ∷ 11 ∷ 12 ∷ 13 ∷ 14 ∷ 15 ∷ 16 ∷ 17 ∷ 18 ∷ 19 ∷ 20 ∷ 21 ∷ 22 ∷ 23 ∷ 24 ∷ 25 ∷ 26 ∷ 27 ∷ 28 ∷ 29 ∷ 30 ∷ []
 
 not-refused : {s : List ℕ} {kind at next n q : ℕ} → Opened s kind at next → instrAt s at ≡ refused n q → ⊥
-not-refused (a-block k e) f = let z : _≡_ {A = ℕ} 0 1 = cc in omega arith
-not-refused (a-loop k e) f = let z : _≡_ {A = ℕ} 0 1 = cc in omega arith
+not-refused (a-block k e) f = contradiction cc
+not-refused (a-loop k e) f = contradiction cc
 
 module _ {s : List ℕ} {kind at next : ℕ} {j : Instr} {onto : ℕ} {i : Instruction} (read : instrAt s at ≡ got j onto) (same : i ≡ instructionOf j) where
   opened-next : Opened s kind at next → Opened s kind at onto
@@ -237,7 +238,7 @@ module _ {s : List ℕ} {kind at next : ℕ} {j : Instr} {onto : ℕ} {i : Instr
   as-loop-read (a-block {rs} k e) f =
       let is : j ≡ block rs = cc in
       let wrong : i ≡ Instruction.the-variants.Block (resultCode rs) = rw is at same in
-      absurd (let z : _≡_ {A = ℕ} 0 1 = cc in omega arith)
+      impossible cc
   as-loop-read (a-loop {rs} k e) f = (rs, cc)
 
   as-block-read : Opened s kind at next → {v : ℕ} → i ≡ Instruction.the-variants.Block v → (rs : List Val) × (j ≡ block rs) × (v ≡ resultCode rs)
@@ -249,7 +250,7 @@ module _ {s : List ℕ} {kind at next : ℕ} {j : Instr} {onto : ℕ} {i : Instr
   as-block-read (a-loop {rs} k e) f =
       let is : j ≡ loop rs = cc in
       let wrong : i ≡ Instruction.the-variants.Loop (resultCode rs) = rw is at same in
-      absurd (let z : _≡_ {A = ℕ} 0 1 = cc in omega arith)
+      impossible cc
 
   no-other : Opened s kind at next → OneOf other-codes (tagOf the-type i) → ⊥
   unfolding instructionOf

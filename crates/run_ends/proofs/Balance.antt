@@ -3,7 +3,6 @@
 use Prim.Native.Nat.{ℕ, zero, suc}
 use mathlib.Core.Path.{_≡_, refl, sym, ap, _∙_, subst}
 use mathlib.Core.List.{List, [], _∷_}
-use native.Mathlib.Omega.{arith}
 use native.Mathlib.Nat.{le-refl}
 use lib.ListN.{length}
 use Rattle.scope.specs.Reading.{Read, got, refused, then}
@@ -12,6 +11,7 @@ use Rattle.scope.specs.BodyRules.{Context, Ruled, allowed, fault, fromTop}
 use Rattle.scope.specs.Bodies.{Frame, ofBlock, ofLoop, State, Next, goesOn, finished, Code, onRuled, onNext, takeAll, close, judgeInstr, judgeFrom}
 use Rattle.scope.proofs.Telling.{Allows, this, after-and, whatever}
 use Rattle.scope.proofs.Standing.{Accepts, last as judged-last, next as judged-next, judged-accepts, after-none-left, leftOf, KeepsFrames, keepsFrames, Enters, enters, Leaves, op-keeps, block-enters, loop-enters, end-leaves, after-end, finished-goes-not-on}
+use Rattle.scope.proofs.Impossible.{impossible}
 use Rattle.run_ends.specs.Matching.{codeAt, Balanced, last, closing, opening-block, opening-loop, inside}
 use Rattle.run_ends.proofs.Codes.{code-here, code-none}
 
@@ -26,7 +26,7 @@ module _ (left : ℕ) (c : Context) (s : List ℕ) (at : ℕ) {i : Instr} {next 
   after (got rest stop) later e =
       let whole : stop ≡ length s = cc in
       here (let is : code ≡ (at, i) ∷ rest = cc in is) (later rest (ap (got rest) whole))
-  after (refused n p) later e = absurd (let z : _≡_ {A = ℕ} 0 1 = cc in omega arith)
+  after (refused n p) later e = impossible cc
 
   by-next : (n : Next) → ((st : State) (rest : Code) → judgeFrom left c st s next ≡ got rest (length s) → rest ≡ codeAt s next) → onNext n (λ later. then (judgeFrom left c later s next) (λ rest stop. got ((at, i) ∷ rest) stop)) (got ((at, i) ∷ []) next) ≡ got code (length s) → code ≡ codeAt s at
   by-next (goesOn st) later e = after (judgeFrom left c st s next) (later st) e
@@ -36,16 +36,16 @@ module _ (left : ℕ) (c : Context) (s : List ℕ) (at : ℕ) {i : Instr} {next 
 
   by-verdict : (v : Ruled Next) → ((st : State) (rest : Code) → judgeFrom left c st s next ≡ got rest (length s) → rest ≡ codeAt s next) → onRuled v (λ number. refused number at) (λ n. onNext n (λ later. then (judgeFrom left c later s next) (λ rest stop. got ((at, i) ∷ rest) stop)) (got ((at, i) ∷ []) next)) ≡ got code (length s) → code ≡ codeAt s at
   by-verdict (allowed n) later e = by-next n later e
-  by-verdict (fault n) later e = absurd (let z : _≡_ {A = ℕ} 0 1 = cc in omega arith)
+  by-verdict (fault n) later e = impossible cc
 
 pub judged-code : (left : ℕ) (c : Context) (st : State) (s : List ℕ) (at : ℕ) (code : Code) → judgeFrom left c st s at ≡ got code (length s) → code ≡ codeAt s at
 unfolding judgeFrom
-judged-code zero c st s at code e = absurd (let z : _≡_ {A = ℕ} 0 1 = cc in omega arith)
+judged-code zero c st s at code e = impossible cc
 judged-code (suc left) c st s at code e = go (instrAt s at) refl e (λ later next rest f. judged-code left c later s next rest f)
   where
     go : (o : Read Instr) → instrAt s at ≡ o → then o (λ i next. onRuled (judgeInstr c st i) (λ number. refused number at) (λ n. onNext n (λ later. then (judgeFrom left c later s next) (λ rest stop. got ((at, i) ∷ rest) stop)) (got ((at, i) ∷ []) next))) ≡ got code (length s) → ((later : State) (next : ℕ) (rest : Code) → judgeFrom left c later s next ≡ got rest (length s) → rest ≡ codeAt s next) → code ≡ codeAt s at
     go (got i next) read f later = by-verdict left c s at read (judgeInstr c st i) (λ st′ rest g. later st′ next rest g) f
-    go (refused n p) read f later = absurd (let z : _≡_ {A = ℕ} 0 1 = cc in omega arith)
+    go (refused n p) read f later = impossible cc
 
 -- what is open
 

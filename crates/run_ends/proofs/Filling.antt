@@ -17,6 +17,7 @@ use Rattle.scope.specs.Machine.{past}
 use Rattle.scope.proofs.Forward.{never-back}
 use Rattle.scope.proofs.ForwardBodies.{instr-takes}
 use Rattle.scope.proofs.Truths.{decided}
+use Rattle.scope.proofs.Impossible.{contradiction, impossible}
 use Rattle.body_immediates.specs.declared.Instruction.{Instruction}
 use Rattle.body_immediates.specs.declared.InstructionRead.{InstructionRead}
 use Rattle.body_immediates.specs.declared.InstructionRead
@@ -48,8 +49,8 @@ opener-next (is-loop e) (is-block f) = one-next e f
 opener-next (is-loop e) (is-loop f) = one-next e f
 
 not-refused : {s : List ℕ} {at onward n p : ℕ} → Opener s at onward → instrAt s at ≡ refused n p → ⊥
-not-refused (is-block e) f = let z : _≡_ {A = ℕ} 0 1 = cc in omega arith
-not-refused (is-loop e) f = let z : _≡_ {A = ℕ} 0 1 = cc in omega arith
+not-refused (is-block e) f = contradiction cc
+not-refused (is-loop e) f = contradiction cc
 
 -- what a reached place is, where one instruction was read
 ahead-of : {s : List ℕ} {here₀ next at : ℕ} {i : Instr} → instrAt s here₀ ≡ got i next → Reached s here₀ at → (at ≡ here₀) ⊎ Reached s next at
@@ -163,7 +164,7 @@ module _ {s ends₀ : List ℕ} {first : ℕ} {ends : List ℕ} {next innermost 
         go at onward opener (ahead r) = by (ahead-of read r)
           where
             by : (at ≡ next) ⊎ Reached s onto at → Passed s first ends onto (g .places) at onward
-            by (inl e) = absurd (let wrong : Kind.the-variants.Inside ≡ Kind.the-variants.Opens = opener-kind (rw e at opener) read in let z : _≡_ {A = ℕ} 0 1 = cc in omega arith)
+            by (inl e) = absurd (let wrong : Kind.the-variants.Inside ≡ Kind.the-variants.Opens = opener-kind (rw e at opener) read in contradiction cc)
             by (inr r) = ahead r
 
     -- a block or a loop
@@ -219,7 +220,7 @@ module _ {s ends₀ : List ℕ} {first : ℕ} {ends : List ℕ} {next innermost 
         pass n at onward o (inr e) (ahead r) = by (ahead-of read r)
           where
             by : (at ≡ next) ⊎ Reached s onto at → Passed s first ends′ onto (n .outer) at onward
-            by (inl q) = absurd (let wrong : Kind.the-variants.Closes ≡ Kind.the-variants.Opens = opener-kind (rw q at o) read in let z : _≡_ {A = ℕ} 0 1 = cc in omega arith)
+            by (inl q) = absurd (let wrong : Kind.the-variants.Closes ≡ Kind.the-variants.Opens = opener-kind (rw q at o) read in contradiction cc)
             by (inr k) = ahead k
 
         go : Innermost s ends (codeAt s next) next 1 p (g .places) → Going s ends₀ first ends′ onto (getD ends p 0) (left - 1)
@@ -256,7 +257,7 @@ module _ {s ends₀ : List ℕ} {first : ℕ} {ends : List ℕ} {next innermost 
     turn {ends′} {noted} {word} end read n e = go innermost refl n
       where
         go : (w : ℕ) → innermost ≡ w → NotedAt ends ends′ w next onto Kind.the-variants.Closes noted → Going s ends₀ first ends′ onto word (left - 1)
-        go zero is m = let wrong = m .answer in absurd (let z : _≡_ {A = ℕ} 0 1 = cc in omega arith)
+        go zero is m = let wrong = m .answer in impossible cc
         go (suc p) is m =
             let same : word ≡ getD ends p 0 = noted-one (sym e ∙ m .answer) in
             rw same (turn-closes is read (stored-close is read (m .memory)))
@@ -281,7 +282,7 @@ module _ {s ends₀ : List ℕ} {first : ℕ} {ends : List ℕ} {next innermost 
           where
             later : (at onward : ℕ) → Opener s at onward → Reached s onto at → Lands s first onward (getD ends at 0)
             later at onward o here = let (n, place, no-more) = nothing e in absurd (not-refused o no-more)
-            later at onward o (after read-there r) = let (n, place, no-more) = nothing e in absurd (let z : _≡_ {A = ℕ} 0 1 = cc in omega arith)
+            later at onward o (after read-there r) = let (n, place, no-more) = nothing e in impossible cc
 
             by : (at onward : ℕ) → Opener s at onward → Passed s first ends next (g .places) at onward → Lands s first onward (getD ends at 0)
             by at onward o (closed lands) = lands
@@ -289,7 +290,7 @@ module _ {s ends₀ : List ℕ} {first : ℕ} {ends : List ℕ} {next innermost 
             by at onward o (ahead r) = on (ahead-of read r)
               where
                 on : (at ≡ next) ⊎ Reached s onto at → Lands s first onward (getD ends at 0)
-                on (inl q) = absurd (let wrong : Kind.the-variants.Closes ≡ Kind.the-variants.Opens = opener-kind (rw q at o) read in let z : _≡_ {A = ℕ} 0 1 = cc in omega arith)
+                on (inl q) = absurd (let wrong : Kind.the-variants.Closes ≡ Kind.the-variants.Opens = opener-kind (rw q at o) read in contradiction cc)
                 on (inr k) = later at onward o k
 
         balanced : answer ≡ true → Balanced 0 (codeAt s first)
@@ -301,18 +302,18 @@ module _ {s ends₀ : List ℕ} {first : ℕ} {ends : List ℕ} {next innermost 
         told b = is ∙ by (instrAt s onto) refl (balanced-last (rw (closes, code-here s next read) at (g .balances b)))
           where
             by : (o : Read Instr) → instrAt s onto ≡ o → codeAt s onto ≡ [] → noneThere o ≡ true
-            by (got i later) same h = absurd (let wrong = sym h ∙ code-here s onto same in let z : _≡_ {A = ℕ} 0 1 = cc in omega arith)
+            by (got i later) same h = absurd (let wrong = sym h ∙ code-here s onto same in contradiction cc)
             by (refused n place) same h = refl
 
     finish : {ends′ : List ℕ} {noted : Noted} (j : Instr) → instrAt s next ≡ got j onto → NotedAt ends ends′ innermost next onto (kindOf j) noted → noted ≡ Noted.the-variants.Last → {answer : Bool} → answer ≡ noneThere (instrAt s onto) → Filled s ends₀ ends′ first answer
-    finish (op o) read n e is = let wrong = n .answer in absurd (let z : _≡_ {A = ℕ} 0 1 = cc in omega arith)
-    finish (block rs) read n e is = let wrong = n .answer in absurd (let z : _≡_ {A = ℕ} 0 1 = cc in omega arith)
-    finish (loop rs) read n e is = let wrong = n .answer in absurd (let z : _≡_ {A = ℕ} 0 1 = cc in omega arith)
+    finish (op o) read n e is = let wrong = n .answer in impossible cc
+    finish (block rs) read n e is = let wrong = n .answer in impossible cc
+    finish (loop rs) read n e is = let wrong = n .answer in impossible cc
     finish {ends′} {noted} end read n e {answer} is = go innermost refl n
       where
         go : (w : ℕ) → innermost ≡ w → NotedAt ends ends′ w next onto Kind.the-variants.Closes noted → Filled s ends₀ ends′ first answer
         go zero none m = rw (m .memory) (own-end read none is)
-        go (suc p) some m = let wrong = m .answer in absurd (let z : _≡_ {A = ℕ} 0 1 = cc in omega arith)
+        go (suc p) some m = let wrong = m .answer in impossible cc
 
   module _ (f : Fillable s ends₀ first) (more : 0 < left) {r : InstructionRead} (a : r ≡ instructionIs (instrAt s next)) where
     pub going-refused : {n place : ℕ} → r ≡ InstructionRead.the-variants.Refused n place → Filled s ends₀ ends first false

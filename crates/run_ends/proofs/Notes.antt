@@ -10,6 +10,7 @@ use types.Run.{OneOf, miss}
 use denote.Enum.Declared.{tagOf}
 use Rattle.scope.specs.Reading.{Read}
 use Rattle.scope.specs.Instructions.{Op, unreachable, nop, return, drop-value, br, br-if, local-get, local-set, local-tee, i32-const, ref-null, ref-is-null, ref-eq, ref-as-non-null, struct-new, struct-new-default, struct-get, struct-set, ref-test, ref-cast, br-on-cast, br-on-cast-fail, struct-new-desc, struct-new-default-desc, ref-get-desc, ref-cast-desc-eq, br-on-cast-desc-eq, br-on-cast-desc-eq-fail, Instr, block, loop, end, op}
+use Rattle.scope.proofs.Impossible.{contradiction, impossible}
 use Rattle.body_immediates.specs.declared.Instruction.{Instruction}
 use Rattle.body_immediates.specs.declared.Instruction
 use Rattle.body_immediates.specs.declared.InstructionRead.{InstructionRead}
@@ -84,19 +85,19 @@ module _ {i : Instruction} where
 
   pub kind-block : {w : ℕ} → i ≡ Instruction.the-variants.Block w → KindIs i Kind.the-variants.Opens
   unfolding opens-or-ends tag
-  kind-block e = is-opening (rw e) (λ f. let z : _≡_ {A = ℕ} 0 1 = cc in omega arith)
+  kind-block e = is-opening (rw e) (λ f. contradiction cc)
 
   pub kind-loop : {w : ℕ} → i ≡ Instruction.the-variants.Loop w → KindIs i Kind.the-variants.Opens
   unfolding opens-or-ends tag
-  kind-loop e = is-opening (rw e) (λ f. let z : _≡_ {A = ℕ} 0 1 = cc in omega arith)
+  kind-loop e = is-opening (rw e) (λ f. contradiction cc)
 
   pub kind-end : i ≡ Instruction.the-variants.End → KindIs i Kind.the-variants.Closes
   unfolding instructionOf opens-or-ends tag
   kind-end e = record { is = go }
     where
       go : (j : Instr) → i ≡ instructionOf j → Kind.the-variants.Closes ≡ kindOf j
-      go (block rs) f = absurd (let z : _≡_ {A = ℕ} 0 1 = cc in omega arith)
-      go (loop rs) f = absurd (let z : _≡_ {A = ℕ} 0 1 = cc in omega arith)
+      go (block rs) f = impossible cc
+      go (loop rs) f = impossible cc
       go end f = refl
       go (op o) f = absurd (not-inside o (rw e) f)
 

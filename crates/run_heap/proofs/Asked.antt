@@ -19,6 +19,7 @@ use Rattle.run_heap.specs.declared.Held.{Held}
 use Rattle.run_heap.specs.declared.Held
 use Rattle.run_heap.specs.Heap.{objectWord, objectAt, TypeOf, DescriptorOf, FieldCount, heldOption, HeldField, FieldSet, RoomFor}
 use Rattle.run_heap.proofs.Packs.{store-length, packed-within, packed-cells, store-set, set-canon}
+use Rattle.scope.proofs.Impossible.{impossible}
 
 module _ {objects : List ℕ} {o : ℕ} where
   pub type-is : {r : ℕ} → WordAt objects (4 * o + 0) r → TypeOf objects o r
@@ -50,8 +51,8 @@ module _ {objects : List ℕ} {o count : ℕ} (a : WordAt objects (4 * o + 3) co
         let past : objectWord objects o 3 ≤ i = rw (← a .is) h in
         record {
           is = sym (numbered-past (entryIn valueAt cells) (objectWord objects o 2) (objectWord objects o 3) i past);
-          inside = λ k b e. absurd (let z : _≡_ {A = ℕ} 0 1 = cc in omega arith);
-          canon = λ n total p l k b e. absurd (let z : _≡_ {A = ℕ} 0 1 = cc in omega arith);
+          inside = λ k b e. impossible cc;
+          canon = λ n total p l k b e. impossible cc;
         }
 
     module _ (h : i < count) {first : ℕ} (b : WordAt objects (4 * o + 2) first) {kind bits : ℕ} where
@@ -121,8 +122,8 @@ module _ {n total need : ℕ} where
   room-none h =
       record {
         is = λ objects cells p. rw (store-length objects cells n, le-ltb n 1_024 h);
-        few = λ e. absurd (let z : _≡_ {A = ℕ} 0 1 = cc in omega arith);
-        most = λ e. absurd (let z : _≡_ {A = ℕ} 0 1 = cc in omega arith);
+        few = λ e. impossible cc;
+        most = λ e. impossible cc;
       }
 
   pub room-by : n < 1_024 → RoomFor n total need (leb (total + need) 4_096)

@@ -13,6 +13,7 @@ use Rattle.scope.specs.Order.{numberCode}
 use Rattle.scope.specs.Lists.{every}
 use Rattle.scope.specs.BodyRules.{holdsOf, hasDefault}
 use Rattle.scope.specs.Machine.{Value, defaultsOf}
+use Rattle.scope.proofs.Impossible.{impossible}
 use Rattle.lent_u16.specs.Words.{WordAt}
 use Rattle.type_table.specs.View.{valAtCode, fieldAtCode, codesAt}
 use Rattle.type_table.specs.Answers.{valIs}
@@ -143,11 +144,11 @@ unfolding defaultsOf
 every-default [] e = refl
 every-default (num k ∷ vs) e = rw (every-default vs e)
 every-default (ref true h ∷ vs) e = rw (every-default vs e)
-every-default (ref false h ∷ vs) e = absurd (let z : _≡_ {A = ℕ} 0 1 = cc in omega arith)
+every-default (ref false h ∷ vs) e = impossible cc
 
 pub some-without : (vs : List Val) → every hasDefault vs ≡ false → defaultsOf vs ≡ none
 unfolding defaultsOf
-some-without [] e = absurd (let z : _≡_ {A = ℕ} 0 1 = cc in omega arith)
+some-without [] e = impossible cc
 some-without (num k ∷ vs) e = rw (some-without vs e)
 some-without (ref true h ∷ vs) e = rw (some-without vs e)
 some-without (ref false h ∷ vs) e = refl

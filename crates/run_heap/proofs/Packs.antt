@@ -15,6 +15,7 @@ use Rattle.scope.specs.Lists.{joined}
 use Rattle.scope.specs.Machine.{Value, Object, Store, withField, cellsOf}
 use Rattle.scope.specs.Memory.{orZero, valueWords, objectsFrom, cellValues}
 use Rattle.scope.proofs.Truths.{decided}
+use Rattle.scope.proofs.Impossible.{contradiction}
 use Rattle.type_table.specs.View.{linkAt}
 use Rattle.run_values.specs.Values.{numbered, valueAt, entryIn, valuesFrom, setValue, Canon, AllCanon}
 use Rattle.run_values.proofs.Numbered.{numbered-length, numbered-there, numbered-past, numbered-append, numbered-more, numbered-same, numbered-set}
@@ -45,7 +46,7 @@ module _ (objects cells : List ℕ) (n : ℕ) where
             let h : o < n = ltb-true o n l in
             let there : some it ≡ some (objectAt objects cells o) = sym e ∙ store-there h in
             (h, cc)
-        go (inr l) = absurd (let z : some it ≡ none = sym e ∙ store-past (ltb-false o n l) in let y : _≡_ {A = ℕ} 0 1 = cc in omega arith)
+        go (inr l) = absurd (let z : some it ≡ none = sym e ∙ store-past (ltb-false o n l) in contradiction cc)
 
 -- the same of a heap that is what the words say
 module _ {os : Store} (objects cells : List ℕ) {n : ℕ} (heap : os ≡ storeAt objects cells n) where

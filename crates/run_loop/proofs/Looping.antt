@@ -11,6 +11,7 @@ use Rattle.scope.specs.Instructions.{instrAt}
 use Rattle.scope.specs.Machine.{Machine, Program, Outcome, step}
 use Rattle.scope.specs.Running.{run, onOutcome}
 use Rattle.scope.proofs.Soundness.{Reaches, atFirst, oneMore}
+use Rattle.scope.proofs.Impossible.{contradiction}
 use Rattle.body_immediates.specs.declared.Instruction.{Instruction}
 use Rattle.body_immediates.specs.declared.InstructionRead.{InstructionRead}
 use Rattle.body_immediates.specs.declared.InstructionRead
@@ -127,7 +128,7 @@ module _ {s rows codes ends′ : List ℕ} {count : ℕ} {w₀ : Words} {results
           → length b′ ≡ length b → Going s rows codes ends′ count w₀ results first budget (words o′ c′ l′ p′ b′) later (steps + 1)
       unfolding outcomeAt
       going-turn {later} e so sc sl sp sb =
-          let is = came e (λ a. let z : _≡_ {A = ℕ} 0 1 = cc in omega arith) in
+          let is = came e (λ a. contradiction cc) in
           record {
             sound = g .sound;
             orderly = stepped .is .orderly later e;
@@ -149,7 +150,7 @@ module _ {s rows codes ends′ : List ℕ} {count : ℕ} {w₀ : Words} {results
           → RanFrom s rows codes count w₀ (words o′ c′ l′ p′ b′) results first budget (Ending.the-variants.Done later (steps + 1))
       unfolding outcomeAt endingAt
       going-done {later} e =
-          let is = came e (λ a. let z : _≡_ {A = ℕ} 0 1 = cc in omega arith) in
+          let is = came e (λ a. contradiction cc) in
           record { is = sym (comes is); told = last-state-words (stepped .is .valued later e) (stepped .is .closed later e); valued = stepped .is .valued later e; low = omega (arith, stepped .is .closed later e .depth) }
 
       pub going-trapped :
@@ -157,7 +158,7 @@ module _ {s rows codes ends′ : List ℕ} {count : ℕ} {w₀ : Words} {results
           → RanFrom s rows codes count w₀ (words o′ c′ l′ p′ b′) results first budget (Ending.the-variants.Trapped number st (steps + 1))
       unfolding outcomeAt endingAt
       going-trapped {number} e =
-          let is = came e (λ a. let z : _≡_ {A = ℕ} 0 1 = cc in omega arith) in
+          let is = came e (λ a. contradiction cc) in
           let same : words o′ c′ l′ p′ b′ ≡ words o c l p b = stepped .is .same number e in
           rw same (record { is = sym (comes is); told = state-words (g .orderly) some-code; valued = g .orderly .valued; low = omega (arith, g .orderly .framed .room, g .orderly .framed .deep) })
 

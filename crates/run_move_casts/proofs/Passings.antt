@@ -4,13 +4,13 @@ use mathlib.Core.Path.{_≡_, refl, ap, _∙_}
 use mathlib.Core.Bool.{Bool, false}
 use mathlib.Core.Option.{Option, some}
 use mathlib.Core.List.{List}
-use native.Mathlib.Omega.{arith}
 use lib.ListN.{getElem?, drop}
 use lib.Dec.{eqb}
 use Rattle.scope.specs.Reading.{given}
 use Rattle.scope.specs.Syntax.{exact}
 use Rattle.scope.specs.Order.{heapBelow}
 use Rattle.scope.specs.Machine.{Value, Object, Store, Outcome, stuck, onTaken, onReference, isVery}
+use Rattle.scope.proofs.Impossible.{impossible}
 use Rattle.type_table.specs.View.{heapAtCode, view}
 use Rattle.type_table.specs.declared.Link.{Link}
 use Rattle.type_table.specs.declared.Link
@@ -38,7 +38,7 @@ answered :
     → Answers vs ask (Passing.the-variants.Is b)
 answered {vs} {ask} {w} b e same =
     record {
-      wrong = λ q. absurd (let z : _≡_ {A = ℕ} 0 1 = cc in omega arith);
+      wrong = λ q. impossible cc;
       there = λ c q. (w, e);
       is = λ c q v g f.
           let this : c ≡ b = cc in
@@ -53,8 +53,8 @@ unanswered :
 unanswered lost =
     record {
       wrong = λ q. lost;
-      there = λ c q. absurd (let z : _≡_ {A = ℕ} 0 1 = cc in omega arith);
-      is = λ c q. absurd (let z : _≡_ {A = ℕ} 0 1 = cc in omega arith);
+      there = λ c q. impossible cc;
+      is = λ c q. impossible cc;
     }
 
 module _ {top : Topmost} {q : Reference} (seen-as : q ≡ referenceAt top) {vs : List Value} (s : Seen vs top) where

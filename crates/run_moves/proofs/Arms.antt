@@ -7,6 +7,7 @@ use native.Mathlib.Omega.{arith}
 use lib.ListN.{length, drop}
 use Rattle.scope.specs.Instructions.{Op, op}
 use Rattle.scope.specs.Machine.{Value, Machine, Program, doOp}
+use Rattle.scope.proofs.Impossible.{contradiction, impossible}
 use Rattle.type_table.specs.View.{view}
 use Rattle.body_immediates.specs.declared.Instruction.{Instruction}
 use Rattle.body_immediates.specs.declared.Instruction
@@ -35,7 +36,7 @@ second-nothing operands base e =
       seen = λ c.
           record {
             is = ap (λ (vs : List Value). headOf (drop 1 vs)) (sym (pile-none operands base e));
-            canon = λ k n z. absurd (let y : _≡_ {A = ℕ} 0 1 = cc in omega arith);
+            canon = λ k n z. impossible cc;
           };
     }
 
@@ -123,15 +124,15 @@ module _ (rows codes objects cells locals operands : List ℕ) (count : ℕ) (st
 
     pub by-block : {w : ℕ} → i ≡ Instruction.the-variants.Block w → Tells i Move.the-variants.Astray
     unfolding instrOf
-    by-block e = no-operation e (λ o f. let z : _≡_ {A = ℕ} 0 1 = cc in omega arith)
+    by-block e = no-operation e (λ o f. contradiction cc)
 
     pub by-loop : {w : ℕ} → i ≡ Instruction.the-variants.Loop w → Tells i Move.the-variants.Astray
     unfolding instrOf
-    by-loop e = no-operation e (λ o f. let z : _≡_ {A = ℕ} 0 1 = cc in omega arith)
+    by-loop e = no-operation e (λ o f. contradiction cc)
 
     pub by-end : i ≡ Instruction.the-variants.End → Tells i Move.the-variants.Astray
     unfolding instrOf
-    by-end e = no-operation e (λ o f. let z : _≡_ {A = ℕ} 0 1 = cc in omega arith)
+    by-end e = no-operation e (λ o f. contradiction cc)
 
     -- what looks at nothing
 

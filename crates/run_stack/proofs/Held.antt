@@ -12,6 +12,7 @@ use lib.Seq.{set-out}
 use lib.Dec.{eqb}
 use borrow.Author.Tests.{eqb-true, eqb-false}
 use Rattle.scope.proofs.Truths.{decided}
+use Rattle.scope.proofs.Impossible.{impossible}
 use Rattle.run_values.specs.Values.{Word64At, valueAt, heldAt, heldFrom, setValue, HeldCanon, entryIn}
 use Rattle.run_values.proofs.Numbered.{numbered-length, numbered-there, numbered-past, numbered-set}
 use Rattle.run_values.proofs.Laws.{canon-kind, held-none, held-some, held-canon-some, put-long, put-beside, put-kind, put-bits}
@@ -33,7 +34,7 @@ locals-length locals count = numbered-length (entryIn heldAt locals) 0 count
 
 pub local-absent : (locals : List ℕ) {count x : ℕ} → count ≤ x → LocalIs locals count x HeldLocal.the-variants.Absent
 local-absent locals {count} {x} h =
-    record { is = sym (local-past locals count x h); canon = λ k n z. absurd (let y : _≡_ {A = ℕ} 0 1 = cc in omega arith) }
+    record { is = sym (local-past locals count x h); canon = λ k n z. impossible cc }
 
 module _ {locals : List ℕ} {count x k : ℕ} (h : x < count) (a : Word64At locals (2 * x) k) where
   pub local-unset : k ≡ 0 → LocalIs locals count x HeldLocal.the-variants.Unset
@@ -41,7 +42,7 @@ module _ {locals : List ℕ} {count x k : ℕ} (h : x < count) (a : Word64At loc
       let kind : getD locals (2 * x) 0 ≡ 0 = sym (a .is) ∙ e in
       record {
         is = sym (local-there locals count x h ∙ ap some (held-none (getD locals (2 * x + 1) 0) kind));
-        canon = λ k′ n z. absurd (let y : _≡_ {A = ℕ} 0 1 = cc in omega arith);
+        canon = λ k′ n z. impossible cc;
       }
 
   pub local-held : (k ≡ 0 → ⊥) → {n : ℕ} → Word64At locals (2 * x + 1) n → LocalIs locals count x (HeldLocal.the-variants.Is k n)

@@ -13,12 +13,13 @@ use Rattle.run_stack.specs.declared.Topmost.{Topmost}
 use Rattle.run_stack.specs.declared.Topmost
 use Rattle.run_stack.specs.Pile.{Room, headOf, TopIs, Pushed}
 use Rattle.run_stack.proofs.Laws.{pile-none, pile-more, pile-some, pile-same}
+use Rattle.scope.proofs.Impossible.{impossible}
 
 -- read
 
 pub top-nothing : (m : List ℕ) (base : ℕ) {h : ℕ} → h ≡ 0 → TopIs m base h Topmost.the-variants.Nothing
 top-nothing m base e =
-    record { is = ap headOf (sym (pile-none m base e)); canon = λ k n z. absurd (let y : _≡_ {A = ℕ} 0 1 = cc in omega arith) }
+    record { is = ap headOf (sym (pile-none m base e)); canon = λ k n z. impossible cc }
 
 pub top-there : {m : List ℕ} {base h k n : ℕ} → (h ≡ 0 → ⊥) → Word64At m (2 * (base + (h - 1))) k → Word64At m (2 * (base + (h - 1)) + 1) n → TopIs m base h (Topmost.the-variants.Is k n)
 unfolding entryIn

@@ -9,6 +9,7 @@ use native.Mathlib.Omega.{arith}
 use lib.ListN.{length, getElem?, set, take, drop}
 use Rattle.scope.specs.Syntax.{i32}
 use Rattle.scope.specs.Machine.{Value, number, null, object, Object, Machine, Program, Outcome, goes, traps, stuck, withOperands, withHeap, withLocals, withField, hasRoom, finish, branch}
+use Rattle.scope.proofs.Impossible.{contradiction}
 use Rattle.type_table.specs.View.{linkAt}
 use Rattle.run_values.specs.Values.{valueAt, Canon}
 use Rattle.run_values.proofs.Laws.{value-of-code, value-null, value-object, canon-number, canon-null, canon-object}
@@ -33,23 +34,23 @@ module _ {p : Program} {codes : List ℕ} {m : Machine} {want : Outcome} where
 
   pub trapping : {number : ℕ} → want ≡ traps number → MoveIs p codes m want (Move.the-variants.Traps number)
   unfolding moved Ready
-  trapping e = stands (λ q. let z : _≡_ {A = ℕ} 0 1 = cc in omega arith) e (record { low = omega arith })
+  trapping e = stands (λ q. contradiction cc) e (record { low = omega arith })
 
   pub leaving : (n : ℕ) → want ≡ goes (withOperands m (drop n (m .operands))) → n ≤ length (m .operands) → MoveIs p codes m want (Move.the-variants.Leaves n)
   unfolding moved Ready
-  leaving n e low = stands (λ q. let z : _≡_ {A = ℕ} 0 1 = cc in omega arith) e (record { low = low })
+  leaving n e low = stands (λ q. contradiction cc) e (record { low = low })
 
   pub giving : (n k b : ℕ) → want ≡ goes (withOperands m (valueAt k b ∷ drop n (m .operands))) → n ≤ length (m .operands) → Canon k b → MoveIs p codes m want (Move.the-variants.Gives n k b)
   unfolding moved Ready
   giving n k b e low canon =
-      stands (λ q. let z : _≡_ {A = ℕ} 0 1 = cc in omega arith) e (record { low = low; canon = canon })
+      stands (λ q. contradiction cc) e (record { low = low; canon = canon })
 
   pub setting-local :
       (n x k b : ℕ) → want ≡ goes (withOperands (withLocals m (set (m .locals) x (some (valueAt k b)))) (drop n (m .operands)))
       → n ≤ length (m .operands) → x < length (m .locals) → Canon k b → MoveIs p codes m want (Move.the-variants.SetsLocal n x k b)
   unfolding moved Ready
   setting-local n x k b e low there canon =
-      stands (λ q. let z : _≡_ {A = ℕ} 0 1 = cc in omega arith) e (record { low = low; there = there; canon = canon })
+      stands (λ q. contradiction cc) e (record { low = low; there = there; canon = canon })
 
   pub setting-field :
       (n o i k b : ℕ) (it : Object) → getElem? (m .heap) o ≡ some it
@@ -57,29 +58,29 @@ module _ {p : Program} {codes : List ℕ} {m : Machine} {want : Outcome} where
       → n ≤ length (m .operands) → i < length (it .fields) → Canon k b → MoveIs p codes m want (Move.the-variants.SetsField n o i k b)
   unfolding moved Ready
   setting-field n o i k b it there e low field canon =
-      stands (λ q. let z : _≡_ {A = ℕ} 0 1 = cc in omega arith) (rw there e) (record { low = low; it = it; there = there; field = field; canon = canon })
+      stands (λ q. contradiction cc) (rw there e) (record { low = low; it = it; there = there; field = field; canon = canon })
 
   pub making :
       (n x d k : ℕ) → want ≡ goes (withObject m x (linkAt d) (reverse (take k (drop n (m .operands)))) (drop (n + k) (m .operands)))
       → n + k ≤ length (m .operands) → hasRoom (m .heap) k ≡ true → MoveIs p codes m want (Move.the-variants.Makes n x d k)
   unfolding moved Ready
   making n x d k e low room =
-      stands (λ q. let z : _≡_ {A = ℕ} 0 1 = cc in omega arith) e (record { low = low; room = room })
+      stands (λ q. contradiction cc) e (record { low = low; room = room })
 
   pub making-default :
       (n x d first k : ℕ) → want ≡ goes (withObject m x (linkAt d) (defaultsAt codes first k) (drop n (m .operands)))
       → n ≤ length (m .operands) → hasRoom (m .heap) k ≡ true → MoveIs p codes m want (Move.the-variants.MakesDefault n x d first k)
   unfolding moved Ready
   making-default n x d first k e low room =
-      stands (λ q. let z : _≡_ {A = ℕ} 0 1 = cc in omega arith) e (record { low = low; room = room })
+      stands (λ q. contradiction cc) e (record { low = low; room = room })
 
   pub branching : (n l : ℕ) → want ≡ branch p m l (drop n (m .operands)) → n ≤ length (m .operands) → MoveIs p codes m want (Move.the-variants.Branches n l)
   unfolding moved Ready
-  branching n l e low = stands (λ q. let z : _≡_ {A = ℕ} 0 1 = cc in omega arith) e (record { low = low })
+  branching n l e low = stands (λ q. contradiction cc) e (record { low = low })
 
   pub returning : want ≡ finish p m (m .operands) → MoveIs p codes m want Move.the-variants.Returns
   unfolding moved Ready
-  returning e = stands (λ q. let z : _≡_ {A = ℕ} 0 1 = cc in omega arith) e (record { low = omega arith })
+  returning e = stands (λ q. contradiction cc) e (record { low = omega arith })
 
   -- values by the kinds that they are told by
 

@@ -11,6 +11,7 @@ use lib.Dec.{eqb}
 use borrow.Author.Tests.{eqb-true, eqb-false, eq-eqb, ne-eqb}
 use Rattle.scope.specs.Machine.{Value, number, null, object, Outcome, stuck, onTaken, onReference}
 use Rattle.scope.proofs.Truths.{decided}
+use Rattle.scope.proofs.Impossible.{impossible}
 use Rattle.run_values.specs.Values.{valueAt}
 use Rattle.run_values.proofs.Laws.{value-null, value-object, value-number}
 use Rattle.run_stack.specs.declared.Topmost.{Topmost}
@@ -23,20 +24,20 @@ use Rattle.run_state.specs.Planned.{referenceAt, Seen}
 -- as a value
 
 pub on-top : (vs : List Value) {v : Value} → headOf vs ≡ some v → (f : Value → List Value → Outcome) → onTaken vs f ≡ f v (drop 1 vs)
-on-top [] e f = absurd (let z : _≡_ {A = ℕ} 0 1 = cc in omega arith)
+on-top [] e f = impossible cc
 on-top (w ∷ vs) {v} e f = let same : w ≡ v = cc in rw same refl
 
 pub on-none : (vs : List Value) → headOf vs ≡ none → (f : Value → List Value → Outcome) → onTaken vs f ≡ stuck
 on-none [] e f = refl
-on-none (w ∷ vs) e f = absurd (let z : _≡_ {A = ℕ} 0 1 = cc in omega arith)
+on-none (w ∷ vs) e f = impossible cc
 
 pub top-low : (vs : List Value) {v : Value} → headOf vs ≡ some v → 1 ≤ length vs
-top-low [] e = absurd (let z : _≡_ {A = ℕ} 0 1 = cc in omega arith)
+top-low [] e = impossible cc
 top-low (w ∷ vs) e = omega arith
 
 pub two-low : (vs : List Value) {v w : Value} → headOf vs ≡ some v → headOf (drop 1 vs) ≡ some w → 2 ≤ length vs
-two-low [] e f = absurd (let z : _≡_ {A = ℕ} 0 1 = cc in omega arith)
-two-low (a ∷ []) e f = absurd (let z : _≡_ {A = ℕ} 0 1 = cc in omega arith)
+two-low [] e f = impossible cc
+two-low (a ∷ []) e f = impossible cc
 two-low (a ∷ b ∷ vs) e f = omega arith
 
 -- it is the first of them, and with those below it all of them
@@ -46,7 +47,7 @@ head-there [] e = e
 head-there (w ∷ vs) e = e
 
 pub top-whole : (vs : List Value) {v : Value} → headOf vs ≡ some v → v ∷ drop 1 vs ≡ vs
-top-whole [] e = absurd (let z : _≡_ {A = ℕ} 0 1 = cc in omega arith)
+top-whole [] e = impossible cc
 top-whole (w ∷ vs) {v} e = let same : v ≡ w = cc in rw same refl
 
 -- as it was seen

@@ -13,6 +13,7 @@ use Rattle.scope.specs.Reading.{given}
 use Rattle.scope.specs.Lists.{joined}
 use Rattle.scope.specs.Memory.{belowOf}
 use Rattle.scope.proofs.Truths.{from-both}
+use Rattle.scope.proofs.Impossible.{contradiction, impossible}
 use Rattle.run_values.specs.Values.{valueAt, valuesFrom, heldFrom, Canon, AllCanon, AllHeldCanon}
 use Rattle.type_table.specs.View.{linkAt}
 use Rattle.run_values.proofs.Laws.{all-less, value-object, canon-object}
@@ -44,10 +45,10 @@ module _ {s ends : List ℕ} {count : ℕ} {w : Words} {m : Machine} where
       record {
         is = λ n. absurd (n refl);
         astray = λ e. a;
-        orderly = λ st e. absurd (let z : _≡_ {A = ℕ} 0 1 = cc in omega arith);
-        valued = λ st e. absurd (let z : _≡_ {A = ℕ} 0 1 = cc in omega arith);
-        closed = λ st e. absurd (let z : _≡_ {A = ℕ} 0 1 = cc in omega arith);
-        same = λ n e. absurd (let z : _≡_ {A = ℕ} 0 1 = cc in omega arith);
+        orderly = λ st e. impossible cc;
+        valued = λ st e. impossible cc;
+        closed = λ st e. impossible cc;
+        same = λ n e. impossible cc;
       }
 
   step-goes :
@@ -57,11 +58,11 @@ module _ {s ends : List ℕ} {count : ℕ} {w : Words} {m : Machine} where
   step-goes w′ later is o =
       record {
         is = λ n. is;
-        astray = λ e. absurd (let z : _≡_ {A = ℕ} 0 1 = cc in omega arith);
+        astray = λ e. impossible cc;
         orderly = λ st e. let same : later ≡ st = cc in rw (← same) o;
-        valued = λ st e. absurd (let z : _≡_ {A = ℕ} 0 1 = cc in omega arith);
-        closed = λ st e. absurd (let z : _≡_ {A = ℕ} 0 1 = cc in omega arith);
-        same = λ n e. absurd (let z : _≡_ {A = ℕ} 0 1 = cc in omega arith);
+        valued = λ st e. impossible cc;
+        closed = λ st e. impossible cc;
+        same = λ n e. impossible cc;
       }
 
 -- the moves, from what one may rely on
@@ -114,10 +115,10 @@ module _ {s ends : List ℕ} {count : ℕ} {w : Words} {st : Stage} {it : Move} 
             rw e
             (record {
               is = λ n. refl;
-              astray = λ f. absurd (let z : _≡_ {A = ℕ} 0 1 = cc in omega arith);
-              orderly = λ later f. absurd (let z : _≡_ {A = ℕ} 0 1 = cc in omega arith);
-              valued = λ later f. absurd (let z : _≡_ {A = ℕ} 0 1 = cc in omega arith);
-              closed = λ later f. absurd (let z : _≡_ {A = ℕ} 0 1 = cc in omega arith);
+              astray = λ f. impossible cc;
+              orderly = λ later f. impossible cc;
+              valued = λ later f. impossible cc;
+              closed = λ later f. impossible cc;
               same = λ n f. λ i. words (a i) (b i) (c i) (d i) (w .blocks);
             });
       }
@@ -328,8 +329,8 @@ module _ {s ends : List ℕ} {count : ℕ} {w : Words} {st : Stage} {it : Move} 
         let n : Stepped.the-variants.Goes later ≡ Stepped.the-variants.Astray → ⊥ = not-astray in
         let same : later ≡ madeStage st left k = goes-stage (a .stage n) in
         rw same (step-goes _ (madeStage st left k) (made-machine (a .made n) (a .canon n)) (made-orderly (a .made n) (a .canon n)))
-    made-step (Stepped.the-variants.Ends later) a = absurd (let f = a .stage (λ z. let y : _≡_ {A = ℕ} 0 1 = cc in omega arith) in let y : _≡_ {A = ℕ} 0 1 = cc in omega arith)
-    made-step (Stepped.the-variants.Traps number) a = absurd (let f = a .stage (λ z. let y : _≡_ {A = ℕ} 0 1 = cc in omega arith) in let y : _≡_ {A = ℕ} 0 1 = cc in omega arith)
+    made-step (Stepped.the-variants.Ends later) a = absurd (let f = a .stage (λ z. contradiction cc) in contradiction cc)
+    made-step (Stepped.the-variants.Traps number) a = absurd (let f = a .stage (λ z. contradiction cc) in contradiction cc)
 
   module _ {n x d k : ℕ} (e : it ≡ Move.the-variants.Makes n x d k) where
     making : Making (machineAt s count w st) (n + k) k

@@ -10,6 +10,7 @@ use lib.ListN.{length}
 use lib.Dec.{leb}
 use borrow.Author.Tests.{leb-true, leb-false}
 use Rattle.scope.specs.Machine.{Value}
+use Rattle.scope.proofs.Impossible.{impossible}
 use Rattle.run_values.specs.Values.{valuesFrom, AllCanon}
 use Rattle.run_heap.specs.Heap.{withRow, CellRoom, Filled, CellsCopied, CellsDefault}
 use Rattle.run_heap.proofs.Made.{row-put}
@@ -36,7 +37,7 @@ module _ {objects operands : List ℕ} {st : Stage} {left k : ℕ} (room : PutRo
   put-made e pushed = record { later = refl; row = row-put e (omega (arith, room .few, room .objectRoom)); pushed = pushed }
 
 pub not-astray : {later : Stage} {A : Type 0} → Stepped.the-variants.Goes later ≡ Stepped.the-variants.Astray → A
-not-astray e = absurd (let z : _≡_ {A = ℕ} 0 1 = cc in omega arith)
+not-astray e = impossible cc
 
 module _ {objects cells operands : List ℕ} {st : Stage} {left k : ℕ} (may : Makable objects cells operands st left k) where
   pub cell-room : CellRoom cells (st .cells) k

@@ -10,6 +10,7 @@ use denote.Enum.Declared.{tagOf}
 use Rattle.scope.specs.Reading.{got}
 use Rattle.scope.specs.Instructions.{Op, Instr, block, loop, end, op, instrAt}
 use Rattle.scope.specs.Machine.{Machine, Program, Outcome, stuck, doInstr, step, stepOn}
+use Rattle.scope.proofs.Impossible.{contradiction, impossible}
 use Rattle.body_immediates.specs.declared.Instruction.{Instruction}
 use Rattle.body_immediates.specs.declared.Instruction
 use Rattle.body_immediates.proofs.Instruction.{the-type}
@@ -41,22 +42,22 @@ use Rattle.run_step.proofs.Controlling.{astray-here, machine-controls, 
 
 astray-or-not : (it : Move) → (it ≡ Move.the-variants.Astray) ⊎ (it ≡ Move.the-variants.Astray → ⊥)
 astray-or-not Move.the-variants.Astray = inl refl
-astray-or-not (Move.the-variants.Traps a) = inr (λ e. let z : _≡_ {A = ℕ} 0 1 = cc in omega arith)
-astray-or-not (Move.the-variants.Leaves a) = inr (λ e. let z : _≡_ {A = ℕ} 0 1 = cc in omega arith)
-astray-or-not (Move.the-variants.Gives a b c) = inr (λ e. let z : _≡_ {A = ℕ} 0 1 = cc in omega arith)
-astray-or-not (Move.the-variants.SetsLocal a b c d) = inr (λ e. let z : _≡_ {A = ℕ} 0 1 = cc in omega arith)
-astray-or-not (Move.the-variants.SetsField a b c d e) = inr (λ e. let z : _≡_ {A = ℕ} 0 1 = cc in omega arith)
-astray-or-not (Move.the-variants.Makes a b c d) = inr (λ e. let z : _≡_ {A = ℕ} 0 1 = cc in omega arith)
-astray-or-not (Move.the-variants.MakesDefault a b c d e) = inr (λ e. let z : _≡_ {A = ℕ} 0 1 = cc in omega arith)
-astray-or-not (Move.the-variants.Branches a b) = inr (λ e. let z : _≡_ {A = ℕ} 0 1 = cc in omega arith)
-astray-or-not Move.the-variants.Returns = inr (λ e. let z : _≡_ {A = ℕ} 0 1 = cc in omega arith)
+astray-or-not (Move.the-variants.Traps a) = inr (λ e. contradiction cc)
+astray-or-not (Move.the-variants.Leaves a) = inr (λ e. contradiction cc)
+astray-or-not (Move.the-variants.Gives a b c) = inr (λ e. contradiction cc)
+astray-or-not (Move.the-variants.SetsLocal a b c d) = inr (λ e. contradiction cc)
+astray-or-not (Move.the-variants.SetsField a b c d e) = inr (λ e. contradiction cc)
+astray-or-not (Move.the-variants.Makes a b c d) = inr (λ e. contradiction cc)
+astray-or-not (Move.the-variants.MakesDefault a b c d e) = inr (λ e. contradiction cc)
+astray-or-not (Move.the-variants.Branches a b) = inr (λ e. contradiction cc)
+astray-or-not Move.the-variants.Returns = inr (λ e. contradiction cc)
 
 -- an answer that is not astray is no stuck machine
 not-stuck : (s : List ℕ) (count : ℕ) (w : Words) (r : Stepped) → (r ≡ Stepped.the-variants.Astray → ⊥) → outcomeAt s count w r ≡ stuck → ⊥
 unfolding outcomeAt
-not-stuck s count w (Stepped.the-variants.Goes st) n e = let z : _≡_ {A = ℕ} 0 1 = cc in omega arith
-not-stuck s count w (Stepped.the-variants.Ends st) n e = let z : _≡_ {A = ℕ} 0 1 = cc in omega arith
-not-stuck s count w (Stepped.the-variants.Traps number) n e = let z : _≡_ {A = ℕ} 0 1 = cc in omega arith
+not-stuck s count w (Stepped.the-variants.Goes st) n e = contradiction cc
+not-stuck s count w (Stepped.the-variants.Ends st) n e = contradiction cc
+not-stuck s count w (Stepped.the-variants.Traps number) n e = contradiction cc
 not-stuck s count w Stepped.the-variants.Astray n e = n refl
 
 module _ {s ends codes : List ℕ} {count : ℕ} {w w′ : Words} {p : Program} {m : Machine} {want : Outcome} {it : Move} {r : Stepped}
@@ -116,9 +117,9 @@ unfolding step machineAt
 step-here s count w st p e = ap (stepOn p (machineAt s count w st)) (code-here s (st .place) e)
 
 inside-op : (instr : Instr) → Kind.the-variants.Inside ≡ kindOf instr → (o : Op) × (instr ≡ op o)
-inside-op (block rs) e = absurd (let z : _≡_ {A = ℕ} 0 1 = cc in omega arith)
-inside-op (loop rs) e = absurd (let z : _≡_ {A = ℕ} 0 1 = cc in omega arith)
-inside-op end e = absurd (let z : _≡_ {A = ℕ} 0 1 = cc in omega arith)
+inside-op (block rs) e = impossible cc
+inside-op (loop rs) e = impossible cc
+inside-op end e = impossible cc
 inside-op (op o) e = (o, refl)
 
 frame-below : {s ends blocks : List ℕ} {st : Stage} → Framed s ends blocks st → lower blocks (st .depth - 1) ≤ st .base

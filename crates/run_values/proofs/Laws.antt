@@ -16,6 +16,7 @@ use Rattle.scope.specs.Order.{numberCode}
 use Rattle.scope.specs.Machine.{number, null, object}
 use Rattle.scope.specs.Memory.{filled, valueWords, localWords}
 use Rattle.scope.proofs.Truths.{decided}
+use Rattle.scope.proofs.Impossible.{contradiction}
 use Rattle.type_table.specs.View.{numberAt}
 use Rattle.type_table.proofs.Codes.{val-number, val-code-at}
 use Rattle.run_values.specs.Values.{numbered, valueAt, heldAt, entryIn, valuesFrom, heldFrom, setValue, Canon, HeldCanon, AllWords, AllCanon, AllHeldCanon}
@@ -76,8 +77,7 @@ held-canon-none = record { is = refl }
 pub canon-kind : {k n : ℕ} → Canon k n → k ≡ 0 → ⊥
 canon-kind {k} {n} c e =
     let words : 0 ∷ n ∷ [] ≡ 1 ∷ n ∷ [] = rw (e, value-number {k = 0} n (λ y. omega arith) (λ y. omega arith)) at (c .is) in
-    let y : _≡_ {A = ℕ} 0 1 = cc in
-    omega arith
+    contradiction cc
 
 pub held-canon-some : {k n : ℕ} → Canon k n → HeldCanon k n
 held-canon-some {k} {n} c = record { is = rw (held-some n (canon-kind c)) (c .is) }

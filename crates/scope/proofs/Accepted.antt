@@ -20,11 +20,12 @@ use Rattle.scope.specs.TypeRules.{names, inReach, oneSuper, superEarlier
 use Rattle.scope.specs.Judging.{Judged, accepted, rejected, andThen, linksFault, ruleFault, scan, judgeTypes, judgeRead, judgeSection}
 use Rattle.scope.specs.Sections.{readSection}
 use Rattle.scope.proofs.Truths.{none-is-not-some, decided, from-both}
+use Rattle.scope.proofs.Impossible.{contradiction}
 
 -- A rejection is no acceptance
 
 rejected-is-not-accepted : {A : Type 0} {n p : ℕ} {x : A} → rejected n p ≡ accepted x → ⊥
-rejected-is-not-accepted e = let z : _≡_ {A = ℕ} 0 1 = cc in omega arith
+rejected-is-not-accepted e = contradiction cc
 
 -- The scan
 

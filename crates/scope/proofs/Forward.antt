@@ -17,6 +17,7 @@ use Rattle.scope.specs.Sizes.{mostEach, mostTypes}
 use Rattle.scope.specs.Abstract.{abstractOf}
 use Rattle.scope.specs.Syntax.{Definition, ref}
 use Rattle.scope.specs.Sections.{typeNumber, heapAt, numberOf, valAt, flagAt, fieldAt, fewAt, supersAt, headAt, Head, clauseAt, describesCode, descriptorCode, formAt, definitionAt, groupAt, groupsAt, ended, readSection}
+use Rattle.scope.proofs.Impossible.{impossible}
 
 -- where reading ends: refused, or at a place between lo and hi
 pub data Ends {A : Type 0} (lo hi : ℕ) : Read A → Type 0 where
@@ -49,7 +50,7 @@ module _ {A : Type 0} {lo hi : ℕ} where
 
 -- a byte that is there lies before the end
 pub byte-inside : (s : List ℕ) (at : ℕ) {b : ℕ} → getElem? s at ≡ some b → at < length s
-byte-inside [] at e = absurd (let z : _≡_ {A = ℕ} 0 1 = cc in omega arith)
+byte-inside [] at e = impossible cc
 byte-inside (x ∷ xs) zero e = omega arith
 byte-inside (x ∷ xs) (suc at) e = let h : at < length xs = byte-inside xs at e in omega arith
 
@@ -254,5 +255,5 @@ pub never-back : {A : Type 0} {r : Reader A} → Takes r → (s : List ℕ) (at 
 never-back {A} {r} t s at {x} {next} e = go (t .takes s at) e
   where
     go : {p : Read A} → Ends (at + 1) (length s) p → p ≡ got x next → (at < next) × (next ≤ length s)
-    go stops q = absurd (let z : _≡_ {A = ℕ} 0 1 = cc in omega arith)
+    go stops q = impossible cc
     go (reaches {next = n} a b) q = let same : n ≡ next = cc in (omega arith, omega arith)

@@ -1,3 +1,4 @@
+pub mod Impossible
 pub mod Computes
 pub mod Forward
 pub mod ForwardBodies

@@ -11,14 +11,15 @@ use Rattle.scope.specs.Bodies.{State, goesOn, judgeInstr, Code, Body}
 use Rattle.scope.proofs.Telling.{allowed-is-one}
 use Rattle.scope.proofs.Standing.{goes-on-is-one}
 use Rattle.scope.proofs.Soundness.{Stands, first, further, contextFor}
+use Rattle.scope.proofs.Impossible.{impossible}
 
 cons-is-one : {A : Type 0} {x y : A} {xs ys : List A} → x ∷ xs ≡ y ∷ ys → x ≡ y
 cons-is-one e = cc
 
 drop-one-more : {A : Type 0} (n : ℕ) (l : List A) {x : A} {xs : List A} → drop n l ≡ x ∷ xs → drop (suc n) l ≡ xs
-drop-one-more zero [] e = absurd (let z : _≡_ {A = ℕ} 0 1 = cc in omega arith)
+drop-one-more zero [] e = impossible cc
 drop-one-more zero (y ∷ l) e = cc
-drop-one-more (suc n) [] e = absurd (let z : _≡_ {A = ℕ} 0 1 = cc in omega arith)
+drop-one-more (suc n) [] e = impossible cc
 drop-one-more (suc n) (y ∷ l) e = drop-one-more n l e
 
 -- so many instructions stand before the place

@@ -30,6 +30,7 @@ use Rattle.scope.proofs.Steps.{step-proceeds, reached-typed}
 use Rattle.scope.proofs.Telling.{Accepting, accepts-this, accepts-nothing, accepts-then, accepts-either}
 use Rattle.scope.proofs.Starting.{runs-known, start-typed}
 use Rattle.scope.proofs.Soundness.{Has, ofNull, Grows, TypedHere, TypedDone, Trap, Proceeds, isOver, isTrap, Reaches, atFirst, oneMore, Runs, EndsWell, isDone, isTrapped, isSpent, Answered, saidNo, ran, FieldInside, Soundness, NoFieldOutside}
+use Rattle.scope.proofs.Impossible.{impossible}
 
 null-allowed : {ts : Types} {heap : Store} {n : Bool} {h : Heap} → Has ts heap null (ref n h) → n ≡ true
 null-allowed ofNull = refl
@@ -118,14 +119,14 @@ answer-sound {section} {s} {x} {budget} {lent} {later} {r} tried = go (runCall s
         })
 
 trap-of : (s : List ℕ) {b : Body} {budget t p n : ℕ} {e : Ending} → EndsWell b budget e → Ran.the-variants.Trapped t p n ≡ endedAs s e → Trap t
-trap-of s (isDone below reaches is typed) q = absurd (let z : _≡_ {A = ℕ} 0 1 = cc in omega arith)
+trap-of s (isDone below reaches is typed) q = impossible cc
 trap-of s (isTrapped {t = u} below reaches is trap typed) q = subst Trap (let same : u ≡ _ = cc in same) trap
-trap-of s (isSpent reaches typed) q = absurd (let z : _≡_ {A = ℕ} 0 1 = cc in omega arith)
+trap-of s (isSpent reaches typed) q = impossible cc
 
 traps-named :
     {section s : List ℕ} {x budget t p n : ℕ} {lent later : RunMemory} {r : Ran} → Answered section s x budget lent later r
     → r ≡ Ran.the-variants.Trapped t p n → Trap t
-traps-named saidNo q = absurd (let z : _≡_ {A = ℕ} 0 1 = cc in omega arith)
+traps-named saidNo q = impossible cc
 traps-named {s} (ran runs sound) q = trap-of s (sound .endsWell) (sym q ∙ sound .answer)
 
 pub soundness : Soundness

@@ -2,7 +2,6 @@
 -- what is left is accepted. A branch out of n + 1 blocks passes as many ends: between them blocks open and close in pairs,
 -- so the checker's frames say in which state it stood after the last of them.
 use Prim.Native.Nat.{ℕ, zero, suc, _+_}
-use native.Mathlib.Omega.{arith}
 use mathlib.Core.Path.{_≡_, refl, sym, ap, _∙_, subst}
 use mathlib.Core.List.{List, [], _∷_, _++_, map}
 use lib.ListN.{length}
@@ -18,12 +17,13 @@ use Rattle.scope.specs.Bodies.{Operand, Frame, ofBlock, ofLoop, State, s
 use Rattle.scope.specs.Machine.{past}
 use Rattle.scope.proofs.Telling.{Allows, this, nothing, after-test, after-and, allowed-is-one, whatever, Gives, gives-this, gives-nothing, gives-then, gives-ruled, gives-next}
 use Rattle.scope.proofs.Soundness.{Stands, first, further, contextFor}
+use Rattle.scope.proofs.Impossible.{contradiction}
 
 pub goes-on-is-one : {st later : State} → goesOn st ≡ goesOn later → st ≡ later
 goes-on-is-one e = cc
 
 pub finished-goes-not-on : {st : State} → goesOn st ≡ finished → ⊥
-finished-goes-not-on e = let z : _≡_ {A = ℕ} 0 1 = cc in omega arith
+finished-goes-not-on e = contradiction cc
 
 -- accepted code
 

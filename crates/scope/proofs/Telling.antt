@@ -2,7 +2,6 @@
 -- from tests, from parts that may be missing and from one after the other; whatever comes out passed each of them, in order.
 -- So a law about the outcome is written along the definition itself, and has every test that passed at hand.
 use Prim.Native.Nat.{ℕ}
-use native.Mathlib.Omega.{arith}
 use mathlib.Core.Path.{_≡_, refl, subst}
 use mathlib.Core.Bool.{Bool, true, false, cond}
 use mathlib.Core.Option.{Option, none, some}
@@ -10,6 +9,7 @@ use Rattle.scope.specs.Reading.{Read, got, refused, given, then}
 use Rattle.scope.specs.Judging.{Judged, accepted, rejected, andThen}
 use Rattle.scope.specs.BodyRules.{Ruled, allowed, fault, test, need, andRuled}
 use Rattle.scope.specs.Bodies.{State, Next, goesOn, finished, onRuled, onNext, judgedOf}
+use Rattle.scope.proofs.Impossible.{contradiction}
 
 -- rules
 
@@ -17,7 +17,7 @@ pub allowed-is-one : {A : Type 0} {x y : A} → allowed x ≡ allowed y → x �
 allowed-is-one e = cc
 
 fault-allows-nothing : {A : Type 0} {n : ℕ} {x : A} → fault n ≡ allowed x → ⊥
-fault-allows-nothing e = let z : _≡_ {A = ℕ} 0 1 = cc in omega arith
+fault-allows-nothing e = contradiction cc
 
 pub record Allows {A : Type 0} (P : A → Type 0) (r : Ruled A) : Type 0 where
   pub tells : (x : A) → r ≡ allowed x → P x
@@ -51,7 +51,7 @@ got-is-one : {A : Type 0} {x y : A} {p q : ℕ} → got x p ≡ got y q → x �
 got-is-one e = cc
 
 refused-is-not-got : {A : Type 0} {n p : ℕ} {x : A} {q : ℕ} → refused n p ≡ got x q → ⊥
-refused-is-not-got e = let z : _≡_ {A = ℕ} 0 1 = cc in omega arith
+refused-is-not-got e = contradiction cc
 
 pub record Gives {A : Type 0} (P : A → Type 0) (r : Read A) : Type 0 where
   pub tells : (x : A) (stop : ℕ) → r ≡ got x stop → P x
@@ -87,7 +87,7 @@ accepted-is-one : {A : Type 0} {x y : A} → accepted x ≡ accepted y → x ≡
 accepted-is-one e = cc
 
 rejected-not-accepted : {A : Type 0} {n p : ℕ} {x : A} → rejected n p ≡ accepted x → ⊥
-rejected-not-accepted e = let z : _≡_ {A = ℕ} 0 1 = cc in omega arith
+rejected-not-accepted e = contradiction cc
 
 pub record Accepting {A : Type 0} (P : A → Type 0) (j : Judged A) : Type 0 where
   pub tells : (x : A) → j ≡ accepted x → P x

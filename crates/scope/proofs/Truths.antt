@@ -6,15 +6,15 @@ use mathlib.Core.Logic.{_⊎_, inl, inr}
 use mathlib.Core.Bool.{Bool, true, false, not, _&&_, _||_, false≢true}
 use mathlib.Core.Option.{none, some}
 use mathlib.Core.List.{List, [], _∷_, List·Memᴰ, List·Memᴰ·head, List·Memᴰ·tail}
-use native.Mathlib.Omega.{arith}
 use Rattle.scope.specs.Lists.{every, someOf}
+use Rattle.scope.proofs.Impossible.{contradiction}
 
 pub decided : (a : Bool) → (a ≡ true) ⊎ (a ≡ false)
 decided true = inl refl
 decided false = inr refl
 
 pub none-is-not-some : {A : Type 0} {x : A} → none ≡ some x → ⊥
-none-is-not-some e = let z : _≡_ {A = ℕ} 0 1 = cc in omega arith
+none-is-not-some e = contradiction cc
 
 pub both : {a b : Bool} → a ≡ true → b ≡ true → a && b ≡ true
 both p q = rw p q

@@ -21,6 +21,7 @@ use Rattle.scope.specs.declared.Asked.{Asked}
 use Rattle.scope.specs.declared.Asked
 use Rattle.scope.proofs.Truths.{decided}
 use Rattle.scope.proofs.Accepted.{accepted-judged}
+use Rattle.scope.proofs.Impossible.{impossible}
 use Rattle.type_table.specs.View.{view, rowsOf, codesOf}
 use Rattle.type_table.proofs.AtMost.{SupersAtMost, accepted-few}
 use Rattle.type_table.proofs.Viewed.{view-is}
@@ -39,12 +40,12 @@ ask-is s x rows codes = go (tableLent rows codes)
 -- the verdict, taken apart
 
 pub verdict-refused : (o : Judged (List Definition)) {v : Verdict} {k p : ℕ} → v ≡ verdictOf length o → v ≡ Verdict.the-variants.Refused k p → o ≡ rejected k p
-verdict-refused (accepted ds) x y = absurd (let z : _≡_ {A = ℕ} 0 1 = cc in omega arith)
+verdict-refused (accepted ds) x y = impossible cc
 verdict-refused (rejected k p) x y = cc
 
 pub verdict-accepted : (o : Judged (List Definition)) {v : Verdict} {n : ℕ} → v ≡ verdictOf length o → v ≡ Verdict.the-variants.Accepted n → (ds : List Definition) × (o ≡ accepted ds) × (n ≡ length ds)
 verdict-accepted (accepted ds) x y = (ds, refl, cc)
-verdict-accepted (rejected k p) x y = absurd (let z : _≡_ {A = ℕ} 0 1 = cc in omega arith)
+verdict-accepted (rejected k p) x y = impossible cc
 
 -- a call that is accepted judged the section
 pub call-accepted : (s rows codes : List ℕ) {ds : List Definition} → sectionCall s rows codes ≡ accepted ds → judgeSection s ≡ accepted ds
@@ -52,7 +53,7 @@ call-accepted s rows codes {ds} e = go (tableLent rows codes) e
   where
     go : (t : Bool) → lentEnough t (judgeSection s) ≡ accepted ds → judgeSection s ≡ accepted ds
     go true f = f
-    go false f = absurd (let z : _≡_ {A = ℕ} 0 1 = cc in omega arith)
+    go false f = impossible cc
 
 two-few : {ds : List Definition} → SupersAtMost 1 ds → SupersAtMost 2 ds
 two-few p = record { few = λ x. let h = p .few x in omega arith }
@@ -148,10 +149,10 @@ module _ (s : List ℕ) (from to start end : ℕ) (e : end ≡ min to (length s)
 
 ask-bytes : (o : Judged Definition) {r : Asked} {f t : ℕ} (s : List ℕ) → r ≡ askedOf o → r ≡ Asked.the-variants.Bytes f t → take (t - f) (drop f s) ≡ partOf s o
 ask-bytes (accepted d) {f = f} {t = t} s x y = let a : f ≡ d .from = cc in let b : t ≡ d .to = cc in rw (a, b)
-ask-bytes (rejected k p) s x y = absurd (let z : _≡_ {A = ℕ} 0 1 = cc in omega arith)
+ask-bytes (rejected k p) s x y = impossible cc
 
 ask-none : (o : Judged Definition) {r : Asked} {k p : ℕ} (s : List ℕ) → r ≡ askedOf o → r ≡ Asked.the-variants.Refused k p → partOf s o ≡ []
-ask-none (accepted d) s x y = absurd (let z : _≡_ {A = ℕ} 0 1 = cc in omega arith)
+ask-none (accepted d) s x y = impossible cc
 ask-none (rejected n p) s x y = refl
 
 module _ {s rows codes rows₁ codes₁ : List ℕ} {x : ℕ} {r : Asked} (a : TypeAsked s x rows codes rows₁ codes₁ r) where

@@ -19,6 +19,7 @@ use Rattle.scope.specs.Answers.{holds, tableLent, lentEnough, verdictOf, after,
 use Rattle.scope.specs.Layout.{rowsSize, codesSize}
 use Rattle.scope.specs.declared.Verdict.{Verdict}
 use Rattle.scope.specs.declared.Verdict
+use Rattle.scope.proofs.Impossible.{impossible}
 use Rattle.type_table.specs.Kept.{keptDefinition}
 use Rattle.type_table.specs.View.{view, rowsOf, codesOf}
 use Rattle.type_table.proofs.Puts.{Puts, puts-zero, puts-length}
@@ -40,10 +41,10 @@ use Rattle.section_call.specs.Calls.{Cleared, keptIf, Decided}
 
 judged-accepted : (o : Judged ℕ) {j : Judgement} {m : ℕ} → j ≡ judgementIs o → j ≡ Judgement.the-variants.Accepted m → o ≡ accepted m
 judged-accepted (accepted n) p q = cc
-judged-accepted (rejected k x) p q = absurd (let z : _≡_ {A = ℕ} 0 1 = cc in omega arith)
+judged-accepted (rejected k x) p q = impossible cc
 
 judged-rejected : (o : Judged ℕ) {j : Judgement} {k x : ℕ} → j ≡ judgementIs o → j ≡ Judgement.the-variants.Rejected k x → o ≡ rejected k x
-judged-rejected (accepted n) p q = absurd (let z : _≡_ {A = ℕ} 0 1 = cc in omega arith)
+judged-rejected (accepted n) p q = impossible cc
 judged-rejected (rejected k x) p q = cc
 
 module _ (rows codes : List ℕ) (n : ℕ) {j : Judgement} (a : j ≡ judgementIs (judgeTypes (view rows codes) n)) where
@@ -91,7 +92,7 @@ scan-counts fault x (suc n) {m} e = go (fault x) e (scan-counts fault (x + 1) n)
   where
     go : (o : Option ℕ) → given o (scan fault (x + 1) n) (λ number. rejected number x) ≡ accepted m → (scan fault (x + 1) n ≡ accepted m → m ≡ x + 1 + n) → m ≡ x + suc n
     go none f later = let q = later f in omega arith
-    go (some k) f later = absurd (let z : _≡_ {A = ℕ} 0 1 = cc in omega arith)
+    go (some k) f later = impossible cc
 
 judged-counts : (ds : List Definition) {m : ℕ} → judgeTypes (typesOf ds) (length ds) ≡ accepted m → m ≡ length ds
 unfolding judgeTypes
@@ -99,7 +100,7 @@ judged-counts ds {m} e = go (scan (linksFault (typesOf ds)) 0 (length ds)) e
   where
     go : (o : Judged ℕ) → andThen o (λ links. scan (ruleFault (typesOf ds)) 0 (length ds)) ≡ accepted m → m ≡ length ds
     go (accepted k) f = let q = scan-counts (ruleFault (typesOf ds)) 0 (length ds) f in omega arith
-    go (rejected k p) f = absurd (let z : _≡_ {A = ℕ} 0 1 = cc in omega arith)
+    go (rejected k p) f = impossible cc
 
 -- the section's verdict by its types'
 judged-types : (s : List ℕ) {gs : List Group} {end : ℕ} → readSection s ≡ got gs end → judgeSection s ≡ andThen (judgeTypes (typesOf (joined gs)) (length (joined gs))) (λ all. accepted (joined gs))
@@ -123,7 +124,7 @@ module _ (s : List ℕ) {rows codes rows₁ codes₁ rows₂ codes₂ : List ℕ
   refused-all e x y = record { answer = rw (call-is, e); rowsAfter = rw (call-is, e) x; codesAfter = rw (call-is, e) y }
 
   section-refused-is : (o : Read (List Group)) {k p : ℕ} → q ≡ sectionIs o → q ≡ SectionRead.the-variants.Refused k p → o ≡ refused k p
-  section-refused-is (got gs m) x y = absurd (let z : _≡_ {A = ℕ} 0 1 = cc in omega arith)
+  section-refused-is (got gs m) x y = impossible cc
   section-refused-is (refused n m) x y = cc
 
   refused-judged : {k p : ℕ} → readSection s ≡ refused k p → judgeSection s ≡ rejected k p
@@ -151,7 +152,7 @@ module _ (s : List ℕ) {rows codes rows₁ codes₁ rows₂ codes₂ : List ℕ
 
   section-got-is : (o : Read (List Group)) {count : ℕ} → q ≡ sectionIs o → q ≡ SectionRead.the-variants.Got count → (gs : List Group) × (end : ℕ) × (o ≡ got gs end) × (count ≡ length (joined gs))
   section-got-is (got gs m) x y = (gs, m, refl, cc)
-  section-got-is (refused n m) x y = absurd (let z : _≡_ {A = ℕ} 0 1 = cc in omega arith)
+  section-got-is (refused n m) x y = impossible cc
 
   module _ (gs : List Group) (end : ℕ) (read : readSection s ≡ got gs end) {rows₃ codes₃ : List ℕ} {r : Verdict} (d : Decided (length (joined gs)) rows₂ codes₂ rows₃ codes₃ r) where
     by-types : (o : Judged ℕ) → judgeTypes (typesOf (joined gs)) (length (joined gs)) ≡ o → SectionJudged s rows codes rows₃ codes₃ r

@@ -5,13 +5,13 @@ use mathlib.Core.Path.{_≡_, refl, sym, ap, _∙_}
 use mathlib.Core.Bool.{true, false}
 use mathlib.Core.Option.{Option, none, some}
 use mathlib.Core.List.{List, []}
-use native.Mathlib.Omega.{arith}
 use lib.ListN.{length, getElem?}
 use borrow.Author.Tests.{eq-eqb, ne-eqb}
 use Rattle.scope.specs.Reading.{Read, got, refused, then}
 use Rattle.scope.specs.Numbers.{u32}
 use Rattle.scope.specs.Sections.{supersAt, Head, headAt, clauseAt, describesCode, descriptorCode}
 use Rattle.scope.specs.Memory.{orZero}
+use Rattle.scope.proofs.Impossible.{impossible}
 use Rattle.number.specs.declared.Byte.{Byte}
 use Rattle.number.specs.declared.Byte
 use Rattle.number.specs.declared.Natural.{Natural}
@@ -34,10 +34,10 @@ use Rattle.section_clauses.specs.Links.{supersIs, subIs, headIs, namedAt
 
 pub sub-got : (opens : ℕ) (o : Read (List ℕ)) {r : Supers} {f g n : ℕ} → r ≡ supersIs o → r ≡ Supers.the-variants.Got f g n → HeadRead.the-variants.Got opens f g n ≡ subIs opens o
 sub-got opens (got xs m) p q = cc
-sub-got opens (refused k m) p q = absurd (let z : _≡_ {A = ℕ} 0 1 = cc in omega arith)
+sub-got opens (refused k m) p q = impossible cc
 
 pub sub-refused : (opens : ℕ) (o : Read (List ℕ)) {r : Supers} {k place : ℕ} → r ≡ supersIs o → r ≡ Supers.the-variants.Refused k place → HeadRead.the-variants.Refused k place ≡ subIs opens o
-sub-refused opens (got xs m) p q = absurd (let z : _≡_ {A = ℕ} 0 1 = cc in omega arith)
+sub-refused opens (got xs m) p q = impossible cc
 sub-refused opens (refused n m) p q = cc
 
 pub ruleset sub-exits = (sub-got, sub-refused)
@@ -104,10 +104,10 @@ pub ruleset clause-exits = (clause-missing, clause-there, clause-absent)
 
 pub descriptor-got : (opens first further described : ℕ) (o : Read (Option ℕ)) {r : ClauseRead} {k n : ℕ} → r ≡ clauseIs o → r ≡ ClauseRead.the-variants.Got k n → Front.the-variants.Got opens first further described k n ≡ descriptorIs opens first further described o
 descriptor-got opens first further described (got x m) p q = cc
-descriptor-got opens first further described (refused j m) p q = absurd (let z : _≡_ {A = ℕ} 0 1 = cc in omega arith)
+descriptor-got opens first further described (refused j m) p q = impossible cc
 
 pub descriptor-refused : (opens first further described : ℕ) (o : Read (Option ℕ)) {r : ClauseRead} {k place : ℕ} → r ≡ clauseIs o → r ≡ ClauseRead.the-variants.Refused k place → Front.the-variants.Refused k place ≡ descriptorIs opens first further described o
-descriptor-refused opens first further described (got x m) p q = absurd (let z : _≡_ {A = ℕ} 0 1 = cc in omega arith)
+descriptor-refused opens first further described (got x m) p q = impossible cc
 descriptor-refused opens first further described (refused n m) p q = cc
 
 pub ruleset descriptor-exits = (descriptor-got, descriptor-refused)
@@ -116,10 +116,10 @@ pub ruleset descriptor-exits = (descriptor-got, descriptor-refused)
 
 clause-got : (o : Read (Option ℕ)) {r : ClauseRead} {k n : ℕ} → r ≡ clauseIs o → r ≡ ClauseRead.the-variants.Got k n → (x : Option ℕ) × (o ≡ got x n) × (k ≡ orZero (keptOption x))
 clause-got (got x m) {n = n} p q = let e : m ≡ n = cc in (x, ap (got x) e, cc)
-clause-got (refused j m) p q = absurd (let z : _≡_ {A = ℕ} 0 1 = cc in omega arith)
+clause-got (refused j m) p q = impossible cc
 
 clause-refused : (o : Read (Option ℕ)) {r : ClauseRead} {k place : ℕ} → r ≡ clauseIs o → r ≡ ClauseRead.the-variants.Refused k place → o ≡ refused k place
-clause-refused (got x m) p q = absurd (let z : _≡_ {A = ℕ} 0 1 = cc in omega arith)
+clause-refused (got x m) p q = impossible cc
 clause-refused (refused n m) p q = cc
 
 module _ (opens first further : ℕ) (s : List ℕ) (at : ℕ) {r : ClauseRead} (a : r ≡ clauseIs (clauseAt describesCode s at)) where
@@ -142,10 +142,10 @@ pub ruleset clauses-exits = (clauses-refused, clauses-got)
 
 head-got : (o : Read Head) {r : HeadRead} {i f g n : ℕ} → r ≡ headIs o → r ≡ HeadRead.the-variants.Got i f g n → (h : Head) × (o ≡ got h n) × (HeadRead.the-variants.Got i f g n ≡ headIs (got h n))
 head-got (got h m) {n = n} p q = let e : m ≡ n = cc in (h, ap (got h) e, sym q ∙ p ∙ ap (λ (k : ℕ). headIs (got h k)) e)
-head-got (refused j m) p q = absurd (let z : _≡_ {A = ℕ} 0 1 = cc in omega arith)
+head-got (refused j m) p q = impossible cc
 
 head-refused : (o : Read Head) {r : HeadRead} {k place : ℕ} → r ≡ headIs o → r ≡ HeadRead.the-variants.Refused k place → o ≡ refused k place
-head-refused (got h m) p q = absurd (let z : _≡_ {A = ℕ} 0 1 = cc in omega arith)
+head-refused (got h m) p q = impossible cc
 head-refused (refused n m) p q = cc
 
 module _ (s : List ℕ) (at : ℕ) {r : HeadRead} (a : r ≡ headIs (headAt s at)) where

@@ -12,6 +12,7 @@ use Rattle.scope.specs.Syntax.{Form, Definition}
 use Rattle.scope.specs.Sections.{Head, headAt, clauseAt, describesCode, descriptorCode, formAt, definitionAt}
 use Rattle.scope.specs.Memory.{formCodes, flag, orZero}
 use Rattle.scope.proofs.Forward.{Ends, stops, reaches, ends-then, head-ends, clause-ends}
+use Rattle.scope.proofs.Impossible.{impossible}
 use Rattle.type_table.specs.Kept.{keptOption, keptForm, keptDefinition}
 use Rattle.type_table.specs.View.{row}
 use Rattle.type_table.proofs.Puts.{Puts}
@@ -64,10 +65,10 @@ definition-is reach s at = go (headAt s at)
 
 front-got : (o : Read FrontOf) {r : Front} {i f g d e n : ℕ} → r ≡ frontIs o → r ≡ Front.the-variants.Got i f g d e n → (x : FrontOf) × (o ≡ got x n) × (Front.the-variants.Got i f g d e n ≡ frontIs (got x n))
 front-got (got x m) {n = n} p q = let e : m ≡ n = cc in (x, ap (got x) e, sym q ∙ p ∙ ap (λ (k : ℕ). frontIs (got x k)) e)
-front-got (refused k m) p q = absurd (let z : _≡_ {A = ℕ} 0 1 = cc in omega arith)
+front-got (refused k m) p q = impossible cc
 
 front-refused : (o : Read FrontOf) {r : Front} {k place : ℕ} → r ≡ frontIs o → r ≡ Front.the-variants.Refused k place → o ≡ refused k place
-front-refused (got x m) p q = absurd (let z : _≡_ {A = ℕ} 0 1 = cc in omega arith)
+front-refused (got x m) p q = impossible cc
 front-refused (refused n m) p q = cc
 
 front-ends : (s : List ℕ) (at : ℕ) → Ends at (length s) (frontAt s at)
@@ -82,7 +83,7 @@ front-inside : (s : List ℕ) (at : ℕ) {x : FrontOf} {n : ℕ} → frontAt s a
 front-inside s at {x} {n} e = go (front-ends s at) e
   where
     go : {o : Read FrontOf} → Ends at (length s) o → o ≡ got x n → (at ≤ n) × (n ≤ length s)
-    go stops q = absurd (let z : _≡_ {A = ℕ} 0 1 = cc in omega arith)
+    go stops q = impossible cc
     go (reaches {next = m} a b) q = let same : m ≡ n = cc in (omega arith, omega arith)
 
 module _ (s : List ℕ) (at : ℕ) {r : Front} (a : r ≡ frontIs (frontAt s at)) where
@@ -91,8 +92,8 @@ module _ (s : List ℕ) (at : ℕ) {r : Front} (a : r ≡ frontIs (frontAt s at)
       let none : definitionAt reach s at ≡ refused k place = definition-is reach s at ∙ rw (front-refused (frontAt s at) a e) in
       record {
         answer = rw none;
-        rowPut = λ d end g. absurd (let z : _≡_ {A = ℕ} 0 1 = cc in omega arith);
-        codesPut = λ d end g. absurd (let z : _≡_ {A = ℕ} 0 1 = cc in omega arith);
+        rowPut = λ d end g. impossible cc;
+        codesPut = λ d end g. impossible cc;
         rowsSize = refl;
         codesSize = refl;
       }
@@ -135,13 +136,13 @@ module _ (s : List ℕ) (at : ℕ) {r : Front} (a : r ≡ frontIs (frontAt s at)
         told (refused m p) = refl
 
         put : (o : Read Form) → formAt s n ≡ o → (y : Definition) (end : ℕ) → then o (λ k stop. got (defined x k at stop reach) stop) ≡ got y end → Puts rows rows′ line (map low (row used (keptDefinition y)))
-        put (refused m p) u y end h = absurd (let z : _≡_ {A = ℕ} 0 1 = cc in omega arith)
+        put (refused m p) u y end h = impossible cc
         put (got k stop) u y end h =
             let it : defined x k at stop reach ≡ y = cc in
             rw (← it, ← same-row x k reach used stop same) (b .rowPut k stop u)
 
         coded : (o : Read Form) → formAt s n ≡ o → (y : Definition) (end : ℕ) → then o (λ k stop. got (defined x k at stop reach) stop) ≡ got y end → Puts codes codes′ used (formCodes (keptForm (y .form)))
-        coded (refused m p) u y end h = absurd (let z : _≡_ {A = ℕ} 0 1 = cc in omega arith)
+        coded (refused m p) u y end h = impossible cc
         coded (got k stop) u y end h = let it : defined x k at stop reach ≡ y = cc in rw (← it) (b .codesPut k stop u)
 
     pub definition-got : {reach line used : ℕ} {rows rows′ codes codes′ : List ℕ} {q : DefinitionRead} → FormedRead (rowOf i f d e at reach used g) s n rows rows′ line codes codes′ used q → DefinitionPut reach s at rows rows′ line codes codes′ used q
@@ -154,7 +155,7 @@ pub definition-ahead : (reach : ℕ) (s : List ℕ) (at : ℕ) {y : Definition} 
 definition-ahead reach s at {y} {end} e = go (frontAt s at) refl (sym (definition-is reach s at) ∙ e)
   where
     more : (x : FrontOf) (n : ℕ) → at ≤ n → (o : Read Form) → formAt s n ≡ o → then o (λ f stop. got (defined x f at stop reach) stop) ≡ got y end → at + length (formCodes (keptForm (y .form))) < end
-    more x n h (refused k p) u q = absurd (let z : _≡_ {A = ℕ} 0 1 = cc in omega arith)
+    more x n h (refused k p) u q = impossible cc
     more x n h (got f stop) u q =
         let same : defined x f at stop reach ≡ y = cc in
         let there : stop ≡ end = cc in
@@ -163,15 +164,15 @@ definition-ahead reach s at {y} {end} e = go (frontAt s at) refl (sym (definitio
         omega arith
 
     go : (o : Read FrontOf) → frontAt s at ≡ o → then o (λ x form. then (formAt s form) (λ f stop. got (defined x f at stop reach) stop)) ≡ got y end → at + length (formCodes (keptForm (y .form))) < end
-    go (refused k p) u q = absurd (let z : _≡_ {A = ℕ} 0 1 = cc in omega arith)
+    go (refused k p) u q = impossible cc
     go (got x n) u q = more x n (front-inside s at u .0) (formAt s n) refl q
 
 -- the answer, taken apart
 
 pub definition-inv : (used : ℕ) (o : Read Definition) {r : DefinitionRead} {next more : ℕ} → r ≡ definitionIs used o → r ≡ DefinitionRead.the-variants.Got next more → (d : Definition) × (o ≡ got d next) × (more ≡ used + length (formCodes (keptForm (d .form))))
 definition-inv used (got d m) {next = next} p q = let e : m ≡ next = cc in (d, ap (got d) e, cc)
-definition-inv used (refused k m) p q = absurd (let z : _≡_ {A = ℕ} 0 1 = cc in omega arith)
+definition-inv used (refused k m) p q = impossible cc
 
 pub definition-refused-inv : (used : ℕ) (o : Read Definition) {r : DefinitionRead} {k place : ℕ} → r ≡ definitionIs used o → r ≡ DefinitionRead.the-variants.Refused k place → o ≡ refused k place
-definition-refused-inv used (got d m) p q = absurd (let z : _≡_ {A = ℕ} 0 1 = cc in omega arith)
+definition-refused-inv used (got d m) p q = impossible cc
 definition-refused-inv used (refused n m) p q = cc

@@ -11,6 +11,7 @@ use Rattle.scope.specs.Syntax.{Val, Field, Form, struct, func}
 use Rattle.scope.specs.Sections.{formAt}
 use Rattle.scope.specs.Memory.{formCodes}
 use Rattle.scope.proofs.Forward.{form-takes, never-back}
+use Rattle.scope.proofs.Impossible.{impossible}
 use Rattle.type_table.specs.Kept.{keptVal, keptField, keptForm}
 use Rattle.type_table.proofs.Puts.{Puts, puts-length}
 use Rattle.section_forms.specs.declared.FormRead.{FormRead}
@@ -27,7 +28,7 @@ module _ {s : List ℕ} {at : ℕ} {codes codes′ : List ℕ} {used : ℕ} {r :
       let none : formAt s at ≡ refused k place = form-refused-inv (formAt s at) (a .answer) e in
       record {
         answer = rw none;
-        rowPut = λ f end g. absurd (let z : _≡_ {A = ℕ} 0 1 = cc in omega arith);
+        rowPut = λ f end g. impossible cc;
         codesPut = a .memory;
         rowsSize = refl;
         codesSize = a .size;

@@ -12,6 +12,7 @@ use Rattle.scope.specs.Syntax.{Val, Field, Form, struct, func}
 use Rattle.scope.specs.Sections.{valAt, fieldAt, fewAt, formAt}
 use Rattle.scope.specs.Memory.{valCode, fieldCode, formCodes}
 use Rattle.scope.proofs.Forward.{val-takes, field-takes}
+use Rattle.scope.proofs.Impossible.{impossible}
 use Rattle.type_table.specs.Kept.{keptVal, keptField, keptForm}
 use Rattle.section_forms.specs.declared.FormRead.{FormRead}
 use Rattle.section_forms.specs.declared.FormRead
@@ -22,17 +23,17 @@ use Rattle.section_forms.proofs.Forms.{few-ahead}
 
 pub struct-inv : (o : Read Form) {r : FormRead} {n end : ℕ} → r ≡ formIs o → r ≡ FormRead.the-variants.Struct n end → (fs : List Field) × (o ≡ got (struct fs) end) × (n ≡ length fs)
 struct-inv (got (struct fs) m) {end = end} p q = let e : m ≡ end = cc in (fs, ap (got (struct fs)) e, cc)
-struct-inv (got (func ps rs) m) p q = absurd (let z : _≡_ {A = ℕ} 0 1 = cc in omega arith)
-struct-inv (refused k m) p q = absurd (let z : _≡_ {A = ℕ} 0 1 = cc in omega arith)
+struct-inv (got (func ps rs) m) p q = impossible cc
+struct-inv (refused k m) p q = impossible cc
 
 pub func-inv : (o : Read Form) {r : FormRead} {n k end : ℕ} → r ≡ formIs o → r ≡ FormRead.the-variants.Func n k end → (ps : List Val) × (rs : List Val) × (o ≡ got (func ps rs) end) × (n ≡ length ps) × (k ≡ length rs)
-func-inv (got (struct fs) m) p q = absurd (let z : _≡_ {A = ℕ} 0 1 = cc in omega arith)
+func-inv (got (struct fs) m) p q = impossible cc
 func-inv (got (func ps rs) m) {end = end} p q = let e : m ≡ end = cc in (ps, rs, ap (got (func ps rs)) e, cc, cc)
-func-inv (refused k m) p q = absurd (let z : _≡_ {A = ℕ} 0 1 = cc in omega arith)
+func-inv (refused k m) p q = impossible cc
 
 pub form-refused-inv : (o : Read Form) {r : FormRead} {n place : ℕ} → r ≡ formIs o → r ≡ FormRead.the-variants.Refused n place → o ≡ refused n place
-form-refused-inv (got (struct fs) m) p q = absurd (let z : _≡_ {A = ℕ} 0 1 = cc in omega arith)
-form-refused-inv (got (func ps rs) m) p q = absurd (let z : _≡_ {A = ℕ} 0 1 = cc in omega arith)
+form-refused-inv (got (struct fs) m) p q = impossible cc
+form-refused-inv (got (func ps rs) m) p q = impossible cc
 form-refused-inv (refused k m) p q = cc
 
 -- how many codes a form has
@@ -98,6 +99,6 @@ pub form-ahead : (s : List ℕ) (at : ℕ) {f : Form} {end : ℕ} → formAt s a
 form-ahead s at {f} {end} e = go (form-past s at) e
   where
     go : {o : Read Form} → Past at o → o ≡ got f end → at + length (formCodes (keptForm f)) < end
-    go none-read q = absurd (let z : _≡_ {A = ℕ} 0 1 = cc in omega arith)
+    go none-read q = impossible cc
     go (past {f = g} {end = stop} h) q =
         let a : g ≡ f = cc in let b : stop ≡ end = cc in let c : length (formCodes (keptForm g)) ≡ length (formCodes (keptForm f)) = ap (λ (x : Form). length (formCodes (keptForm x))) a in omega arith

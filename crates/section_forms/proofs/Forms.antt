@@ -17,6 +17,7 @@ use Rattle.scope.specs.Syntax.{Val, Field, Form, struct, func}
 use Rattle.scope.specs.Sections.{valAt, fieldAt, fewAt, formAt}
 use Rattle.scope.specs.Memory.{valCode, fieldCode, formCodes}
 use Rattle.scope.proofs.Forward.{Ends, stops, reaches, Takes, few-takes, val-takes, field-takes, never-back, unsigned-takes}
+use Rattle.scope.proofs.Impossible.{contradiction, impossible}
 use Rattle.number.specs.declared.Byte.{Byte}
 use Rattle.number.specs.declared.Byte
 use Rattle.number.specs.declared.Natural.{Natural}
@@ -47,7 +48,7 @@ module _ (s : List ℕ) (at : ℕ) {c : Natural} (a : c ≡ naturalIs (u32 s at)
   pub few-refused : (fields : Bool) (codes : List ℕ) (used : ℕ) {k place : ℕ} → c ≡ Natural.the-variants.Refused k place → FewRead (codeAt fields) s at codes codes used (Entries.the-variants.Refused k place)
   few-refused fields codes used {k} {place} e =
       let no-list : fewAt (codeAt fields) s at ≡ refused k place = few-none (codeAt fields) s at (natural-refused (u32 s at) a e) in
-      record { answer = rw no-list; memory = λ xs next f. absurd (let z : _≡_ {A = ℕ} 0 1 = cc in omega arith); size = refl }
+      record { answer = rw no-list; memory = λ xs next f. impossible cc; size = refl }
 
   module _ {n next : ℕ} (e : c ≡ Natural.the-variants.Is n next) where
     pub few-got : (fields : Bool) {codes codes′ : List ℕ} {used : ℕ} {r : Entries} → EntriesRead (codeAt fields) n s next codes codes′ used r → FewRead (codeAt fields) s at codes codes′ used r
@@ -109,10 +110,10 @@ module _ {A : Type 0} (code : A → ℕ) where
       let e : length (map code xs) ≡ n = cc in
       let f : m ≡ next = cc in
       (xs, ap (got xs) f, sym e ∙ length-map xs code)
-  list-got (refused k m) p q = absurd (let z : _≡_ {A = ℕ} 0 1 = cc in omega arith)
+  list-got (refused k m) p q = impossible cc
 
   list-refused : (o : Read (List A)) {r : Entries} {k place : ℕ} → r ≡ entriesIs (coding (map code) o) → r ≡ Entries.the-variants.Refused k place → o ≡ refused k place
-  list-refused (got xs m) p q = absurd (let z : _≡_ {A = ℕ} 0 1 = cc in omega arith)
+  list-refused (got xs m) p q = impossible cc
   list-refused (refused n m) p q = cc
 
 -- a form's codes
@@ -138,7 +139,7 @@ module _ {s : List ℕ} {at : ℕ} {codes codes′ : List ℕ} {used : ℕ} {r :
   struct-refused {k} {place} e =
       let none : fewAt fieldAt s at ≡ refused k place = list-refused fieldCodeKept (fewAt fieldAt s at) struct-answer e in
       let whole : structAt s at ≡ refused k place = rw none in
-      record { answer = rw whole; memory = λ f next g. absurd (let z : _≡_ {A = ℕ} 0 1 = cc in omega arith); size = a .size }
+      record { answer = rw whole; memory = λ f next g. impossible cc; size = a .size }
 
   struct-read : {n next : ℕ} (fs : List Field) → fewAt fieldAt s at ≡ got fs next → n ≡ length fs → PartRead structAt s at codes codes′ used (FormRead.the-variants.Struct n next)
   struct-read {n} {next} fs read count =
@@ -214,7 +215,7 @@ pub few-ahead : {A : Type 0} {one : Reader A} → Takes one → (s : List ℕ) (
 few-ahead {A} {one} t s at {xs} {next} e = go (few-counted t s at) e
   where
     go : {o : Read (List A)} → Counted at o → o ≡ got xs next → at + length xs ≤ next
-    go uncounted q = absurd (let z : _≡_ {A = ℕ} 0 1 = cc in omega arith)
+    go uncounted q = impossible cc
     go (counted {xs = ys} {next = stop} h) q = let a : ys ≡ xs = cc in let b : stop ≡ next = cc in let c : length ys ≡ length xs = ap length a in omega arith
 
 module _ {s : List ℕ} {at : ℕ} {codes codes′ : List ℕ} {used : ℕ} {r : Entries} (a : FewRead (codeAt false) s at codes codes′ used r) where
@@ -222,7 +223,7 @@ module _ {s : List ℕ} {at : ℕ} {codes codes′ : List ℕ} {used : ℕ} {r :
   func-refused {k} {place} e =
       let none : fewAt valAt s at ≡ refused k place = list-refused valCodeKept (fewAt valAt s at) (vals-answer a) e in
       let whole : funcAt s at ≡ refused k place = rw none in
-      record { answer = rw whole; memory = λ f next g. absurd (let z : _≡_ {A = ℕ} 0 1 = cc in omega arith); size = a .size }
+      record { answer = rw whole; memory = λ f next g. impossible cc; size = a .size }
 
   module _ {n next : ℕ} (e : r ≡ Entries.the-variants.Got n next) where
     parameters : (ps : List Val) × (fewAt valAt s at ≡ got ps next) × (n ≡ length ps)
@@ -257,7 +258,7 @@ module _ {s : List ℕ} {at : ℕ} {codes codes′ : List ℕ} {used : ℕ} {r :
         first = vals-put a ps next read
 
         put : (o : Read (List Val)) → fewAt valAt s next ≡ o → (f : Form) (stop : ℕ) → funcAt s at ≡ got f stop → Puts codes codes″ used (formCodes (keptForm f))
-        put (refused k p) g f stop h = absurd (let t : refused k p ≡ got f stop = sym (whole ∙ ap (λ o. then o (λ rs end. got (func ps rs) end)) g) ∙ h in let z : _≡_ {A = ℕ} 0 1 = cc in omega arith)
+        put (refused k p) g f stop h = absurd (let t : refused k p ≡ got f stop = sym (whole ∙ ap (λ o. then o (λ rs end. got (func ps rs) end)) g) ∙ h in contradiction cc)
         put (got rs m) g f stop h =
             let t : got (func ps rs) m ≡ got f stop = sym (whole ∙ ap (λ o. then o (λ rs end. got (func ps rs) end)) g) ∙ h in
             let same : func ps rs ≡ f = cc in
@@ -278,7 +279,7 @@ module _ {s : List ℕ} {at : ℕ} {r : Byte} (a : ByteAt s at r) where
       let h = a .small b e .1 in record { behind = omega (arith, room .behind); inside = omega arith; enough = room .enough; small = room .small }
 
   no-form : (codes : List ℕ) (used : ℕ) {k place : ℕ} → formAt s at ≡ refused k place → PartRead formAt s at codes codes used (FormRead.the-variants.Refused k place)
-  no-form codes used e = record { answer = rw e; memory = λ f next g. absurd (let z : _≡_ {A = ℕ} 0 1 = cc in omega arith); size = refl }
+  no-form codes used e = record { answer = rw e; memory = λ f next g. impossible cc; size = refl }
 
   pub form-missing : (codes : List ℕ) (used : ℕ) → r ≡ Byte.the-variants.Missing → PartRead formAt s at codes codes used (FormRead.the-variants.Refused 1 at)
   unfolding formAt

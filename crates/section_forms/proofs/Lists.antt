@@ -13,6 +13,7 @@ use Rattle.scope.specs.Sizes.{mostEach}
 use Rattle.scope.specs.Reading.{Read, got, refused, Reader, then, entries}
 use Rattle.scope.specs.Sections.{valAt, fieldAt}
 use Rattle.scope.proofs.Forward.{Ends, stops, reaches, Takes, val-takes, field-takes, never-back}
+use Rattle.scope.proofs.Impossible.{contradiction}
 use Rattle.type_table.proofs.Puts.{Puts, puts-none, puts-one, puts-more, puts-length}
 use Rattle.type_read.specs.declared.Coded.{Coded}
 use Rattle.type_read.specs.declared.Coded
@@ -121,7 +122,7 @@ module _ {fields : Bool} {n : ℕ} {s : List ℕ} {at : ℕ} {codes₀ codes : L
   no-list never e = record { answer = e; memory = λ xs stop f. absurd (never xs stop f); size = puts-length (p .puts) }
 
   refused-list : {k place : ℕ} → entries (codeAt fields) 64 n s at ≡ refused k place → EntriesRead (codeAt fields) n s at codes₀ codes used (Entries.the-variants.Refused k place)
-  refused-list e = no-list (λ xs stop f. let z : _≡_ {A = ℕ} 0 1 = cc in omega arith) (rw e)
+  refused-list e = no-list (λ xs stop f. contradiction cc) (rw e)
 
   pub listed-done : n ≤ count → EntriesRead (codeAt fields) n s at codes₀ codes used (Entries.the-variants.Got count next)
   listed-done h =

@@ -13,6 +13,7 @@ use Rattle.scope.specs.Syntax.{Definition}
 use Rattle.scope.specs.Sections.{definitionAt}
 use Rattle.scope.specs.Memory.{formCodes}
 use Rattle.scope.proofs.Forward.{definition-takes, never-back}
+use Rattle.scope.proofs.Impossible.{impossible}
 use Rattle.type_table.specs.Kept.{keptForm, keptDefinition}
 use Rattle.type_table.specs.View.{row, rowsOf, codesOf}
 use Rattle.type_table.proofs.Puts.{Puts, puts-none, puts-more, puts-length}
@@ -107,8 +108,8 @@ module _ {reach first n : ℕ} {s : List ℕ} {at : ℕ} {rows₀ rows codes₀ 
     no-group a b e =
         record {
           answer = rw e;
-          rowsPut = λ ds stop f. absurd (let z : _≡_ {A = ℕ} 0 1 = cc in omega arith);
-          codesPut = λ ds stop f. absurd (let z : _≡_ {A = ℕ} 0 1 = cc in omega arith);
+          rowsPut = λ ds stop f. impossible cc;
+          codesPut = λ ds stop f. impossible cc;
           rowsSize = a;
           codesSize = b;
         }

@@ -16,6 +16,7 @@ use Rattle.scope.specs.Syntax.{Definition}
 use Rattle.scope.specs.Sections.{definitionAt, groupAt}
 use Rattle.scope.specs.Memory.{formCodes}
 use Rattle.scope.proofs.Forward.{unsigned-takes, never-back}
+use Rattle.scope.proofs.Impossible.{impossible}
 use Rattle.number.specs.declared.Byte.{Byte}
 use Rattle.number.specs.declared.Byte
 use Rattle.number.specs.declared.Natural.{Natural}
@@ -52,8 +53,8 @@ no-put : (one : Reader (List Definition)) (s : List ℕ) (at : ℕ) {rows rows�
 no-put one s at used a b e =
     record {
       answer = rw e;
-      rowsPut = λ ds next f. absurd (let z : _≡_ {A = ℕ} 0 1 = cc in omega arith);
-      codesPut = λ ds next f. absurd (let z : _≡_ {A = ℕ} 0 1 = cc in omega arith);
+      rowsPut = λ ds next f. impossible cc;
+      codesPut = λ ds next f. impossible cc;
       rowsSize = a;
       codesSize = b;
     }

@@ -10,6 +10,7 @@ use mir.Val.{Fits}
 use Rattle.scope.specs.Reading.{given}
 use Rattle.scope.specs.Syntax.{Types}
 use Rattle.scope.specs.Judging.{Judged, accepted, rejected, andThen, scan, judgeTypes}
+use Rattle.scope.proofs.Impossible.{impossible}
 use Rattle.section_judge.specs.declared.Fault.{Fault}
 use Rattle.section_judge.specs.declared.Fault
 use Rattle.section_judge.specs.declared.Judgement.{Judgement}
@@ -20,18 +21,18 @@ use Rattle.section_judge.specs.Verdict.{faultIs, judgementIs, faultOf}
 
 pub fault-nothing : (o : Option ℕ) {r : Fault} → r ≡ faultIs o → r ≡ Fault.the-variants.Nothing → o ≡ none
 fault-nothing none p q = refl
-fault-nothing (some k) p q = absurd (let z : _≡_ {A = ℕ} 0 1 = cc in omega arith)
+fault-nothing (some k) p q = impossible cc
 
 pub fault-number : (o : Option ℕ) {r : Fault} {k : ℕ} → r ≡ faultIs o → r ≡ Fault.the-variants.Number k → o ≡ some k
-fault-number none p q = absurd (let z : _≡_ {A = ℕ} 0 1 = cc in omega arith)
+fault-number none p q = impossible cc
 fault-number (some j) p q = cc
 
 pub judgement-accepted : (o : Judged ℕ) {r : Judgement} {n : ℕ} → r ≡ judgementIs o → r ≡ Judgement.the-variants.Accepted n → o ≡ accepted n
 judgement-accepted (accepted m) p q = cc
-judgement-accepted (rejected k x) p q = absurd (let z : _≡_ {A = ℕ} 0 1 = cc in omega arith)
+judgement-accepted (rejected k x) p q = impossible cc
 
 pub judgement-rejected : (o : Judged ℕ) {r : Judgement} {k x : ℕ} → r ≡ judgementIs o → r ≡ Judgement.the-variants.Rejected k x → o ≡ rejected k x
-judgement-rejected (accepted m) p q = absurd (let z : _≡_ {A = ℕ} 0 1 = cc in omega arith)
+judgement-rejected (accepted m) p q = impossible cc
 judgement-rejected (rejected j y) p q = cc
 
 -- what a pass holds

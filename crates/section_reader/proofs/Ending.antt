@@ -14,6 +14,7 @@ use Rattle.scope.specs.Lists.{joined}
 use Rattle.scope.specs.Syntax.{Definition, Group}
 use Rattle.scope.specs.Sections.{groupsAt, ended, readSection}
 use Rattle.scope.proofs.Forward.{unsigned-takes, never-back}
+use Rattle.scope.proofs.Impossible.{impossible}
 use Rattle.number.specs.declared.Natural.{Natural}
 use Rattle.number.specs.declared.Natural
 use Rattle.number.specs.Answers.{naturalIs}
@@ -33,8 +34,8 @@ no-section : {o : Read (List Group)} {rows rows′ codes codes′ : List ℕ} {k
 no-section a b e =
     record {
       answer = rw e;
-      rowsPut = λ gs end f. absurd (let z : _≡_ {A = ℕ} 0 1 = cc in omega arith);
-      codesPut = λ gs end f. absurd (let z : _≡_ {A = ℕ} 0 1 = cc in omega arith);
+      rowsPut = λ gs end f. impossible cc;
+      codesPut = λ gs end f. impossible cc;
       rowsKept = a;
       codesKept = b;
     }
@@ -53,10 +54,10 @@ same-section e p =
 
 groups-inv : (o : Read (List Group)) {r : GroupRead} {count next taken : ℕ} → r ≡ groupIs 0 (flat o) → r ≡ GroupRead.the-variants.Got count next taken → (gs : List Group) × (o ≡ got gs next) × (count ≡ length (joined gs))
 groups-inv (got gs m) {next = next} p q = let e : m ≡ next = cc in (gs, ap (got gs) e, cc)
-groups-inv (refused k m) p q = absurd (let z : _≡_ {A = ℕ} 0 1 = cc in omega arith)
+groups-inv (refused k m) p q = impossible cc
 
 groups-refused-inv : (o : Read (List Group)) {r : GroupRead} {k place : ℕ} → r ≡ groupIs 0 (flat o) → r ≡ GroupRead.the-variants.Refused k place → o ≡ refused k place
-groups-refused-inv (got gs m) p q = absurd (let z : _≡_ {A = ℕ} 0 1 = cc in omega arith)
+groups-refused-inv (got gs m) p q = impossible cc
 groups-refused-inv (refused n m) p q = cc
 
 -- ended_at

@@ -15,6 +15,7 @@ use Rattle.scope.specs.Syntax.{Definition, Group}
 use Rattle.scope.specs.Sections.{definitionAt, groupAt}
 use Rattle.scope.specs.Memory.{formCodes}
 use Rattle.scope.proofs.Forward.{Ends, stops, reaches, definition-takes, unsigned-takes}
+use Rattle.scope.proofs.Impossible.{impossible}
 use Rattle.type_table.specs.Kept.{keptForm, keptDefinition}
 use Rattle.type_table.specs.View.{codesOf}
 use Rattle.section_group.specs.Lent.{entriesAt, severalAt, aloneAt, keptAll}
@@ -99,7 +100,7 @@ pub group-ate : (first : ℕ) (s : List ℕ) (at : ℕ) {g : List Definition} {n
 group-ate first s at {g} {next} e = go (group-fed first s at) e
   where
     go : {o : Read (List Definition)} → Fed (mostTypes - first) at o → o ≡ got g next → Ate first at g next
-    go unfed q = absurd (let z : _≡_ {A = ℕ} 0 1 = cc in omega arith)
+    go unfed q = impossible cc
     go (fed {ds = ds} {next = stop} a b) q =
         let same : ds ≡ g = cc in
         let there : stop ≡ next = cc in

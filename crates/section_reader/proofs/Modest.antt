@@ -18,6 +18,7 @@ use Rattle.scope.specs.Lists.{joined}
 use Rattle.scope.specs.Syntax.{Val, Field, Form, struct, func, Definition, Group, typesOf}
 use Rattle.scope.specs.Sections.{valAt, fieldAt, fewAt, headAt, clauseAt, describesCode, descriptorCode, formAt, definitionAt, groupAt, groupsAt, readSection}
 use Rattle.scope.proofs.Forward.{definition-takes, never-back}
+use Rattle.scope.proofs.Impossible.{impossible}
 use Rattle.type_table.specs.Kept.{beyond, keptDefinition}
 use Rattle.type_table.specs.View.{codesOf}
 use Rattle.type_table.proofs.Growing.{codes-append}
@@ -47,7 +48,7 @@ module _ {A : Type 0} {P : A → ℕ → Type 0} where
   gives-by (refused k place) h = gives-none
 
   taken : {r : Read A} {x : A} {next : ℕ} → Gives P r → r ≡ got x next → P x next
-  taken gives-none e = absurd (let z : _≡_ {A = ℕ} 0 1 = cc in omega arith)
+  taken gives-none e = impossible cc
   taken {x = x} {next = next} (gives {x = y} {next = end} p) e = let here : y ≡ x = cc in let there : end ≡ next = cc in rw (← here, ← there) p
 
   gives-cond : (b : Bool) {p q : Read A} → (b ≡ true → Gives P p) → (b ≡ false → Gives P q) → Gives P (cond b p q)

@@ -15,6 +15,7 @@ use Rattle.scope.specs.Lists.{joined}
 use Rattle.scope.specs.Syntax.{Definition, Group}
 use Rattle.scope.specs.Sections.{groupAt, groupsAt}
 use Rattle.scope.proofs.Forward.{group-takes, never-back}
+use Rattle.scope.proofs.Impossible.{impossible}
 use Rattle.type_table.specs.View.{rowsOf, codesOf}
 use Rattle.type_table.proofs.Puts.{Puts, puts-none, puts-more, puts-length, puts-part}
 use Rattle.type_table.proofs.Growing.{rows-length, codes-append, rows-append}
@@ -61,10 +62,10 @@ groups-done (suc n) first s at h = absurd (omega arith)
 
 group-inv : (used : ℕ) (o : Read (List Definition)) {r : GroupRead} {count next taken : ℕ} → r ≡ groupIs used o → r ≡ GroupRead.the-variants.Got count next taken → (g : List Definition) × (o ≡ got g next) × (count ≡ length g) × (taken ≡ used + length (codesOf (keptAll g)))
 group-inv used (got g m) {next = next} p q = let e : m ≡ next = cc in (g, ap (got g) e, cc, cc)
-group-inv used (refused k m) p q = absurd (let z : _≡_ {A = ℕ} 0 1 = cc in omega arith)
+group-inv used (refused k m) p q = impossible cc
 
 group-refused-inv : (used : ℕ) (o : Read (List Definition)) {r : GroupRead} {k place : ℕ} → r ≡ groupIs used o → r ≡ GroupRead.the-variants.Refused k place → o ≡ refused k place
-group-refused-inv used (got g m) p q = absurd (let z : _≡_ {A = ℕ} 0 1 = cc in omega arith)
+group-refused-inv used (got g m) p q = impossible cc
 group-refused-inv used (refused n m) p q = cc
 
 -- the loop
@@ -146,8 +147,8 @@ module _ {n : ℕ} {s : List ℕ} {at : ℕ} {rows₀ rows codes₀ codes : List
           let whole : flatAt n s at ≡ refused k place = rw none in
           record {
             answer = rw whole;
-            rowsPut = λ ds stop f. absurd (let z : _≡_ {A = ℕ} 0 1 = cc in omega arith);
-            codesPut = λ ds stop f. absurd (let z : _≡_ {A = ℕ} 0 1 = cc in omega arith);
+            rowsPut = λ ds stop f. impossible cc;
+            codesPut = λ ds stop f. impossible cc;
             rowsSize = walked-rows-kept;
             codesSize = walked-codes-kept;
           }

@@ -2,7 +2,6 @@
 -- says what the code named.
 use Prim.Native.Nat.{ℕ, zero, suc, _<_, _+_}
 use native.Mathlib.Nat.{le-of-suc-le-suc, not-suc-le-zero, add-zero, zero-add, suc-add, add-suc}
-use native.Mathlib.Omega.{arith}
 use mathlib.Core.Path.{_≡_, refl, sym, _∙_}
 use mathlib.Core.Option.{Option, none, some}
 use mathlib.Core.List.{List, [], _∷_}
@@ -10,6 +9,7 @@ use lib.Dec.{lit<}
 use lib.ListN.{getD}
 use Rattle.scope.specs.Abstract.{Abstract, NOFUNC, NOEXTERN, NONE, FUNC, EXTERN, ANY, EQ, I31, STRUCT, ARRAY, ten}
 use Rattle.scope.specs.Memory.{abstractCode}
+use Rattle.scope.proofs.Impossible.{impossible}
 use Rattle.type_abstract.specs.declared.AbstractType.{AbstractType}
 use Rattle.type_abstract.specs.declared.AbstractType
 use Rattle.type_abstract.specs.Heaps.{abstractAt, abstractIs}
@@ -56,7 +56,7 @@ code-at k h = sym (getD-map abstractCode ten k ARRAY 0 h) ∙ upward-at 10 0 k 0
 
 -- an answer of abstract_of, taken apart
 pub is-inv : {r : AbstractType} {k : ℕ} (o : Option Abstract) → r ≡ abstractIs o → r ≡ AbstractType.the-variants.Is k → (a : Abstract) × (o ≡ some a) × (k ≡ abstractCode a)
-is-inv none e f = let z : _≡_ {A = ℕ} 0 1 = cc in absurd (omega arith)
+is-inv none e f = impossible cc
 is-inv (some a) e f = (a, refl, cc)
 
 pub not-one-inv : {r : AbstractType} (o : Option Abstract) → r ≡ abstractIs o → r ≡ AbstractType.the-variants.NotOne → o ≡ none

@@ -4,7 +4,6 @@ use Prim.Native.Nat.{ℕ, _≤_}
 use mathlib.Core.Path.{_≡_, refl, sym, ap, _∙_}
 use mathlib.Core.Bool.{Bool, true, false}
 use mathlib.Core.Logic.{_⊎_, inl, inr}
-use native.Mathlib.Omega.{arith}
 use borrow.Author.Tests.{eqb-true, eqb-false, ltb-true, ltb-false}
 use lib.Dec.{eqb, ltb}
 use lib.ListN.{List·getD-eq-default}
@@ -15,6 +14,7 @@ use Rattle.scope.specs.Order.{kindOf, bottomOf, abstractBelow, climbs, heapBelo
 use Rattle.scope.specs.TypeRules.{isStruct}
 use Rattle.scope.proofs.Truths.{decided}
 use Rattle.scope.proofs.TenRows.{same-equal, equal-same}
+use Rattle.scope.proofs.Impossible.{contradiction, impossible}
 use Rattle.type_abstract.specs.Heaps.{abstractAt}
 use Rattle.type_abstract.proofs.Laws.{at-code, code-at}
 use Rattle.type_table.specs.declared.HeapKind.{HeapKind}
@@ -31,13 +31,13 @@ module _ (f : Form) {s : Bool} (e : s ≡ isStruct f) where
     where
       go : (g : Form) → isStruct g ≡ true → 8 ≡ abstractCode (kindOf g)
       go (struct fs) p = refl
-      go (func ps rs) p = absurd (let z : _≡_ {A = ℕ} 0 1 = cc in omega arith)
+      go (func ps rs) p = impossible cc
 
   pub kind-func : s ≡ false → 3 ≡ abstractCode (kindOf f)
   kind-func q = go f (sym e ∙ q)
     where
       go : (g : Form) → isStruct g ≡ false → 3 ≡ abstractCode (kindOf g)
-      go (struct fs) p = absurd (let z : _≡_ {A = ℕ} 0 1 = cc in omega arith)
+      go (struct fs) p = impossible cc
       go (func ps rs) p = refl
 
 module _ (f : Form) {kind : ℕ} (e : kind ≡ abstractCode (kindOf f)) where
@@ -54,8 +54,8 @@ unfolding abstractAt
 past-rows h = List·getD-eq-default ten ARRAY h
 
 last-is-no-bottom : (f : Form) → ARRAY ≡ bottomOf f → ⊥
-last-is-no-bottom (struct fs) e = let z : _≡_ {A = ℕ} 0 1 = cc in omega arith
-last-is-no-bottom (func ps rs) e = let z : _≡_ {A = ℕ} 0 1 = cc in omega arith
+last-is-no-bottom (struct fs) e = contradiction cc
+last-is-no-bottom (func ps rs) e = contradiction cc
 
 bottom-has-one-number : (f : Form) (a : ℕ) → abstractAt a ≡ bottomOf f → a ≡ abstractCode (bottomOf f)
 bottom-has-one-number f a e = go (decided (ltb a 10))

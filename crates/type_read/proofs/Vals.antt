@@ -17,6 +17,7 @@ use Rattle.scope.specs.Syntax.{Heap, abstract, defined, exact, Number, i32, i64
 use Rattle.scope.specs.Sections.{heapAt, numberOf, valAt}
 use Rattle.scope.specs.Order.{numberCode}
 use Rattle.scope.specs.Memory.{heapCode, abstractCode, valCode}
+use Rattle.scope.proofs.Impossible.{impossible}
 use Rattle.number.specs.declared.Byte.{Byte}
 use Rattle.number.specs.declared.Byte
 use Rattle.number.specs.Answers.{ByteAt}
@@ -37,10 +38,10 @@ use Rattle.type_read.specs.Codes.{codedIs, heapCodeKept, valCodeKept, nu
 
 pub coded-got : {A : Type 0} (code : A → ℕ) (o : Read A) {r : Coded} {c next : ℕ} → r ≡ codedIs code o → r ≡ Coded.the-variants.Is c next → (x : A) × (o ≡ got x next) × (c ≡ code x)
 coded-got code (got x n) {next = next} p q = let e : n ≡ next = cc in (x, ap (got x) e, cc)
-coded-got code (refused n m) p q = absurd (let z : _≡_ {A = ℕ} 0 1 = cc in omega arith)
+coded-got code (refused n m) p q = impossible cc
 
 pub coded-refused : {A : Type 0} (code : A → ℕ) (o : Read A) {r : Coded} {n place : ℕ} → r ≡ codedIs code o → r ≡ Coded.the-variants.Refused n place → o ≡ refused n place
-coded-refused code (got x m) p q = absurd (let z : _≡_ {A = ℕ} 0 1 = cc in omega arith)
+coded-refused code (got x m) p q = impossible cc
 coded-refused code (refused m k) p q = cc
 
 -- number_of
@@ -142,12 +143,12 @@ pub ruleset reference-exits = (reference-nullable, reference-not, reference-unli
 -- val_at
 
 number-is-inv : (o : Option Number) {t : NumberType} {k : ℕ} → t ≡ numberIs o → t ≡ NumberType.the-variants.Is k → (n : Number) × (o ≡ some n) × (k ≡ numberCode n)
-number-is-inv none p q = absurd (let z : _≡_ {A = ℕ} 0 1 = cc in omega arith)
+number-is-inv none p q = impossible cc
 number-is-inv (some n) p q = (n, refl, cc)
 
 number-none-inv : (o : Option Number) {t : NumberType} → t ≡ numberIs o → t ≡ NumberType.the-variants.NotOne → o ≡ none
 number-none-inv none p q = refl
-number-none-inv (some n) p q = absurd (let z : _≡_ {A = ℕ} 0 1 = cc in omega arith)
+number-none-inv (some n) p q = impossible cc
 
 module _ {s : List ℕ} {at : ℕ} {r : Byte} (a : ByteAt s at r) where
   pub val-missing : r ≡ Byte.the-variants.Missing → Coded.the-variants.Refused 1 at ≡ codedIs valCodeKept (valAt s at)

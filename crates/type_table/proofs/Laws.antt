@@ -10,6 +10,7 @@ use native.Mathlib.Omega.{arith}
 use lib.Dec.{eqb}
 use Rattle.scope.specs.Syntax.{Heap, abstract, defined, exact, Number, Val, num, ref}
 use Rattle.scope.specs.Order.{numberCode}
+use Rattle.scope.proofs.Impossible.{impossible}
 use Rattle.type_abstract.specs.Heaps.{abstractAt}
 use Rattle.type_abstract.proofs.Laws.{at-code, code-at}
 use Rattle.lent_u16.specs.Words.{WordAt}
@@ -27,10 +28,10 @@ use Rattle.type_table.proofs.Codes.{heap-abstract, heap-exact, heap-def
 
 pub link-nothing : (o : Option ℕ) {r : Link} → r ≡ linkIs o → r ≡ Link.the-variants.Nothing → o ≡ none
 link-nothing none p q = refl
-link-nothing (some x) p q = absurd (let z : _≡_ {A = ℕ} 0 1 = cc in omega arith)
+link-nothing (some x) p q = impossible cc
 
 pub link-to : (o : Option ℕ) {r : Link} {x : ℕ} → r ≡ linkIs o → r ≡ Link.the-variants.To x → o ≡ some x
-link-to none p q = absurd (let z : _≡_ {A = ℕ} 0 1 = cc in omega arith)
+link-to none p q = impossible cc
 link-to (some y) p q = cc
 
 pub link-read : (o : Option ℕ) {r : Link} → r ≡ linkIs o → linkOption r ≡ o
@@ -41,27 +42,27 @@ link-read (some x) p = ap linkOption p
 
 pub is-abstract : (h : Heap) {r : HeapKind} {k : ℕ} → r ≡ heapIs h → r ≡ HeapKind.the-variants.Abstract k → h ≡ abstract (abstractAt k)
 is-abstract (abstract a) p q = ap abstract (sym (at-code a)) ∙ ap (λ (n : ℕ). abstract (abstractAt n)) (cc)
-is-abstract (defined x) p q = absurd (let z : _≡_ {A = ℕ} 0 1 = cc in omega arith)
-is-abstract (exact x) p q = absurd (let z : _≡_ {A = ℕ} 0 1 = cc in omega arith)
+is-abstract (defined x) p q = impossible cc
+is-abstract (exact x) p q = impossible cc
 
 pub is-defined : (h : Heap) {r : HeapKind} {x : ℕ} → r ≡ heapIs h → r ≡ HeapKind.the-variants.Defined x → h ≡ defined x
-is-defined (abstract a) p q = absurd (let z : _≡_ {A = ℕ} 0 1 = cc in omega arith)
+is-defined (abstract a) p q = impossible cc
 is-defined (defined y) p q = cc
-is-defined (exact y) p q = absurd (let z : _≡_ {A = ℕ} 0 1 = cc in omega arith)
+is-defined (exact y) p q = impossible cc
 
 pub is-exact : (h : Heap) {r : HeapKind} {x : ℕ} → r ≡ heapIs h → r ≡ HeapKind.the-variants.Exact x → h ≡ exact x
-is-exact (abstract a) p q = absurd (let z : _≡_ {A = ℕ} 0 1 = cc in omega arith)
-is-exact (defined y) p q = absurd (let z : _≡_ {A = ℕ} 0 1 = cc in omega arith)
+is-exact (abstract a) p q = impossible cc
+is-exact (defined y) p q = impossible cc
 is-exact (exact y) p q = cc
 
 -- a value type's answer, taken apart
 
 pub is-number : (v : Val) {r : ValKind} {c : ℕ} → r ≡ valIs v → r ≡ ValKind.the-variants.Number c → (n : Number) × (v ≡ num n) × (c ≡ numberCode n)
 is-number (num n) p q = (n, refl, cc)
-is-number (ref n h) p q = absurd (let z : _≡_ {A = ℕ} 0 1 = cc in omega arith)
+is-number (ref n h) p q = impossible cc
 
 pub is-ref : (v : Val) {r : ValKind} {n : Bool} {c : ℕ} → r ≡ valIs v → r ≡ ValKind.the-variants.Ref n c → v ≡ ref n (heapAtCode c)
-is-ref (num n) p q = absurd (let z : _≡_ {A = ℕ} 0 1 = cc in omega arith)
+is-ref (num n) p q = impossible cc
 is-ref (ref m h) p q = ap (ref m) (sym (heap-at-code h)) ∙ cc
 
 -- codes in a row, one taken off the front
