@@ -1,15 +1,14 @@
-// Judges sections by the loader, a case to a line of standard output. The file stdout has the answers, worked out by hand
-// from document 01 and never copied from a run.
+// Judges sections by the loader, and asks them for types, a case to a line of standard output. The cases stand in the file
+// stdin, in lines that lines.rt explains; the file stdout has the answers, worked out by hand from document 01 and never
+// copied from a run.
 mod asking;
-mod building;
-mod paper;
-mod readings;
-mod sizes;
+mod judging;
+mod lines;
 mod telling;
 
 fn main() {
-    paper::examples();
-    readings::points();
-    sizes::limits();
-    asking::questions();
+    let mut text = [0u8; 32768];
+    let mut section = [0u8; 32770];
+    let count = io::read_full(libc::STDIN_FILENO, &mut text);
+    lines::all(&text[..count], &mut section);
 }

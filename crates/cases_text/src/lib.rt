@@ -1,11 +1,22 @@
 // What the programs with cases in a file share. Bytes that are written as text: words of hexadecimal digits, with a space
-// between two; `512*4100` is 512 times 41 00. Nothing here fails: what does not fit is left out, and a sign that is no digit
-// counts as 0. And whether lent words are zero.
+// between two; `512*4100` is 512 times 41 00, and `63*5001++5F00` counts: 50 01 00 5F 00, 50 01 01 5F 00 and so on. Nothing
+// here fails: what does not fit is left out, and a sign that is no digit counts as 0. And whether lent words are zero.
 ghost use Prim.Native.Nat.{_≤_};
 
-const SPACE: u8 = b' ';
+pub const SPACE: u8 = b' ';
+
+pub const LINE_END: u8 = b'\n';
+
+pub const REMARK: u8 = b'#';
 
 const STAR: u8 = b'*';
+
+const PLUS: u8 = b'+';
+
+// A line's sign at a place, and past the end a line's end.
+pub fn sign(line: &[u8], at: usize) -> u8 {
+    if at < line.len() { line[at] } else { LINE_END }
+}
 
 // The first place from a place on where a mark stands; the text's end where there is none.
 pub fn find(text: &[u8], from: usize, mark: u8) -> usize
@@ -40,20 +51,24 @@ fn digit(sign: u8) -> u64 {
     }
 }
 
-// The number that a word's decimal digits say, below 10 * 2^32.
+// The number that a word's decimal digits say, below 2^64.
 pub fn decimal(word: &[u8]) -> u64 {
     let mut n: u64 = 0;
     let mut i: usize = 0;
     while i < word.len() {
         let sign = word[i];
-        n = (n % 4294967296) * 10 + digit(sign) % 10;
+        let tens = (n % 1844674407370955162) * 10;
+        n = std::num::wrapping_add_u64(tens, digit(sign) % 10);
         i += 1;
     }
     n
 }
 
-// The byte of two hexadecimal digits.
-fn byte(high: u8, low: u8) -> u8 {
+// The byte of two hexadecimal digits; `++` is how often the word stood before.
+fn byte(high: u8, low: u8, before: u64) -> u8 {
+    if high == PLUS {
+        return (before % 256) as u8;
+    }
     let value = 16 * (digit(high) % 16) + digit(low) % 16;
     (value % 256) as u8
 }
@@ -68,11 +83,11 @@ fn store(out: &mut [u8], at: usize, byte: u8) -> usize {
 }
 
 // The bytes of a word from a place of `out` on; the place after them.
-fn put(out: &mut [u8], at: usize, word: &[u8]) -> usize {
+fn put(out: &mut [u8], at: usize, word: &[u8], before: u64) -> usize {
     let mut end = at;
     let mut low: usize = 1;
     while low < word.len() {
-        let value = byte(word[low - 1], word[low]);
+        let value = byte(word[low - 1], word[low], before);
         end = store(out, end, value);
         low += 2;
     }
@@ -82,10 +97,10 @@ fn put(out: &mut [u8], at: usize, word: &[u8]) -> usize {
 // The same so many times.
 fn repeat(out: &mut [u8], at: usize, word: &[u8], times: u64) -> usize {
     let mut end = at;
-    let mut left = times;
-    while 0 < left {
-        end = put(out, end, word);
-        left -= 1;
+    let mut before: u64 = 0;
+    while before < times {
+        end = put(out, end, word, before);
+        before += 1;
     }
     end
 }
@@ -98,7 +113,7 @@ fn put_word(out: &mut [u8], at: usize, word: &[u8]) -> usize {
         let piece = part(word, star + 1, word.len());
         return repeat(out, at, piece, times);
     }
-    put(out, at, word)
+    put(out, at, word, 0)
 }
 
 // The bytes of all words of a line from a place on, laid at the start of `out`; how many they are.

@@ -1,4 +1,4 @@
--- `case_words::bytes` is safe and ends: a word keeps the length, and each turn ends past the word that it found.
+-- `cases_text::bytes` is safe and ends: a word keeps the length, and each turn ends past the word that it found.
 use borrow.Author.Needs.{needs}
 use mathlib.Core.Path.{_≡_}
 use Prim.Native.Nat.{_-_}

@@ -1,4 +1,4 @@
--- `case_words::decimal` is safe and ends: a number is cut before it can wrap, and each turn leaves one sign fewer.
+-- `cases_text::decimal` is safe and ends: a number is cut before it can wrap, and each turn leaves one sign fewer.
 use borrow.Author.Needs.{needs}
 use Prim.Native.Nat.{_-_}
 use lib.ListN.{length}
@@ -17,14 +17,14 @@ loop-holds c = search needs
 shared-slice-read-sign : tie.Need-shared-slice-read-sign Inv-loop μ-loop
 shared-slice-read-sign c = search needs
 
-mul-n : tie.Need-mul-n Inv-loop μ-loop
-mul-n c = search needs
+mul-tens : tie.Need-mul-tens Inv-loop μ-loop
+mul-tens c = search needs
 
 digit-requires : tie.Need-digit-requires Inv-loop μ-loop
 digit-requires c κs = search needs
 
-add-n : tie.Need-add-n Inv-loop μ-loop
-add-n c = search needs
+wrapping-add-u64-requires : tie.Need-wrapping-add-u64-requires Inv-loop μ-loop
+wrapping-add-u64-requires c κs = search needs
 
 add-i : tie.Need-add-i Inv-loop μ-loop
 add-i c = search needs
@@ -46,9 +46,9 @@ decimal-spec =
     μ-loop
     loop-holds
     shared-slice-read-sign
-    mul-n
+    mul-tens
     digit-requires
-    add-n
+    wrapping-add-u64-requires
     add-i
     loop-less
     loop-again

@@ -1,4 +1,4 @@
--- `case_words::find` is safe and ends: the place only grows, and each turn leaves one sign fewer.
+-- `cases_text::find` is safe and ends: the place only grows, and each turn leaves one sign fewer.
 use borrow.Author.Needs.{needs}
 use Prim.Native.Nat.{_-_, _≤_}
 use lib.ListN.{length}

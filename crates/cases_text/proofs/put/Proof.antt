@@ -1,4 +1,4 @@
--- `case_words::put` is safe and ends: a store keeps the length, and each turn leaves two signs fewer.
+-- `cases_text::put` is safe and ends: a store keeps the length, and each turn leaves two signs fewer.
 use borrow.Author.Needs.{needs}
 use mathlib.Core.Path.{_≡_}
 use Prim.Native.Nat.{_-_, _≤_}
@@ -7,10 +7,10 @@ use Rattle.cases_text.proofs.put.Statement.{statement}
 use Rattle.cases_text.proofs.put.Tie as tie
 
 abbrev Inv-loop : tie.InvT-loop
-Inv-loop out₀ at word end₀ low₀ out end low = (length out ≡ length out₀) × (1 ≤ low)
+Inv-loop out₀ at word before end₀ low₀ out end low = (length out ≡ length out₀) × (1 ≤ low)
 
 abbrev μ-loop : tie.MeasureT-loop
-μ-loop out₀ at word end₀ low₀ out end low = length word - low
+μ-loop out₀ at word before end₀ low₀ out end low = length word - low
 
 loop-holds : tie.Need-loop-holds Inv-loop μ-loop
 loop-holds c = search needs

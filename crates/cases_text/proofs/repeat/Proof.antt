@@ -1,15 +1,16 @@
--- `case_words::repeat` is safe and ends: a word keeps the length, and the times that are left fall.
+-- `cases_text::repeat` is safe and ends: a word keeps the length, and each turn leaves one time fewer.
 use borrow.Author.Needs.{needs}
 use mathlib.Core.Path.{_≡_}
+use Prim.Native.Nat.{_-_}
 use lib.ListN.{length}
 use Rattle.cases_text.proofs.repeat.Statement.{statement}
 use Rattle.cases_text.proofs.repeat.Tie as tie
 
 abbrev Inv-loop : tie.InvT-loop
-Inv-loop out₀ at word times end₀ left₀ out end left = length out ≡ length out₀
+Inv-loop out₀ at word times end₀ before₀ out end before = length out ≡ length out₀
 
 abbrev μ-loop : tie.MeasureT-loop
-μ-loop out₀ at word times end₀ left₀ out end left = left
+μ-loop out₀ at word times end₀ before₀ out end before = times - before
 
 loop-holds : tie.Need-loop-holds Inv-loop μ-loop
 loop-holds c = search needs
@@ -17,8 +18,8 @@ loop-holds c = search needs
 put-requires : tie.Need-put-requires Inv-loop μ-loop
 put-requires c κs = search needs
 
-sub-left : tie.Need-sub-left Inv-loop μ-loop
-sub-left c = search needs
+add-before : tie.Need-add-before Inv-loop μ-loop
+add-before c = search needs
 
 loop-less : tie.Need-loop-less Inv-loop μ-loop
 loop-less c = search needs
@@ -40,7 +41,7 @@ repeat-spec =
     μ-loop
     loop-holds
     put-requires
-    sub-left
+    add-before
     loop-less
     loop-again
     same-length

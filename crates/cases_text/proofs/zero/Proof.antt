@@ -1,4 +1,4 @@
--- `case_words::zero` is safe and ends: each turn leaves one word fewer.
+-- `cases_text::zero` is safe and ends: each turn leaves one word fewer.
 use borrow.Author.Needs.{needs}
 use Prim.Native.Nat.{_-_}
 use lib.ListN.{length}

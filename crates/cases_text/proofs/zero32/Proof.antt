@@ -1,4 +1,4 @@
--- `case_words::zero32` is safe and ends: each turn leaves one word fewer.
+-- `cases_text::zero32` is safe and ends: each turn leaves one word fewer.
 use borrow.Author.Needs.{needs}
 use Prim.Native.Nat.{_-_}
 use lib.ListN.{length}

@@ -1,4 +1,4 @@
--- `run_cases::lines::all` is safe and ends: a line keeps the lengths, and each turn ends past the line that it found.
+-- `cases_run::lines::all` is safe and ends: a line keeps the lengths, and each turn ends past the line that it found.
 use borrow.Author.Needs.{needs}
 use mathlib.Core.Path.{_≡_}
 use Prim.Native.Nat.{_-_}

@@ -1,4 +1,4 @@
--- `run_cases::telling::same` is safe and ends: each turn leaves one word fewer.
+-- `cases_run::telling::same` is safe and ends: each turn leaves one word fewer.
 use borrow.Author.Needs.{needs}
 use Prim.Native.Nat.{_-_}
 use lib.ListN.{length}

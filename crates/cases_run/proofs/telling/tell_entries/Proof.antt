@@ -1,4 +1,4 @@
--- `run_cases::telling::tell_entries` is safe and ends: each turn leaves one entry fewer.
+-- `cases_run::telling::tell_entries` is safe and ends: each turn leaves one entry fewer.
 use borrow.Author.Needs.{needs}
 use Rattle.cases_run.proofs.telling.tell_entries.Statement.{statement}
 use Rattle.cases_run.proofs.telling.tell_entries.Tie as tie

@@ -1,4 +1,4 @@
--- `run_cases::telling::widen` is safe and ends: a store keeps the length, and each turn leaves one word fewer.
+-- `cases_run::telling::widen` is safe and ends: a store keeps the length, and each turn leaves one word fewer.
 use borrow.Author.Needs.{needs}
 use mathlib.Core.Path.{_≡_}
 use Prim.Native.Nat.{_-_}

@@ -1,4 +1,4 @@
--- `section_cases::asking::same_words` is safe and ends: the lengths are equal, and each turn leaves one word fewer.
+-- `cases_section::asking::same_words` is safe and ends: the lengths are equal, and each turn leaves one word fewer.
 use borrow.Author.Needs.{needs}
 use Prim.Native.Nat.{_-_}
 use lib.ListN.{length}

@@ -1,4 +1,4 @@
--- `section_cases::asking::tell_bytes` is safe and ends: each turn leaves one byte fewer.
+-- `cases_section::asking::tell_bytes` is safe and ends: each turn leaves one byte fewer.
 use borrow.Author.Needs.{needs}
 use Prim.Native.Nat.{_-_}
 use lib.ListN.{length}
