@@ -1,8 +1,8 @@
--- `chelbugan::tell_asked` meets its contract: what is told is read off the answer's case.
+-- `chelbugan_told::tell_asked` meets its contract: what is told is read off the answer's case.
 use borrow.Author.Needs.{needs}
-use Rattle.chelbugan.proofs.Telling.{asked-exits}
-use Rattle.chelbugan.proofs.tell_asked.Statement.{statement}
-use Rattle.chelbugan.proofs.tell_asked.Tie as tie
+use Rattle.chelbugan_told.proofs.Exits.{asked-exits}
+use Rattle.chelbugan_told.proofs.tell_asked.Statement.{statement}
+use Rattle.chelbugan_told.proofs.tell_asked.Tie as tie
 
 enum-known-asked : tie.Need-enum-known-asked
 enum-known-asked c = search needs

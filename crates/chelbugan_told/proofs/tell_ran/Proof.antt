@@ -1,8 +1,8 @@
--- `chelbugan::tell_ran` meets its contract: what is told is read off the answer's case.
+-- `chelbugan_told::tell_ran` meets its contract: what is told is read off the answer's case.
 use borrow.Author.Needs.{needs}
-use Rattle.chelbugan.proofs.Telling.{ran-exits}
-use Rattle.chelbugan.proofs.tell_ran.Statement.{statement}
-use Rattle.chelbugan.proofs.tell_ran.Tie as tie
+use Rattle.chelbugan_told.proofs.Exits.{ran-exits}
+use Rattle.chelbugan_told.proofs.tell_ran.Statement.{statement}
+use Rattle.chelbugan_told.proofs.tell_ran.Tie as tie
 
 enum-known-ran : tie.Need-enum-known-ran
 enum-known-ran c = search needs

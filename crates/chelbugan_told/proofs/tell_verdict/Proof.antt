@@ -1,8 +1,8 @@
--- `chelbugan::tell_verdict` meets its contract: what is told is read off the verdict's case.
+-- `chelbugan_told::tell_verdict` meets its contract: what is told is read off the verdict's case.
 use borrow.Author.Needs.{needs}
-use Rattle.chelbugan.proofs.Telling.{verdict-exits}
-use Rattle.chelbugan.proofs.tell_verdict.Statement.{statement}
-use Rattle.chelbugan.proofs.tell_verdict.Tie as tie
+use Rattle.chelbugan_told.proofs.Exits.{verdict-exits}
+use Rattle.chelbugan_told.proofs.tell_verdict.Statement.{statement}
+use Rattle.chelbugan_told.proofs.tell_verdict.Tie as tie
 
 enum-known-verdict : tie.Need-enum-known-verdict
 enum-known-verdict c = search needs
