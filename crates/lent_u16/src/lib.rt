@@ -3,7 +3,10 @@
 ghost use mathlib.Core.Path.{_≡_};
 ghost use Prim.Native.Nat.{_%_};
 ghost use lib.ListN.{length, set, replicate};
-ghost use Rattle.lent_u16.specs.Words.{WordAt};
+ghost use Rattle.lent_u16.specs.Words.{wordLimit, WordAt};
+
+// The first number that a word cannot hold.
+const LIMIT: u64 = 65536;
 
 // The word at a place, and 0 past the end.
 pub fn word(m: &[u16], at: u64) -> u64
@@ -15,11 +18,11 @@ pub fn word(m: &[u16], at: u64) -> u64
 
 // A number's lowest 16 bits, stored at a place.
 pub fn put(m: &mut [u16], at: u64, v: u64)
-    ensures { λ r. ⌜ now (m .exit) ≡ set (now (m .entry)) at (v % 65536) ⌝ }
+    ensures { λ r. ⌜ now (m .exit) ≡ set (now (m .entry)) at (v % wordLimit) ⌝ }
 {
     let i = at as usize;
     if i < m.len() {
-        m[i] = (v % 65536) as u16;
+        m[i] = (v % LIMIT) as u16;
     }
 }
 

@@ -1,4 +1,4 @@
--- Each way out of a read of the scratch. A store and the wiping loop are those of crate words, whose laws speak of numbers
+-- Each way out of a read of the scratch. A store and the wiping loop are those of crate lent_u16, whose laws speak of numbers
 -- of any width.
 use Prim.Native.Nat.{ℕ, _≤_, _<_, _^_}
 use mathlib.Core.Path.{_≡_, refl, sym}

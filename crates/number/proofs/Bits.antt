@@ -19,7 +19,7 @@ use Rattle.number.specs.declared.Byte.{Byte}
 use Rattle.number.specs.declared.Byte
 use Rattle.number.specs.declared.Leb.{Leb}
 use Rattle.number.specs.declared.Leb
-use Rattle.number.specs.Answers.{byteIs, lebIs, ByteAt, Few, BitsRead}
+use Rattle.number.specs.Answers.{byteIs, byteLimit, lebIs, ByteAt, Few, BitsRead}
 
 -- v of weight w, from k bytes, put below what follows
 abbrev pub above : ℕ → ℕ → ℕ → Bits → Bits
@@ -103,7 +103,7 @@ module _ {s : List ℕ} {at value weight next left : ℕ} (p : Part s at value w
   pub times-bound : {b : ℕ} → b < 128 → weight * b ≤ weight * 127
   times-bound h = mul-le-mul-left weight (omega arith)
 
-  turn-value : {b : ℕ} → b < 256 → value + weight * (b - 128) < weight * 128
+  turn-value : {b : ℕ} → b < byteLimit → value + weight * (b - 128) < weight * 128
   turn-value {b} h = let t : weight * (b - 128) ≤ weight * 127 = mul-le-mul-left weight (omega arith) in let q : value < weight = p .small in omega arith
 
   -- a byte that goes on: seven bits more
@@ -177,10 +177,10 @@ module _ {s : List ℕ} {at value weight next left : ℕ} (p : Part s at value w
       record { fits = omega arith }
 
   pub turn-product-fits : {r : Byte} {b : ℕ} → ByteAt s next r → r ≡ Byte.the-variants.Is b → Fits w64 (weight * (b - 128))
-  turn-product-fits {b = b} a e = product-fits (let h : b < 256 = a .small b e .0 in omega arith)
+  turn-product-fits {b = b} a e = product-fits (let h : b < byteLimit = a .small b e .0 in omega arith)
 
   pub turn-sum-fits : {r : Byte} {b : ℕ} → ByteAt s next r → r ≡ Byte.the-variants.Is b → Fits w64 (value + weight * (b - 128))
-  turn-sum-fits {b = b} a e = sum-fits (let h : b < 256 = a .small b e .0 in omega arith)
+  turn-sum-fits {b = b} a e = sum-fits (let h : b < byteLimit = a .small b e .0 in omega arith)
 
   pub weight-fits : Fits w64 (weight * 128)
   weight-fits = let w : weight ≤ 2 ^ 28 = weight-bound p more in record { fits = omega arith }

@@ -6,6 +6,7 @@ use mathlib.Core.List.{List}
 use lib.ListN.{length}
 use lib.Dec.{ltb, leb}
 use borrow.Author.Tests.{ltb-true, leb-true}
+use Rattle.scope.specs.Refusals.{badNumber}
 use Rattle.scope.specs.Reading.{Read, got, refused}
 use Rattle.scope.specs.Numbers.{Bits, bits, cut, long, bitsAt, greatestLength, inRange, Whole, plus, minus, signed-of, within, unsigned, signed, u32, s33}
 use Rattle.scope.proofs.Forward.{unsigned-takes, signed-takes, never-back}
@@ -48,7 +49,7 @@ range-kept at cut value fits e = impossible cc
 range-kept at long value fits e = impossible cc
 range-kept {A} at (bits v k n) value fits {x} {next} e = go (fits (value v k)) refl e
   where
-    go : (t : Bool) → fits (value v k) ≡ t → cond t (got (value v k) n) (refused 2 at) ≡ got x next → fits x ≡ true
+    go : (t : Bool) → fits (value v k) ≡ t → cond t (got (value v k) n) (refused badNumber at) ≡ got x next → fits x ≡ true
     go true p q = let same : value v k ≡ x = cc in rw same at p
     go false p q = impossible cc
 

@@ -10,6 +10,7 @@ use mir.Val.{Fits}
 use lib.ListN.{length}
 use lib.Dec.{ltb, leb, lit≤}
 use borrow.Author.Tests.{lt-ltb, le-ltb, le-leb, lt-leb}
+use Rattle.scope.specs.Refusals.{bytesEnd, badNumber}
 use Rattle.scope.specs.Reading.{Read, got, refused}
 use Rattle.scope.specs.Numbers.{Bits, bits, cut, long, bitsAt, greatestLength, inRange, Whole, plus, minus, signed-of, within, unsigned, signed, u32, s32, s33}
 use Rattle.scope.proofs.Forward.{Takes, unsigned-takes, signed-takes, never-back}
@@ -42,19 +43,19 @@ leb-long long p q = refl
 -- u32_at
 
 module _ {s : List ℕ} {at : ℕ} {r : Leb} (a : BitsRead s at r) where
-  pub natural-fits : {v k n : ℕ} → r ≡ Leb.the-variants.Bits v k n → v < 4294967296 → Natural.the-variants.Is v n ≡ naturalIs (u32 s at)
+  pub natural-fits : {v k n : ℕ} → r ≡ Leb.the-variants.Bits v k n → v < 2 ^ 32 → Natural.the-variants.Is v n ≡ naturalIs (u32 s at)
   unfolding unsigned
   natural-fits {v} {k} {n} e h = rw (leb-got (bitsAt 5 s at) (a .is) e, lt-ltb v (2 ^ 32) h)
 
-  pub natural-beyond : {v k n : ℕ} → r ≡ Leb.the-variants.Bits v k n → 4294967296 ≤ v → Natural.the-variants.Refused 2 at ≡ naturalIs (u32 s at)
+  pub natural-beyond : {v k n : ℕ} → r ≡ Leb.the-variants.Bits v k n → 2 ^ 32 ≤ v → Natural.the-variants.Refused badNumber at ≡ naturalIs (u32 s at)
   unfolding unsigned
   natural-beyond {v} {k} {n} e h = rw (leb-got (bitsAt 5 s at) (a .is) e, le-ltb v (2 ^ 32) h)
 
-  pub natural-cut : r ≡ Leb.the-variants.Cut → Natural.the-variants.Refused 1 at ≡ naturalIs (u32 s at)
+  pub natural-cut : r ≡ Leb.the-variants.Cut → Natural.the-variants.Refused bytesEnd at ≡ naturalIs (u32 s at)
   unfolding unsigned
   natural-cut e = rw (leb-cut (bitsAt 5 s at) (a .is) e)
 
-  pub natural-long : r ≡ Leb.the-variants.Long → Natural.the-variants.Refused 2 at ≡ naturalIs (u32 s at)
+  pub natural-long : r ≡ Leb.the-variants.Long → Natural.the-variants.Refused badNumber at ≡ naturalIs (u32 s at)
   unfolding unsigned
   natural-long e = rw (leb-long (bitsAt 5 s at) (a .is) e)
 
@@ -97,7 +98,7 @@ module _ (at half n : ℕ) {v k w : ℕ} (few : Few v k) (sign : SignWeight k w)
   unfolding rangeOf
   plus-fits p q = rw (lt-ltb v (2 ^ (7 * k - 1)) (rw (weight-is few sign) at p), lt-ltb v half q)
 
-  pub plus-beyond : v < w → half ≤ v → Integer.the-variants.Refused 2 at ≡ integerIs (rangeOf at half v k n)
+  pub plus-beyond : v < w → half ≤ v → Integer.the-variants.Refused badNumber at ≡ integerIs (rangeOf at half v k n)
   unfolding rangeOf
   plus-beyond p q = rw (lt-ltb v (2 ^ (7 * k - 1)) (rw (weight-is few sign) at p), le-ltb v half q)
 
@@ -106,7 +107,7 @@ module _ (at half n : ℕ) {v k w : ℕ} (few : Few v k) (sign : SignWeight k w)
   minus-fits p q =
       rw (le-ltb v (2 ^ (7 * k - 1)) (rw (weight-is few sign) at p), ← twice-is few sign, le-leb (2 * w - v) half q)
 
-  pub minus-beyond : w ≤ v → half < 2 * w - v → Integer.the-variants.Refused 2 at ≡ integerIs (rangeOf at half v k n)
+  pub minus-beyond : w ≤ v → half < 2 * w - v → Integer.the-variants.Refused badNumber at ≡ integerIs (rangeOf at half v k n)
   unfolding rangeOf
   minus-beyond p q =
       rw (le-ltb v (2 ^ (7 * k - 1)) (rw (weight-is few sign) at p), ← twice-is few sign, lt-leb (2 * w - v) half q)
@@ -143,10 +144,10 @@ module _ {s : List ℕ} {at half : ℕ} {r : Leb} (a : BitsRead s at r) where
             f ∙ ap integerIs (range-is at half width h v k n ∙ sym (signed-is width s at l (leb-got (bitsAt 5 s at) (a .is) e)));
       }
 
-  pub signed-cut : r ≡ Leb.the-variants.Cut → SignedRead s at half (Integer.the-variants.Refused 1 at)
+  pub signed-cut : r ≡ Leb.the-variants.Cut → SignedRead s at half (Integer.the-variants.Refused bytesEnd at)
   signed-cut e = record { is = λ width l h. ap integerIs (sym (signed-is width s at l (leb-cut (bitsAt 5 s at) (a .is) e))) }
 
-  pub signed-long : r ≡ Leb.the-variants.Long → SignedRead s at half (Integer.the-variants.Refused 2 at)
+  pub signed-long : r ≡ Leb.the-variants.Long → SignedRead s at half (Integer.the-variants.Refused badNumber at)
   signed-long e = record { is = λ width l h. ap integerIs (sym (signed-is width s at l (leb-long (bitsAt 5 s at) (a .is) e))) }
 
 pub few-bits : {s : List ℕ} {at : ℕ} {r : Leb} {v k n : ℕ} → BitsRead s at r → r ≡ Leb.the-variants.Bits v k n → Few v k
@@ -156,8 +157,8 @@ pub ruleset width-exits = (signed-got, signed-cut, signed-long, few-bits)
 
 -- the two widths
 
-pub s32-read : {s : List ℕ} {at : ℕ} {r : Integer} → SignedRead s at 2147483648 r → r ≡ integerIs (s32 s at)
+pub s32-read : {s : List ℕ} {at : ℕ} {r : Integer} → SignedRead s at (2 ^ 31) r → r ≡ integerIs (s32 s at)
 s32-read a = a .is 32 refl refl
 
-pub s33-read : {s : List ℕ} {at : ℕ} {r : Integer} → SignedRead s at 4294967296 r → r ≡ integerIs (s33 s at)
+pub s33-read : {s : List ℕ} {at : ℕ} {r : Integer} → SignedRead s at (2 ^ 32) r → r ≡ integerIs (s33 s at)
 s33-read a = a .is 33 refl refl

@@ -21,9 +21,13 @@ abbrev pub byteIs : Option ℕ → Byte
 byteIs none = Byte.the-variants.Missing
 byteIs (some b) = Byte.the-variants.Is b
 
+-- the first number that is no byte
+abbrev pub byteLimit : ℕ
+byteLimit = 256
+
 pub record ByteAt (s : List ℕ) (at : ℕ) (r : Byte) : Type 0 where
   pub is : r ≡ byteIs (getElem? s at)
-  pub small : (b : ℕ) → r ≡ Byte.the-variants.Is b → (b < 256) × (at < length s)
+  pub small : (b : ℕ) → r ≡ Byte.the-variants.Is b → (b < byteLimit) × (at < length s)
 
 abbrev pub lebIs : Bits → Leb
 lebIs (bits v k next) = Leb.the-variants.Bits v k next

@@ -1,8 +1,17 @@
 // Reading LEB128 numbers of 32 and 33 bits: the items of which all else is made. Each answer is that of the definition of
 // document 01 (specs/Answers.antt), on any bytes and at any place.
+use scope::refusals;
 ghost use mathlib.Core.Path.{_≡_};
 ghost use Rattle.scope.specs.Numbers.{u32, s32, s33};
 ghost use Rattle.number.specs.Answers.{ByteAt, Few, BitsRead, naturalIs, SignWeight, rangeOf, SignedRead, integerIs};
+
+// The first number that is no u32.
+const U32_LIMIT: u64 = 4294967296;
+
+// Half of the numbers of 32 bits, and of 33: a signed one lies from minus that up to it.
+const S32_HALF: u64 = 2147483648;
+
+const S33_HALF: u64 = 4294967296;
 
 // A byte of the input, or none where the place lies past its end.
 pub enum Byte {
@@ -63,14 +72,14 @@ pub fn u32_at(s: &[u8], at: usize) -> Natural
     let read = leb_at(s, at);
     match read {
         Leb::Bits(value, _, next) => {
-            if value < 4294967296 {
+            if value < U32_LIMIT {
                 Natural::Is(value, next)
             } else {
-                Natural::Refused(2, at)
+                Natural::Refused(refusals::BAD_NUMBER, at)
             }
         }
-        Leb::Cut => Natural::Refused(1, at),
-        Leb::Long => Natural::Refused(2, at),
+        Leb::Cut => Natural::Refused(refusals::BYTES_END, at),
+        Leb::Long => Natural::Refused(refusals::BAD_NUMBER, at),
     }
 }
 
@@ -104,13 +113,13 @@ fn signed_of(value: u64, count: u64, next: usize, at: usize, half: u64) -> Integ
         if value < half {
             return Integer::Plus(value, next);
         }
-        return Integer::Refused(2, at);
+        return Integer::Refused(refusals::BAD_NUMBER, at);
     }
     let under = 2 * sign - value;
     if under <= half {
         return Integer::Minus(under, next);
     }
-    Integer::Refused(2, at)
+    Integer::Refused(refusals::BAD_NUMBER, at)
 }
 
 // A whole number of a width of five bytes, in the range from -half up to half.
@@ -120,19 +129,19 @@ fn signed_at(s: &[u8], at: usize, half: u64) -> Integer
     let read = leb_at(s, at);
     match read {
         Leb::Bits(value, count, next) => signed_of(value, count, next, at, half),
-        Leb::Cut => Integer::Refused(1, at),
-        Leb::Long => Integer::Refused(2, at),
+        Leb::Cut => Integer::Refused(refusals::BYTES_END, at),
+        Leb::Long => Integer::Refused(refusals::BAD_NUMBER, at),
     }
 }
 
 pub fn s32_at(s: &[u8], at: usize) -> Integer
     ensures { λ r. ⌜ r ≡ integerIs (s32 (now (s .entry)) at) ⌝ }
 {
-    signed_at(s, at, 2147483648)
+    signed_at(s, at, S32_HALF)
 }
 
 pub fn s33_at(s: &[u8], at: usize) -> Integer
     ensures { λ r. ⌜ r ≡ integerIs (s33 (now (s .entry)) at) ⌝ }
 {
-    signed_at(s, at, 4294967296)
+    signed_at(s, at, S33_HALF)
 }

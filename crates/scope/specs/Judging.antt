@@ -15,7 +15,8 @@ use Rattle.scope.specs.Syntax.{Definition, Group, Types, typesOf}
 use Rattle.scope.specs.Sections.{readSection}
 use Rattle.scope.specs.TypeRules.{inReach, superEarlierAndOpen, shortChain, matchesSuper, clausesOnStruct, describesEarlier, clausesAgree, descriptorFollows, describesFollows}
 
--- what is accepted, or a refusal's number and place
+-- what is accepted, or a refusal's number and place. No is `rejected` of what is judged, `refused` of what is read
+-- (Reading.antt), and `Refused` in every enum of the code.
 pub data Judged (A : Type 0) : Type 0 where
   accepted : A → Judged A
   rejected : ℕ → ℕ → Judged A

@@ -6,7 +6,8 @@ use mathlib.Core.List.{List, [], _∷_}
 use lib.ListN.{getElem?}
 use Rattle.scope.specs.Refusals.{bytesEnd, oversize}
 
--- a value with the place after its bytes, or a refusal's number and place
+-- a value with the place after its bytes, or a refusal's number and place. No is `refused` of what is read, `rejected` of what
+-- is judged (Judging.antt), and `Refused` in every enum of the code.
 pub data Read (A : Type 0) : Type 0 where
   got : A → ℕ → Read A
   refused : ℕ → ℕ → Read A

@@ -1,4 +1,4 @@
--- `words::wipe` meets its contract: after i turns the first i words are 0.
+-- `lent_u16::wipe` meets its contract: after i turns the first i words are 0.
 use borrow.Author.Needs.{needs}
 use Prim.Native.Nat.{_-_}
 use lib.ListN.{length}

@@ -1,4 +1,4 @@
--- `words::word` meets its contract: a word of 16 bits is there where the place is below the length.
+-- `lent_u16::word` meets its contract: a word of 16 bits is there where the place is below the length.
 use borrow.Author.Needs.{needs}
 use native.Mathlib.Omega.{arith}
 use Rattle.lent_u16.proofs.Laws.{word-there, word-exits}

@@ -1,4 +1,4 @@
--- `scratch::put32` meets its contract: out of range, a store to a list leaves it as it was.
+-- `lent_u32::put32` meets its contract: out of range, a store to a list leaves it as it was.
 use borrow.Author.Needs.{needs}
 use Rattle.lent_u16.proofs.Laws.{put-exits}
 use Rattle.lent_u32.proofs.put32.Statement.{statement}

@@ -1,4 +1,4 @@
--- `scratch::wipe32` meets its contract: after i turns the first i words are 0.
+-- `lent_u32::wipe32` meets its contract: after i turns the first i words are 0.
 use borrow.Author.Needs.{needs}
 use Prim.Native.Nat.{_-_}
 use lib.ListN.{length}

@@ -1,4 +1,4 @@
--- `scratch::word32` meets its contract: a word of 32 bits is there where the place is below the length.
+-- `lent_u32::word32` meets its contract: a word of 32 bits is there where the place is below the length.
 use borrow.Author.Needs.{needs}
 use native.Mathlib.Omega.{arith}
 use Rattle.lent_u32.proofs.Reading.{word-there, word-exits}
