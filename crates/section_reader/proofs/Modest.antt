@@ -11,6 +11,7 @@ use native.Mathlib.Omega.{arith}
 use lib.ListN.{length, length-append, getElem?}
 use lib.Dec.{ltb, eqb}
 use borrow.Author.Tests.{eqb-true, ltb-true, ltb-false}
+use Rattle.scope.specs.Refusals.{bytesEnd}
 use Rattle.scope.specs.Sizes.{mostBytes, mostTypes, mostEach}
 use Rattle.scope.specs.Reading.{Read, got, refused, Reader, given, then, onByte, entries}
 use Rattle.scope.specs.Numbers.{u32}
@@ -58,7 +59,7 @@ module _ {A : Type 0} {P : A → ℕ → Type 0} where
   gives-byte : (s : List ℕ) (at : ℕ) (f : ℕ → Read A) → ((b : ℕ) → Gives P (f b)) → Gives P (onByte s at f)
   gives-byte s at f h = go (getElem? s at)
     where
-      go : (o : Option ℕ) → Gives P (given o (refused 1 at) f)
+      go : (o : Option ℕ) → Gives P (given o (refused bytesEnd at) f)
       go none = gives-none
       go (some b) = h b
 
@@ -226,7 +227,7 @@ each-reach (one-more m more) zero = let far = m .far in omega arith
 each-reach (one-more m more) (suc x) = each-reach more x
 
 pub read-reach : (s : List ℕ) {gs : List Group} {end : ℕ} → readSection s ≡ got gs end → ReachWithin (typesOf (joined gs))
-read-reach s e = record { within = each-reach (read-fits s e .each) }
+read-reach s e = record { low = each-reach (read-fits s e .each) }
 
 pub read-lengths : (s : List ℕ) {gs : List Group} {end : ℕ} → readSection s ≡ got gs end → (length (joined gs) ≤ mostTypes) × (length (codesOf (keptAll (joined gs))) ≤ mostBytes)
 read-lengths s e = let fits = read-fits s e in (fits .types, fits .codes)

@@ -29,14 +29,14 @@ row-at {rows} {a} {k} d e p =
     ∙ ap (λ (x : Abstract). coded (row x)) (p .same)
 
 -- a number of 10 or more is read as the last row
-past : (l : List Abstract) (k : ℕ) → length l ≤ k → getD l k ARRAY ≡ ARRAY
-past [] k h = refl
-past (x ∷ l) zero h = absurd (not-suc-le-zero h)
-past (x ∷ l) (suc k) h = past l k (le-of-suc-le-suc h)
+out-of-list : (l : List Abstract) (k : ℕ) → length l ≤ k → getD l k ARRAY ≡ ARRAY
+out-of-list [] k h = refl
+out-of-list (x ∷ l) zero h = absurd (not-suc-le-zero h)
+out-of-list (x ∷ l) (suc k) h = out-of-list l k (le-of-suc-le-suc h)
 
 pub last-row : {a : ℕ} → 10 ≤ a → RowNumber a 9
 unfolding abstractAt
-last-row {a} h = record { small = omega arith; same = sym (past ten a h) }
+last-row {a} h = record { small = omega arith; same = sym (out-of-list ten a h) }
 
 -- the parts of a row
 module _ {h : HeapRow} (x : Row) (e : h ≡ coded x) where

@@ -6,19 +6,20 @@ use native.Mathlib.Omega.{arith}
 use mathlib.Core.Path.{_≡_, refl, ap, _∙_}
 use mathlib.Core.List.{List, [], _∷_, _++_, append-assoc}
 use lib.ListN.{length, length-append}
+use Rattle.scope.specs.Layout.{rowSpan}
 use Rattle.scope.specs.Syntax.{Form, struct, func, Definition}
 use Rattle.scope.specs.Memory.{formCodes, formWords}
-use Rattle.type_table.specs.View.{rowSize, row, rowsOf, codesOf}
+use Rattle.type_table.specs.View.{row, rowsOf, codesOf}
 
 form-length : (f : Form) → length (formWords f) ≡ 3
 form-length (struct fs) = refl
 form-length (func ps rs) = refl
 
-pub row-length : (first : ℕ) (d : Definition) → length (row first d) ≡ rowSize
+pub row-length : (first : ℕ) (d : Definition) → length (row first d) ≡ rowSpan
 unfolding row
 row-length first d = length-append (formWords (d .form)) _ ∙ ap (λ n. n + 9) (form-length (d .form))
 
-pub rows-length : (first : ℕ) (ds : List Definition) → length (rowsOf first ds) ≡ rowSize * length ds
+pub rows-length : (first : ℕ) (ds : List Definition) → length (rowsOf first ds) ≡ rowSpan * length ds
 unfolding rowsOf
 rows-length first [] = refl
 rows-length first (d ∷ ds) =

@@ -124,8 +124,8 @@ module _ {r : ℕ} (h : r ≤ beyond) where
       sames : (f : Form) → below r (formNames f) ≡ true → keptForm f ≡ f
       sames (struct fs) e = ap struct (fields .same fs e)
       sames (func ps rs) e =
-          let (along, after) = from-append r (joined (map valNames ps)) (joined (map valNames rs)) e in
-          ap₂ func (vals .same ps along) (vals .same rs after)
+          let (first, second) = from-append r (joined (map valNames ps)) (joined (map valNames rs)) e in
+          ap₂ func (vals .same ps first) (vals .same rs second)
 
   supers-reach : (supers : List ℕ) → below r (keptSupers supers) ≡ below r supers
   supers-reach [] = refl

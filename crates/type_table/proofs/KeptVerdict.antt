@@ -49,7 +49,7 @@ keptTypes ts x = keptDefinition (ts x)
 
 -- no group reaches a number that stands for one out of reach
 pub record ReachWithin (ts : Types) : Type 0 where
-  pub within : (x : ℕ) → ts x .reach ≤ beyond
+  pub low : (x : ℕ) → ts x .reach ≤ beyond
 
 -- what is kept of the type is the type, and its supertype is earlier
 record Settled (ts : Types) (x : ℕ) : Type 0 where
@@ -86,15 +86,15 @@ same-fault {a} {b} {later} {later′} number e same = rw e (go b same)
 module _ (ts : Types) (bound : ReachWithin ts) where
   kept-in-reach : (x : ℕ) → inReach (keptTypes ts) x ≡ inReach ts x
   unfolding inReach keptDefinition
-  kept-in-reach x = definition-reach (bound .within x) (ts x)
+  kept-in-reach x = definition-reach (bound .low x) (ts x)
 
   kept-super : (x : ℕ) → inReach ts x ≡ true → superEarlierAndOpen (keptTypes ts) x ≡ superEarlierAndOpen ts x
   unfolding inReach superEarlierAndOpen keptDefinition
-  kept-super x e = kept-one-super ts x (ts x .supers) (bound .within x) (parts-below (ts x .reach) (ts x) e .supers)
+  kept-super x e = kept-one-super ts x (ts x .supers) (bound .low x) (parts-below (ts x .reach) (ts x) e .supers)
 
   in-reach-settled : (x : ℕ) → inReach ts x ≡ true → superEarlierAndOpen ts x ≡ true → Settled ts x
   unfolding inReach
-  in-reach-settled x e f = record { same = definition-same (bound .within x) (ts x) (super-alone ts x f) e; super = f }
+  in-reach-settled x e f = record { same = definition-same (bound .low x) (ts x) (super-alone ts x f) e; super = f }
 
   no-fault-settled : (x : ℕ) → linksFault ts x ≡ none → Settled ts x
   no-fault-settled x e = let links = links-kept ts x e in in-reach-settled x (links .reach) (links .super)
@@ -129,7 +129,7 @@ module _ (ds : List Definition) (bound : ReachWithin (typesOf ds)) where
     where
       go : (x : ℕ) → (ltb x (length ds) ≡ true) ⊎ (ltb x (length ds) ≡ false) → linksFault (typesOf ds) x ≡ none
       go x (inl inside) = scan-met-none (linksFault (typesOf ds)) 0 (length ds) e x (omega arith) (omega (arith, ltb-true))
-      go x (inr past) = blank-no-fault (typesOf ds) x (List·getD-eq-default ds blank (ltb-false _ _ past)) .0
+      go x (inr out) = blank-no-fault (typesOf ds) x (List·getD-eq-default ds blank (ltb-false _ _ out)) .0
 
   kept-links : scan (linksFault (typesOf (map keptDefinition ds))) 0 (length ds) ≡ scan (linksFault (typesOf ds)) 0 (length ds)
   kept-links =

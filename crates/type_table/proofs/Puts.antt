@@ -38,9 +38,9 @@ module _ {m m′ : List ℕ} {at : ℕ} {ws : List ℕ} (p : Puts m m′ at ws) 
   pub puts-more : {m″ : List ℕ} {vs : List ℕ} → Puts m′ m″ (at + length ws) vs → Puts m m″ at (ws ++ vs)
   puts-more {m″} {vs} q =
       let room : at + length (ws ++ vs) ≤ length m = simp length-append (omega (arith, q .room, puts-length p)) in
-      let after : drop (at + length ws + length vs) m′ ≡ drop (at + length (ws ++ vs)) m =
+      let behind : drop (at + length ws + length vs) m′ ≡ drop (at + length (ws ++ vs)) m =
       rw (← drop-drop (length vs) (at + length ws) m′, puts-after, drop-drop (length vs) (at + length ws) m, length-append ws vs, add-assoc) in
-      record { room = room; is = q .is ∙ ap₂ (λ x y. x ++ vs ++ y) puts-before after ∙ simp append-assoc }
+      record { room = room; is = q .is ∙ ap₂ (λ x y. x ++ vs ++ y) puts-before behind ∙ simp append-assoc }
 
 pub drop-replicate : (k n a : ℕ) → drop k (replicate n a) ≡ replicate (n - k) a
 drop-replicate zero n a = simp sub-zero

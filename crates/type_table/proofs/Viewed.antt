@@ -11,10 +11,12 @@ use lib.ListN.{length, getD, replicate, length-append, length-map}
 use lib.Seq.{getD-at, getD-append-add}
 use lib.Dec.{eqb}
 use borrow.Author.Tests.{ne-eqb}
+use Rattle.scope.specs.Layout.{rowSpan}
 use Rattle.scope.specs.Lists.{asList}
 use Rattle.scope.specs.Syntax.{Form, struct, func, Definition, typesOf, blank, firstOf}
 use Rattle.scope.specs.Memory.{valCode, fieldCode, formCodes, formWords, flag, orZero}
-use Rattle.type_table.specs.View.{linkAt, codesAt, valAtCode, fieldAtCode, formAtWords, rowSize, wordOf, view, furtherOf, row, rowsOf, codesOf}
+use Rattle.type_table.specs.RowWords.{structForm, funcForm}
+use Rattle.type_table.specs.View.{linkAt, codesAt, valAtCode, fieldAtCode, formAtWords, wordOf, view, furtherOf, row, rowsOf, codesOf}
 use Rattle.type_table.proofs.CodesBack.{val-code, field-code}
 use Rattle.type_table.proofs.Growing.{row-length}
 use Rattle.type_table.proofs.AtMost.{SupersAtMost, first-few, later-few, two-links}
@@ -37,8 +39,8 @@ unfolding formAtWords
 form-back (struct fs) ws pre post first h = ap struct (codes-back fieldAtCode fieldCode field-code fs pre post first h)
 form-back (func ps rs) ws pre post first h =
     let along = codes-back valAtCode valCode val-code ps pre (map valCode rs ++ post) first h in
-    let after = codes-back valAtCode valCode val-code rs (pre ++ map valCode ps) post (first + length ps) (simp (length-append, length-map) (omega arith)) in
-    ap₂ func (simp append-assoc along) (simp append-assoc (simp append-assoc at after))
+    let second = codes-back valAtCode valCode val-code rs (pre ++ map valCode ps) post (first + length ps) (simp (length-append, length-map) (omega arith)) in
+    ap₂ func (simp append-assoc along) (simp append-assoc (simp append-assoc at second))
 
 -- words
 
@@ -57,8 +59,8 @@ flag-back true = refl
 flag-back false = refl
 
 form-word : (f : Form) (ws : List ℕ) (k : ℕ) → getD (formWords f ++ ws) (3 + k) 0 ≡ getD ws k 0
-form-word (struct fs) ws k = getD-append-add (1 ∷ length fs ∷ 0 ∷ []) ws k 0
-form-word (func ps rs) ws k = getD-append-add (2 ∷ length ps ∷ length rs ∷ []) ws k 0
+form-word (struct fs) ws k = getD-append-add (structForm ∷ length fs ∷ 0 ∷ []) ws k 0
+form-word (func ps rs) ws k = getD-append-add (funcForm ∷ length ps ∷ length rs ∷ []) ws k 0
 
 -- rows
 
@@ -82,12 +84,12 @@ row-view d rest pre post first h few =
       reach = word 6 i;
     })
 
-next-word : (r rest : List ℕ) (x k : ℕ) → length r ≡ rowSize → wordOf (r ++ rest) (suc x) k ≡ wordOf rest x k
+next-word : (r rest : List ℕ) (x k : ℕ) → length r ≡ rowSpan → wordOf (r ++ rest) (suc x) k ≡ wordOf rest x k
 next-word r rest x k h =
-    let place : rowSize * suc x + k ≡ length r + (rowSize * x + k) = omega arith in
-    rw place (getD-append-add r rest (rowSize * x + k) 0)
+    let place : rowSpan * suc x + k ≡ length r + (rowSpan * x + k) = omega arith in
+    rw place (getD-append-add r rest (rowSpan * x + k) 0)
 
-next-view : (r rest codes : List ℕ) (x : ℕ) → length r ≡ rowSize → view (r ++ rest) codes (suc x) ≡ view rest codes x
+next-view : (r rest codes : List ℕ) (x : ℕ) → length r ≡ rowSpan → view (r ++ rest) codes (suc x) ≡ view rest codes x
 unfolding view
 next-view r rest codes x h =
     let word : (k : ℕ) → wordOf (r ++ rest) (suc x) k ≡ wordOf rest x k = λ k. next-word r rest x k h in

@@ -1,3 +1,4 @@
 pub mod Kept
+pub mod RowWords
 pub mod View
 pub mod Answers

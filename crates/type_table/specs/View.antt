@@ -1,17 +1,18 @@
 -- What the words of the lent table say: a total reading of rows and codes as types by number, over which the rules are
--- stated. Words of zero say `blank`. A row has twelve words, in the order of scope's Memory.antt (rowWords); the last is
--- one more than the greatest further supertype, 0 where there is at most one.
+-- stated. Words of zero say `blank`. RowWords.antt names the words of a row.
 use Prim.Native.Nat.{ℕ, zero, suc, _+_, _-_, _*_, _/_, _%_}
 use mathlib.Core.Bool.{Bool, true, false, cond}
 use mathlib.Core.Option.{Option, none, some}
 use mathlib.Core.List.{List, [], _∷_, _++_, map}
 use lib.ListN.{getD, length}
 use lib.Dec.{eqb, ltb}
+use Rattle.scope.specs.Layout.{rowSpan}
 use Rattle.scope.specs.Reading.{given}
 use Rattle.scope.specs.Lists.{asList}
 use Rattle.scope.specs.Syntax.{Heap, abstract, defined, exact, Number, i32, i64, f32, f64, Val, num, ref, Field, Form, struct, func, Definition, Types, firstOf}
 use Rattle.scope.specs.Memory.{formCodes, formWords, flag, orZero}
 use Rattle.type_abstract.specs.Heaps.{abstractAt}
+use Rattle.type_table.specs.RowWords.{formWord, countWord, resultsWord, openWord, superWord, describesWord, descriptorWord, fromWord, toWord, reachWord, firstWord, furtherWord, funcForm}
 
 -- codes
 
@@ -38,33 +39,30 @@ codesAt f codes at (suc n) = f (getD codes at 0) ∷ codesAt f codes (at + 1) n
 
 -- rows
 
-abbrev pub rowSize : ℕ
-rowSize = 12
-
 -- word k of row x
 abbrev pub wordOf : List ℕ → ℕ → ℕ → ℕ
-wordOf rows x k = getD rows (rowSize * x + k) 0
+wordOf rows x k = getD rows (rowSpan * x + k) 0
 
 -- 0 is none, else one more than the number
 abbrev pub linkAt : ℕ → Option ℕ
 linkAt w = cond (eqb w 0) none (some (w - 1))
 
--- 1 struct, 2 function; where its codes start; how many fields or parameters; how many results
+-- the form's word; where its codes start; how many fields or parameters; how many results
 unfoldable pub formAtWords : List ℕ → ℕ → ℕ → ℕ → ℕ → Form
 formAtWords codes kind first n m =
-    cond (eqb kind 2) (func (codesAt valAtCode codes first n) (codesAt valAtCode codes (first + n) m)) (struct (codesAt fieldAtCode codes first n))
+    cond (eqb kind funcForm) (func (codesAt valAtCode codes first n) (codesAt valAtCode codes (first + n) m)) (struct (codesAt fieldAtCode codes first n))
 
 unfoldable pub view : List ℕ → List ℕ → Types
 view rows codes x =
     record {
-      isOpen = eqb (wordOf rows x 3) 1;
-      supers = asList (linkAt (wordOf rows x 4)) ++ asList (linkAt (wordOf rows x 11));
-      describes = linkAt (wordOf rows x 5);
-      descriptor = linkAt (wordOf rows x 6);
-      form = formAtWords codes (wordOf rows x 0) (wordOf rows x 10) (wordOf rows x 1) (wordOf rows x 2);
-      from = wordOf rows x 7;
-      to = wordOf rows x 8;
-      reach = wordOf rows x 9;
+      isOpen = eqb (wordOf rows x openWord) 1;
+      supers = asList (linkAt (wordOf rows x superWord)) ++ asList (linkAt (wordOf rows x furtherWord));
+      describes = linkAt (wordOf rows x describesWord);
+      descriptor = linkAt (wordOf rows x descriptorWord);
+      form = formAtWords codes (wordOf rows x formWord) (wordOf rows x firstWord) (wordOf rows x countWord) (wordOf rows x resultsWord);
+      from = wordOf rows x fromWord;
+      to = wordOf rows x toWord;
+      reach = wordOf rows x reachWord;
     }
 
 -- the row of a definition whose codes start at `first`

@@ -1,17 +1,17 @@
 // The lent table of types, read: each question about a type by number, and what a code says. Every answer is what the
 // table's words say (specs/View.antt), for any words and any number: a number that names no row reads as words of zero.
+use scope::sizes;
 ghost use mathlib.Core.Path.{_≡_};
 ghost use Prim.Native.Nat.{_+_, _*_};
+ghost use Rattle.scope.specs.Layout.{rowSpan};
 ghost use Rattle.scope.specs.Syntax.{superOf};
 ghost use Rattle.scope.specs.TypeRules.{isStruct};
 ghost use Rattle.lent_u16.specs.Words.{WordAt};
 ghost use Rattle.type_table.specs.View.{heapAtCode, valAtCode, linkAt, view};
 ghost use Rattle.type_table.specs.Answers.{linkIs, heapIs, valIs, supersList, shapeForm};
 
-// The words of a row, in the order of specs/View.antt.
-const ROW: u64 = 12;
-
-const KIND: u8 = 0;
+// The words of a row, as specs/RowWords.antt has them.
+const FORM: u8 = 0;
 
 const COUNT: u8 = 1;
 
@@ -34,6 +34,14 @@ const REACH: u8 = 9;
 const FIRST: u8 = 10;
 
 const FURTHER: u8 = 11;
+
+// What a row's first word says of its form.
+pub const STRUCT: u64 = 1;
+
+pub const FUNC: u64 = 2;
+
+// The number as which every type number that names no type is kept (specs/Kept.antt).
+pub const BEYOND: u64 = 4095;
 
 // No lent memory has a row of this number or a higher one, and a lower one's place fits 64 bits.
 const NO_ROW: u64 = 1152921504606846976;
@@ -72,13 +80,20 @@ pub enum ValKind {
 
 // A word of a row.
 fn row_word(rows: &[u16], x: u64, k: u8) -> u64
-    ensures { λ r. ⌜ WordAt (now (rows .entry)) (12 * x + k) r ⌝ }
+    ensures { λ r. ⌜ WordAt (now (rows .entry)) (rowSpan * x + k) r ⌝ }
 {
     if x < NO_ROW {
-        lent_u16::word(rows, ROW * x + k as u64)
+        lent_u16::word(rows, sizes::ROW * x + k as u64)
     } else {
         0
     }
+}
+
+// A code: the word at a place of the codes. No other crate reads one by its place alone.
+pub fn code_word(codes: &[u16], at: u64) -> u64
+    ensures { λ r. ⌜ WordAt (now (codes .entry)) at r ⌝ }
+{
+    lent_u16::word(codes, at)
 }
 
 fn link_of(w: u64) -> Link
@@ -163,7 +178,7 @@ pub fn reach_of(rows: &[u16], codes: &[u16], x: u64) -> u64
 pub fn is_struct(rows: &[u16], codes: &[u16], x: u64) -> bool
     ensures { λ r. ⌜ r ≡ isStruct (view (now (rows .entry)) (now (codes .entry)) x .form) ⌝ }
 {
-    if row_word(rows, x, KIND) == 2 {
+    if row_word(rows, x, FORM) == FUNC {
         false
     } else {
         true
@@ -175,7 +190,7 @@ pub fn shape_of(rows: &[u16], codes: &[u16], x: u64) -> Shape
 {
     let first = row_word(rows, x, FIRST);
     let n = row_word(rows, x, COUNT);
-    if row_word(rows, x, KIND) == 2 {
+    if row_word(rows, x, FORM) == FUNC {
         let m = row_word(rows, x, RESULTS);
         Shape::Func(first as u32, n as u32, (first + n) as u32, m as u32)
     } else {

@@ -1,4 +1,4 @@
--- `heaps::abstract_below` meets its contract: the walk starts at the row of a.
+-- `type_abstract::abstract_below` meets its contract: the walk starts at the row of a.
 use borrow.Author.Needs.{needs}
 use Rattle.type_abstract.proofs.Walking.{walking}
 use Rattle.type_abstract.proofs.abstract_below.Statement.{statement}

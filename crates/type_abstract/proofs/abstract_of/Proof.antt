@@ -1,4 +1,4 @@
--- `heaps::abstract_of` meets its contract: before row k, what the definition answers is what it finds from row k on.
+-- `type_abstract::abstract_of` meets its contract: before row k, what the definition answers is what it finds from row k on.
 use Prim.Native.Nat.{_-_}
 use borrow.Author.Needs.{needs}
 use Rattle.type_abstract.proofs.Finding.{Sought, finding}

@@ -1,4 +1,4 @@
--- `heaps::bottom_of` meets its contract: it is a part of the row.
+-- `type_abstract::bottom_of` meets its contract: it is a part of the row.
 use borrow.Author.Needs.{needs}
 use Rattle.type_abstract.proofs.Table.{bottom-is}
 use Rattle.type_abstract.proofs.bottom_of.Statement.{statement}

@@ -1,4 +1,4 @@
--- `heaps::heap_row` meets its contract. Here the constant table is tested, once and as a whole: `refl` computes that its ten
+-- `type_abstract::heap_row` meets its contract. Here the constant table is tested, once and as a whole: `refl` computes that its ten
 -- rows are those of document 01; row-at gives the fact at the row that is read.
 use mathlib.Core.Path.{refl}
 use borrow.Author.Needs.{needs}

@@ -1,4 +1,4 @@
--- `heaps::row_number` meets its contract: past the table the last row is read.
+-- `type_abstract::row_number` meets its contract: past the table the last row is read.
 use borrow.Author.Needs.{needs}
 use Rattle.type_abstract.proofs.Table.{last-row}
 use Rattle.type_abstract.proofs.row_number.Statement.{statement}

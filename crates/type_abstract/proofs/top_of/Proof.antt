@@ -1,4 +1,4 @@
--- `heaps::top_of` meets its contract: it is a part of the row.
+-- `type_abstract::top_of` meets its contract: it is a part of the row.
 use borrow.Author.Needs.{needs}
 use Rattle.type_abstract.proofs.Table.{top-is}
 use Rattle.type_abstract.proofs.top_of.Statement.{statement}

@@ -1,4 +1,4 @@
--- `table::is_struct` meets its contract: the view reads the same words.
+-- `type_table::is_struct` meets its contract: the view reads the same words.
 use borrow.Author.Needs.{needs}
 use Rattle.type_table.proofs.Rows.{row-exits}
 use Rattle.type_table.proofs.is_struct.Statement.{statement}

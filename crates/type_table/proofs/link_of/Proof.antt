@@ -1,4 +1,4 @@
--- `table::link_of` meets its contract: 0 is none, else one more than the number.
+-- `type_table::link_of` meets its contract: 0 is none, else one more than the number.
 use borrow.Author.Needs.{needs}
 use Rattle.type_table.proofs.Rows.{row-exits}
 use Rattle.type_table.proofs.link_of.Statement.{statement}

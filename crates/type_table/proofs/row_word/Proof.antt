@@ -1,4 +1,4 @@
--- `table::row_word` meets its contract: no lent memory is so long that it has a row beyond the last number.
+-- `type_table::row_word` meets its contract: no lent memory is so long that it has a row beyond the last number.
 use borrow.Author.Needs.{needs}
 use Rattle.type_table.proofs.Rows.{row-exits}
 use Rattle.type_table.proofs.row_word.Statement.{statement}

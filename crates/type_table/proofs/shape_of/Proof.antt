@@ -1,4 +1,4 @@
--- `table::shape_of` meets its contract: the view reads the form from the same words.
+-- `type_table::shape_of` meets its contract: the view reads the form from the same words.
 use borrow.Author.Needs.{needs}
 use Rattle.type_table.proofs.Rows.{row-exits}
 use Rattle.type_table.proofs.shape_of.Statement.{statement}

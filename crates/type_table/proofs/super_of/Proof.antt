@@ -1,4 +1,4 @@
--- `table::super_of` meets its contract: the first word that is not 0 names the supertype, in the view too.
+-- `type_table::super_of` meets its contract: the first word that is not 0 names the supertype, in the view too.
 use borrow.Author.Needs.{needs}
 use Rattle.type_table.proofs.Rows.{row-exits}
 use Rattle.type_table.proofs.super_of.Statement.{statement}

@@ -1,4 +1,4 @@
--- `table::supers_of` meets its contract: each of the two words is 0 or names a supertype, in the view too.
+-- `type_table::supers_of` meets its contract: each of the two words is 0 or names a supertype, in the view too.
 use borrow.Author.Needs.{needs}
 use Rattle.type_table.proofs.Rows.{row-exits}
 use Rattle.type_table.proofs.supers_of.Statement.{statement}

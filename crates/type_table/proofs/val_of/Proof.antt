@@ -1,4 +1,4 @@
--- `table::val_of` meets its contract: each test of a code is one that its reading makes.
+-- `type_table::val_of` meets its contract: each test of a code is one that its reading makes.
 use borrow.Author.Needs.{needs}
 use Rattle.type_table.proofs.Laws.{code-exits}
 use Rattle.type_table.proofs.val_of.Statement.{statement}
