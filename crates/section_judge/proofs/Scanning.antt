@@ -31,9 +31,9 @@ pub judgement-accepted : (o : Judged ℕ) {r : Judgement} {n : ℕ} → r ≡ ju
 judgement-accepted (accepted m) p q = cc
 judgement-accepted (rejected k x) p q = impossible cc
 
-pub judgement-rejected : (o : Judged ℕ) {r : Judgement} {k x : ℕ} → r ≡ judgementIs o → r ≡ Judgement.the-variants.Rejected k x → o ≡ rejected k x
-judgement-rejected (accepted m) p q = impossible cc
-judgement-rejected (rejected j y) p q = cc
+pub judgement-refused : (o : Judged ℕ) {r : Judgement} {k x : ℕ} → r ≡ judgementIs o → r ≡ Judgement.the-variants.Refused k x → o ≡ rejected k x
+judgement-refused (accepted m) p q = impossible cc
+judgement-refused (rejected j y) p q = cc
 
 -- what a pass holds
 
@@ -62,7 +62,7 @@ module _ {fault : ℕ → Option ℕ} {n x left : ℕ} (p : Pass fault n x left)
   next-fits h f = let c : x + left ≡ n = p .count in let g : n < 2 ^ 64 = f .fits in record { fits = omega arith }
 
   module _ (h : 0 < left) {r : Fault} (e : r ≡ faultIs (fault x)) where
-    pub pass-fault : {number : ℕ} → r ≡ Fault.the-variants.Number number → Judgement.the-variants.Rejected number x ≡ judgementIs (scan fault 0 n)
+    pub pass-fault : {number : ℕ} → r ≡ Fault.the-variants.Number number → Judgement.the-variants.Refused number x ≡ judgementIs (scan fault 0 n)
     pass-fault q = sym (ap judgementIs (p .same ∙ one-type fault x left h (fault-number (fault x) e q)))
 
     pub pass-turn : r ≡ Fault.the-variants.Nothing → Pass fault n (x + 1) (left - 1)
@@ -79,10 +79,10 @@ module _ (ts : Types) (n : ℕ) {l : Judgement} (e : l ≡ judgementIs (scan (fa
   unfolding judgeTypes faultOf
   first-pass = refl
 
-  pub links-rejected : {number x : ℕ} → l ≡ Judgement.the-variants.Rejected number x → Judgement.the-variants.Rejected number x ≡ judgementIs (judgeTypes ts n)
-  links-rejected q = rw (first-pass, judgement-rejected (scan (faultOf true ts) 0 n) e q)
+  pub links-refused : {number x : ℕ} → l ≡ Judgement.the-variants.Refused number x → Judgement.the-variants.Refused number x ≡ judgementIs (judgeTypes ts n)
+  links-refused q = rw (first-pass, judgement-refused (scan (faultOf true ts) 0 n) e q)
 
   pub links-accepted : {m : ℕ} {r : Judgement} → l ≡ Judgement.the-variants.Accepted m → r ≡ judgementIs (scan (faultOf false ts) 0 n) → r ≡ judgementIs (judgeTypes ts n)
   links-accepted q p = rw (first-pass, judgement-accepted (scan (faultOf true ts) 0 n) e q) p
 
-pub ruleset judge-exits = (links-rejected, links-accepted)
+pub ruleset judge-exits = (links-refused, links-accepted)

@@ -18,7 +18,7 @@ faultIs (some number) = Fault.the-variants.Number number
 
 abbrev pub judgementIs : Judged ℕ → Judgement
 judgementIs (accepted n) = Judgement.the-variants.Accepted n
-judgementIs (rejected number x) = Judgement.the-variants.Rejected number x
+judgementIs (rejected number x) = Judgement.the-variants.Refused number x
 
 -- 12 and 13, of one type
 unfoldable pub followFault : Types → ℕ → Option ℕ

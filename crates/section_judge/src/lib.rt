@@ -15,7 +15,7 @@ pub enum Fault {
 // How many types are accepted; or a refusal's number and the number of the type at fault.
 pub enum Judgement {
     Accepted(u64),
-    Rejected(u64, u64),
+    Refused(u64, u64),
 }
 
 // Rule 1 and the chain, of one type.
@@ -93,7 +93,7 @@ fn scan_types(rows: &[u16], codes: &[u16], links: bool, n: u64) -> Judgement
     while 0 < left {
         let fault = fault_of(rows, codes, links, x);
         if let Fault::Number(number) = fault {
-            return Judgement::Rejected(number, x);
+            return Judgement::Refused(number, x);
         }
         x = x + 1;
         left = left - 1;
@@ -107,6 +107,6 @@ pub fn judge_types(rows: &[u16], codes: &[u16], n: u64) -> Judgement
     let links = scan_types(rows, codes, true, n);
     match links {
         Judgement::Accepted(_) => scan_types(rows, codes, false, n),
-        Judgement::Rejected(number, x) => Judgement::Rejected(number, x),
+        Judgement::Refused(number, x) => Judgement::Refused(number, x),
     }
 }

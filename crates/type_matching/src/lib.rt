@@ -51,8 +51,8 @@ fn codes_match(rows: &[u16], codes: &[u16], fields: bool, i: u32, n: u32, j: u32
         if left == 0 {
             return false;
         }
-        let a = lent_u16::word(codes, at);
-        let b = lent_u16::word(codes, up);
+        let a = type_table::code_word(codes, at);
+        let b = type_table::code_word(codes, up);
         if !code_matches(rows, codes, fields, a, b) {
             return false;
         }
@@ -69,7 +69,10 @@ fn codes_match(rows: &[u16], codes: &[u16], fields: bool, i: u32, n: u32, j: u32
 
 // A struct of n fields from i on against the form of p.
 fn struct_matches(rows: &[u16], codes: &[u16], i: u32, n: u32, p: u64) -> bool
-    ensures { λ r. ⌜ r ≡ formMatches (view (now (rows .entry)) (now (codes .entry))) (struct (codesAt fieldAtCode (now (codes .entry)) i n)) (view (now (rows .entry)) (now (codes .entry)) p .form) ⌝ }
+    ensures { λ r.
+        let types = view (now (rows .entry)) (now (codes .entry)) in
+        let fields = codesAt fieldAtCode (now (codes .entry)) i n in
+        ⌜ r ≡ formMatches types (struct fields) (types p .form) ⌝ }
 {
     let upper = type_table::shape_of(rows, codes, p);
     match upper {
@@ -80,7 +83,11 @@ fn struct_matches(rows: &[u16], codes: &[u16], i: u32, n: u32, p: u64) -> bool
 
 // A function of n parameters from i on and o results from k on against the form of p: parameters against, results along.
 fn func_matches(rows: &[u16], codes: &[u16], i: u32, n: u32, k: u32, o: u32, p: u64) -> bool
-    ensures { λ r. ⌜ r ≡ formMatches (view (now (rows .entry)) (now (codes .entry))) (func (codesAt valAtCode (now (codes .entry)) i n) (codesAt valAtCode (now (codes .entry)) k o)) (view (now (rows .entry)) (now (codes .entry)) p .form) ⌝ }
+    ensures { λ r.
+        let types = view (now (rows .entry)) (now (codes .entry)) in
+        let parameters = codesAt valAtCode (now (codes .entry)) i n in
+        let results = codesAt valAtCode (now (codes .entry)) k o in
+        ⌜ r ≡ formMatches types (func parameters results) (types p .form) ⌝ }
 {
     let upper = type_table::shape_of(rows, codes, p);
     match upper {
@@ -95,7 +102,9 @@ fn func_matches(rows: &[u16], codes: &[u16], i: u32, n: u32, k: u32, o: u32, p: 
 }
 
 pub fn form_matches(rows: &[u16], codes: &[u16], x: u64, p: u64) -> bool
-    ensures { λ r. ⌜ r ≡ formMatches (view (now (rows .entry)) (now (codes .entry))) (view (now (rows .entry)) (now (codes .entry)) x .form) (view (now (rows .entry)) (now (codes .entry)) p .form) ⌝ }
+    ensures { λ r.
+        let types = view (now (rows .entry)) (now (codes .entry)) in
+        ⌜ r ≡ formMatches types (types x .form) (types p .form) ⌝ }
 {
     let lower = type_table::shape_of(rows, codes, x);
     match lower {

@@ -8,6 +8,7 @@ use mathlib.Core.Option.{Option}
 use native.Mathlib.Omega.{arith}
 use borrow.Author.Tests.{ne-eqb}
 use lib.Dec.{eqb}
+use Rattle.scope.specs.Sizes.{mostSteps}
 use Rattle.scope.specs.Reading.{given}
 use Rattle.scope.specs.Syntax.{Types, superOf}
 use Rattle.scope.specs.Order.{climbs}
@@ -18,9 +19,9 @@ use Rattle.type_table.specs.Answers.{linkIs}
 use Rattle.type_table.proofs.Laws.{link-nothing, link-to}
 
 pub record Climb (ts : Types) (x y at left : ℕ) : Type 0 where
-  pub same : climbs 63 ts x y ≡ climbs left ts at y
+  pub same : climbs mostSteps ts x y ≡ climbs left ts at y
 
-pub climb-first : (ts : Types) (x y : ℕ) → Climb ts x y x 63
+pub climb-first : (ts : Types) (x y : ℕ) → Climb ts x y x mostSteps
 climb-first ts x y = record { same = refl }
 
 -- one step up, from a type that is not the one sought
@@ -35,14 +36,14 @@ no-step ts at y zero h = refl
 no-step ts at y (suc left) h = absurd (omega arith)
 
 module _ {ts : Types} {x y at left : ℕ} (c : Climb ts x y at left) where
-  pub climb-arrived : at ≡ y → true ≡ climbs 63 ts x y
+  pub climb-arrived : at ≡ y → true ≡ climbs mostSteps ts x y
   climb-arrived e = rw (c .same, e, climbs-to-itself left ts y)
 
-  pub climb-spent : left ≤ 0 → eqb at y ≡ climbs 63 ts x y
+  pub climb-spent : left ≤ 0 → eqb at y ≡ climbs mostSteps ts x y
   climb-spent h = sym (c .same ∙ no-step ts at y left h)
 
   module _ (more : 0 < left) (other : at ≡ y → ⊥) {r : Link} (e : r ≡ linkIs (superOf (ts at))) where
-    pub climb-top : r ≡ Link.the-variants.Nothing → false ≡ climbs 63 ts x y
+    pub climb-top : r ≡ Link.the-variants.Nothing → false ≡ climbs mostSteps ts x y
     climb-top q = sym (c .same ∙ step-up ts at y left more other (link-nothing (superOf (ts at)) e q))
 
     pub climb-turn : {p : ℕ} → r ≡ Link.the-variants.To p → Climb ts x y p (left - 1)

@@ -7,6 +7,7 @@ use mathlib.Core.Logic.{_⊎_, inl, inr}
 use borrow.Author.Tests.{eqb-true, eqb-false, ltb-true, ltb-false}
 use lib.Dec.{eqb, ltb}
 use lib.ListN.{List·getD-eq-default}
+use Rattle.scope.specs.Sizes.{mostSteps}
 use Rattle.scope.specs.Abstract.{Abstract, ARRAY, row, sameAbstract, ten}
 use Rattle.scope.specs.Syntax.{Heap, abstract, defined, Form, struct, func, Types}
 use Rattle.scope.specs.Memory.{abstractCode}
@@ -101,7 +102,7 @@ module _ (ts : Types) (h : Heap) {u : HeapKind} (e : u ≡ heapIs h) where
     named-abstract true k = refl
     named-abstract false k = refl
 
-    named-defined : (t : Bool) (y : ℕ) → heapBelow ts (named t x) (defined y) ≡ climbs 63 ts x y
+    named-defined : (t : Bool) (y : ℕ) → heapBelow ts (named t x) (defined y) ≡ climbs mostSteps ts x y
     unfolding heapBelow
     named-defined true y = refl
     named-defined false y = refl
@@ -109,7 +110,7 @@ module _ (ts : Types) (h : Heap) {u : HeapKind} (e : u ≡ heapIs h) where
     pub named-under-abstract : {k : ℕ} {r : Bool} → u ≡ HeapKind.the-variants.Abstract k → r ≡ abstractBelow (kindOf (ts x .form)) (abstractAt k) → r ≡ heapBelow ts (named exactly x) h
     named-under-abstract {k} q p = rw (is-abstract h e q) (p ∙ sym (named-abstract exactly (abstractAt k)))
 
-    pub named-under-defined : {y : ℕ} {r : Bool} → u ≡ HeapKind.the-variants.Defined y → r ≡ climbs 63 ts x y → r ≡ heapBelow ts (named exactly x) h
+    pub named-under-defined : {y : ℕ} {r : Bool} → u ≡ HeapKind.the-variants.Defined y → r ≡ climbs mostSteps ts x y → r ≡ heapBelow ts (named exactly x) h
     named-under-defined {y} q p = rw (is-defined h e q) (p ∙ sym (named-defined exactly y))
 
     pub exact-under-exact : {y : ℕ} → u ≡ HeapKind.the-variants.Exact y → exactly ≡ true → eqb x y ≡ heapBelow ts (named exactly x) h

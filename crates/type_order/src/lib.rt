@@ -1,9 +1,11 @@
 // Type rule 6: which heap types and which value types are below which. Types are given by their codes, and the table is
 // read as it stands, for any words: each answer is that of the rule's test (scope's Order.antt) over what the table says.
+use scope::sizes;
 use type_table::HeapKind;
 use type_table::Link;
 use type_table::ValKind;
 ghost use mathlib.Core.Path.{_≡_};
+ghost use Rattle.scope.specs.Sizes.{mostSteps};
 ghost use Rattle.scope.specs.Abstract.{sameAbstract};
 ghost use Rattle.scope.specs.Syntax.{abstract, ref};
 ghost use Rattle.scope.specs.Memory.{abstractCode};
@@ -14,10 +16,10 @@ ghost use Rattle.type_order.specs.Named.{named};
 
 // From x up the declared supertypes to y.
 pub fn climbs_to(rows: &[u16], codes: &[u16], x: u64, y: u64) -> bool
-    ensures { λ r. ⌜ r ≡ climbs 63 (view (now (rows .entry)) (now (codes .entry))) x y ⌝ }
+    ensures { λ r. ⌜ r ≡ climbs mostSteps (view (now (rows .entry)) (now (codes .entry))) x y ⌝ }
 {
     let mut at = x;
-    let mut left: u64 = 63;
+    let mut left = sizes::MOST_STEPS;
     while 0 < left {
         if at == y {
             return true;

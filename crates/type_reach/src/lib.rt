@@ -52,7 +52,7 @@ fn codes_in_reach(codes: &[u16], fields: bool, i: u32, n: u32, reach: u64) -> bo
     let mut at = i as u64;
     let mut left = n as u64;
     while 0 < left {
-        let c = lent_u16::word(codes, at);
+        let c = type_table::code_word(codes, at);
         if !code_in_reach(fields, c, reach) {
             return false;
         }
@@ -98,7 +98,9 @@ fn link_in_reach(link: Link, reach: u64) -> bool
 }
 
 fn clauses_in_reach(rows: &[u16], codes: &[u16], x: u64, reach: u64) -> bool
-    ensures { λ r. ⌜ r ≡ (allBelow reach (asList (view (now (rows .entry)) (now (codes .entry)) x .describes)) && allBelow reach (asList (view (now (rows .entry)) (now (codes .entry)) x .descriptor))) ⌝ }
+    ensures { λ r.
+        let d = view (now (rows .entry)) (now (codes .entry)) x in
+        ⌜ r ≡ (allBelow reach (asList (d .describes)) && allBelow reach (asList (d .descriptor))) ⌝ }
 {
     let described = type_table::describes_of(rows, codes, x);
     if !link_in_reach(described, reach) {

@@ -6,6 +6,7 @@ use mathlib.Core.Bool.{Bool, true, false}
 use mathlib.Core.Option.{Option}
 use native.Mathlib.Omega.{arith}
 use borrow.Author.Tests.{lt-ltb, le-ltb}
+use Rattle.scope.specs.Sizes.{mostSteps}
 use Rattle.scope.specs.Lists.{isNone}
 use Rattle.scope.specs.Reading.{given}
 use Rattle.scope.specs.Syntax.{Types, superOf}
@@ -41,9 +42,9 @@ pub ruleset super-exits = (no-supers, super-earlier, super-later, two-supers)
 -- the chain
 
 pub record Climb (ts : Types) (x at left : ℕ) : Type 0 where
-  pub same : shortChain 63 ts x ≡ shortChain left ts at
+  pub same : shortChain mostSteps ts x ≡ shortChain left ts at
 
-pub climb-first : (ts : Types) (x : ℕ) → Climb ts x x 63
+pub climb-first : (ts : Types) (x : ℕ) → Climb ts x x mostSteps
 climb-first ts x = record { same = refl }
 
 step-up : (ts : Types) (at left : ℕ) {o : Option ℕ} → 0 < left → superOf (ts at) ≡ o → shortChain left ts at ≡ given o true (λ p. shortChain (left - 1) ts p)
@@ -57,16 +58,16 @@ no-step ts at zero h e = rw e
 no-step ts at (suc left) h e = absurd (omega arith)
 
 module _ {ts : Types} {x at left : ℕ} (c : Climb ts x at left) {l : Link} (e : l ≡ linkIs (superOf (ts at))) where
-  pub climb-top : 0 < left → l ≡ Link.the-variants.Nothing → true ≡ shortChain 63 ts x
+  pub climb-top : 0 < left → l ≡ Link.the-variants.Nothing → true ≡ shortChain mostSteps ts x
   climb-top more q = sym (c .same ∙ step-up ts at left more (link-nothing (superOf (ts at)) e q))
 
   pub climb-turn : {p : ℕ} → 0 < left → l ≡ Link.the-variants.To p → Climb ts x p (left - 1)
   climb-turn more q = record { same = c .same ∙ step-up ts at left more (link-to (superOf (ts at)) e q) }
 
-  pub climb-ends : left ≤ 0 → l ≡ Link.the-variants.Nothing → true ≡ shortChain 63 ts x
+  pub climb-ends : left ≤ 0 → l ≡ Link.the-variants.Nothing → true ≡ shortChain mostSteps ts x
   climb-ends h q = sym (c .same ∙ no-step ts at left h (link-nothing (superOf (ts at)) e q))
 
-  pub climb-too-long : {p : ℕ} → left ≤ 0 → l ≡ Link.the-variants.To p → false ≡ shortChain 63 ts x
+  pub climb-too-long : {p : ℕ} → left ≤ 0 → l ≡ Link.the-variants.To p → false ≡ shortChain mostSteps ts x
   climb-too-long h q = sym (c .same ∙ no-step ts at left h (link-to (superOf (ts at)) e q))
 
 pub ruleset climb-exits = (climb-first, climb-top, climb-turn, climb-ends, climb-too-long)

@@ -1,9 +1,11 @@
-// Type rules 1 and 3 to 5, a function for each, over the lent table as it stands. Rule 1's reach is the crate `reach`, rule 2
-// is `matching`, rule 6 `order`. Each answer is the rule's (scope's TypeRules.antt).
+// Type rules 1 and 3 to 5, a function for each, over the lent table as it stands. Rule 1's reach is the crate
+// `type_reach`, rule 2 is `type_matching`, rule 6 `type_order`. Each answer is the rule's (scope's TypeRules.antt).
+use scope::sizes;
 use type_table::Link;
 use type_table::Supers;
 ghost use mathlib.Core.Path.{_≡_};
 ghost use mathlib.Core.Bool.{true, false};
+ghost use Rattle.scope.specs.Sizes.{mostSteps};
 ghost use Rattle.scope.specs.TypeRules.{superEarlierAndOpen, shortChain, clausesOnStruct, describesEarlier, isThe, clausesAgree, descriptorFollows, describedFollow, describesFollows};
 ghost use Rattle.type_table.specs.View.{view};
 ghost use Rattle.type_table.specs.Answers.{linkOption};
@@ -29,10 +31,10 @@ pub fn super_earlier_and_open(rows: &[u16], codes: &[u16], x: u64) -> bool
 
 // Sizes: 63 steps up a supertype chain.
 pub fn short_chain(rows: &[u16], codes: &[u16], x: u64) -> bool
-    ensures { λ r. ⌜ r ≡ shortChain 63 (view (now (rows .entry)) (now (codes .entry))) x ⌝ }
+    ensures { λ r. ⌜ r ≡ shortChain mostSteps (view (now (rows .entry)) (now (codes .entry))) x ⌝ }
 {
     let mut at = x;
-    let mut left: u64 = 63;
+    let mut left = sizes::MOST_STEPS;
     while 0 < left {
         let above = type_table::super_of(rows, codes, at);
         let Link::To(p) = above else {

@@ -1,4 +1,4 @@
--- `judge::clauses_fault` meets its contract: the rules are asked in the order of the definition.
+-- `section_judge::clauses_fault` meets its contract: the rules are asked in the order of the definition.
 use borrow.Author.Needs.{needs}
 use Rattle.section_judge.proofs.Faults.{clause-exits}
 use Rattle.section_judge.proofs.clauses_fault.Statement.{statement}

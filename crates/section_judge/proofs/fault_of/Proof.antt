@@ -1,4 +1,4 @@
--- `judge::fault_of` meets its contract: the flag says which pass it is.
+-- `section_judge::fault_of` meets its contract: the flag says which pass it is.
 use borrow.Author.Needs.{needs}
 use Rattle.section_judge.proofs.Faults.{pass-exits}
 use Rattle.section_judge.proofs.fault_of.Statement.{statement}

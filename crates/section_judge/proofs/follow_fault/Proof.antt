@@ -1,4 +1,4 @@
--- `judge::follow_fault` meets its contract: the rules are asked in the order of the definition.
+-- `section_judge::follow_fault` meets its contract: the rules are asked in the order of the definition.
 use borrow.Author.Needs.{needs}
 use Rattle.section_judge.proofs.Faults.{follow-exits}
 use Rattle.section_judge.proofs.follow_fault.Statement.{statement}

@@ -1,4 +1,4 @@
--- `judge::judge_types` meets its contract: the second pass is made where the first accepts.
+-- `section_judge::judge_types` meets its contract: the second pass is made where the first accepts.
 use borrow.Author.Needs.{needs}
 use Rattle.section_judge.proofs.Scanning.{judge-exits}
 use Rattle.section_judge.proofs.judge_types.Statement.{statement}

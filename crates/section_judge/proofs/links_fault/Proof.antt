@@ -1,4 +1,4 @@
--- `judge::links_fault` meets its contract: the rules are asked in the order of the definition.
+-- `section_judge::links_fault` meets its contract: the rules are asked in the order of the definition.
 use borrow.Author.Needs.{needs}
 use Rattle.section_judge.proofs.Faults.{link-exits}
 use Rattle.section_judge.proofs.links_fault.Statement.{statement}

@@ -1,4 +1,4 @@
--- `judge::rule_fault` meets its contract: the rules are asked in the order of the definition.
+-- `section_judge::rule_fault` meets its contract: the rules are asked in the order of the definition.
 use borrow.Author.Needs.{needs}
 use Rattle.section_judge.proofs.Faults.{rule-exits}
 use Rattle.section_judge.proofs.rule_fault.Statement.{statement}

@@ -1,7 +1,7 @@
--- `judge::scan_types` meets its contract: each turn asks one type, as the definition does.
+-- `section_judge::scan_types` meets its contract: each turn asks one type, as the definition does.
 use borrow.Author.Needs.{needs}
-use Rattle.section_judge.proofs.Scanning.{Pass, pass-exits}
 use Rattle.type_table.specs.View.{view}
+use Rattle.section_judge.proofs.Scanning.{Pass, pass-exits}
 use Rattle.section_judge.specs.Verdict.{faultOf}
 use Rattle.section_judge.proofs.scan_types.Statement.{statement}
 use Rattle.section_judge.proofs.scan_types.Tie as tie

@@ -1,4 +1,4 @@
--- `matching::code_matches` meets its contract: the flag says which of the two tests is asked.
+-- `type_matching::code_matches` meets its contract: the flag says which of the two tests is asked.
 use borrow.Author.Needs.{needs}
 use Rattle.type_matching.proofs.Walking.{code-exits}
 use Rattle.type_matching.proofs.code_matches.Statement.{statement}

@@ -1,7 +1,7 @@
--- `matching::codes_match` meets its contract: each turn takes a code off both lists, as the test over lists does.
+-- `type_matching::codes_match` meets its contract: each turn takes a code off both lists, as the test over lists does.
 use borrow.Author.Needs.{needs}
-use Rattle.type_matching.proofs.Walking.{Walk, walk-exits}
 use Rattle.type_table.specs.View.{view}
+use Rattle.type_matching.proofs.Walking.{Walk, walk-exits}
 use Rattle.type_matching.proofs.codes_match.Statement.{statement}
 use Rattle.type_matching.proofs.codes_match.Tie as tie
 
@@ -17,11 +17,11 @@ loop-holds c = search (walk-exits, needs)
 returns : tie.Need-returns Inv-loop μ-loop
 returns c = search (walk-exits, needs)
 
-word-requires : tie.Need-word-requires Inv-loop μ-loop
-word-requires c κs = search (walk-exits, needs)
+code-word-requires : tie.Need-code-word-requires Inv-loop μ-loop
+code-word-requires c κs = search (walk-exits, needs)
 
-word-requires-2 : tie.Need-word-requires-2 Inv-loop μ-loop
-word-requires-2 c κs = search (walk-exits, needs)
+code-word-requires-2 : tie.Need-code-word-requires-2 Inv-loop μ-loop
+code-word-requires-2 c κs = search (walk-exits, needs)
 
 code-matches-requires : tie.Need-code-matches-requires Inv-loop μ-loop
 code-matches-requires c κs = search (walk-exits, needs)
@@ -61,8 +61,8 @@ codes-match-spec =
     μ-loop
     loop-holds
     returns
-    word-requires
-    word-requires-2
+    code-word-requires
+    code-word-requires-2
     code-matches-requires
     returns-2
     add-at

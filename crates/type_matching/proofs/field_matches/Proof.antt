@@ -1,4 +1,4 @@
--- `matching::field_matches` meets its contract: the four cases of mutability are those of the rule.
+-- `type_matching::field_matches` meets its contract: the four cases of mutability are those of the rule.
 use borrow.Author.Needs.{needs}
 use Rattle.type_matching.proofs.Walking.{field-exits}
 use Rattle.type_matching.proofs.field_matches.Statement.{statement}

@@ -1,4 +1,4 @@
--- `matching::form_matches` meets its contract: the lower form is a struct or a function.
+-- `type_matching::form_matches` meets its contract: the lower form is a struct or a function.
 use borrow.Author.Needs.{needs}
 use Rattle.type_matching.proofs.Forms.{lower-exits}
 use Rattle.type_matching.proofs.form_matches.Statement.{statement}

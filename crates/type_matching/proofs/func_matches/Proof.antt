@@ -1,4 +1,4 @@
--- `matching::func_matches` meets its contract: the cases of the upper form are those of the rule; parameters go against.
+-- `type_matching::func_matches` meets its contract: the cases of the upper form are those of the rule; parameters go against.
 use borrow.Author.Needs.{needs}
 use Rattle.type_matching.proofs.Forms.{upper-exits}
 use Rattle.type_matching.proofs.func_matches.Statement.{statement}

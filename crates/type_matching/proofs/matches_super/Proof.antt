@@ -1,4 +1,4 @@
--- `matching::matches_super` meets its contract: without a supertype there is nothing to match.
+-- `type_matching::matches_super` meets its contract: without a supertype there is nothing to match.
 use borrow.Author.Needs.{needs}
 use Rattle.type_matching.proofs.Forms.{super-exits}
 use Rattle.type_matching.proofs.matches_super.Statement.{statement}

@@ -1,4 +1,4 @@
--- `matching::struct_matches` meets its contract: the cases of the upper form are those of the rule.
+-- `type_matching::struct_matches` meets its contract: the cases of the upper form are those of the rule.
 use borrow.Author.Needs.{needs}
 use Rattle.type_matching.proofs.Forms.{upper-exits}
 use Rattle.type_matching.proofs.struct_matches.Statement.{statement}

@@ -1,4 +1,4 @@
--- `order::abstract_under` meets its contract: the cases of the upper type are those of the test.
+-- `type_order::abstract_under` meets its contract: the cases of the upper type are those of the test.
 use borrow.Author.Needs.{needs}
 use Rattle.type_order.proofs.Under.{under-exits}
 use Rattle.type_order.proofs.abstract_under.Statement.{statement}

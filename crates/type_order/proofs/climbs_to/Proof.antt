@@ -1,7 +1,7 @@
--- `order::climbs_to` meets its contract: each turn goes one supertype up, as the test does, with one step less.
+-- `type_order::climbs_to` meets its contract: each turn goes one supertype up, as the test does, with one step less.
 use borrow.Author.Needs.{needs}
-use Rattle.type_order.proofs.Climbing.{Climb, climb-exits}
 use Rattle.type_table.specs.View.{view}
+use Rattle.type_order.proofs.Climbing.{Climb, climb-exits}
 use Rattle.type_order.proofs.climbs_to.Statement.{statement}
 use Rattle.type_order.proofs.climbs_to.Tie as tie
 

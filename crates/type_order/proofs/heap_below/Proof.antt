@@ -1,4 +1,4 @@
--- `order::heap_below` meets its contract: the cases of the lower type are those of the test.
+-- `type_order::heap_below` meets its contract: the cases of the lower type are those of the test.
 use borrow.Author.Needs.{needs}
 use Rattle.type_order.proofs.Under.{below-exits}
 use Rattle.type_order.proofs.heap_below.Statement.{statement}

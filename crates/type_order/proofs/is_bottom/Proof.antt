@@ -1,4 +1,4 @@
--- `order::is_bottom` meets its contract: the bottom of a type's hierarchy has one number.
+-- `type_order::is_bottom` meets its contract: the bottom of a type's hierarchy has one number.
 use borrow.Author.Needs.{needs}
 use Rattle.type_order.proofs.Under.{kind-exits}
 use Rattle.type_order.proofs.is_bottom.Statement.{statement}

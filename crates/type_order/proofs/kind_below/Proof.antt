@@ -1,4 +1,4 @@
--- `order::kind_below` meets its contract: the number of a type's kind is read as that kind.
+-- `type_order::kind_below` meets its contract: the number of a type's kind is read as that kind.
 use borrow.Author.Needs.{needs}
 use Rattle.type_order.proofs.Under.{kind-exits}
 use Rattle.type_order.proofs.kind_below.Statement.{statement}

@@ -1,4 +1,4 @@
--- `order::kind_of` meets its contract: a form that is no struct is a function.
+-- `type_order::kind_of` meets its contract: a form that is no struct is a function.
 use borrow.Author.Needs.{needs}
 use Rattle.type_order.proofs.Under.{kind-exits}
 use Rattle.type_order.proofs.kind_of.Statement.{statement}

@@ -1,4 +1,4 @@
--- `order::named_under` meets its contract: the cases of the upper type are those of the test.
+-- `type_order::named_under` meets its contract: the cases of the upper type are those of the test.
 use borrow.Author.Needs.{needs}
 use Rattle.type_order.proofs.Under.{under-exits}
 use Rattle.type_order.proofs.named_under.Statement.{statement}

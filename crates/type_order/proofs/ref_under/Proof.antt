@@ -1,4 +1,4 @@
--- `order::ref_under` meets its contract: heaps decide, unless a nullable reference would be below one that is not.
+-- `type_order::ref_under` meets its contract: heaps decide, unless a nullable reference would be below one that is not.
 use borrow.Author.Needs.{needs}
 use Rattle.type_order.proofs.Same.{ref-exits}
 use Rattle.type_order.proofs.ref_under.Statement.{statement}

@@ -1,4 +1,4 @@
--- `order::same_val` meets its contract: each value type has one code.
+-- `type_order::same_val` meets its contract: each value type has one code.
 use borrow.Author.Needs.{needs}
 use Rattle.type_order.proofs.Same.{same-by-code}
 use Rattle.type_order.proofs.same_val.Statement.{statement}

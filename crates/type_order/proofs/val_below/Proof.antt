@@ -1,4 +1,4 @@
--- `order::val_below` meets its contract: a type is below itself, and no number type is below another.
+-- `type_order::val_below` meets its contract: a type is below itself, and no number type is below another.
 use borrow.Author.Needs.{needs}
 use Rattle.type_order.proofs.Same.{val-exits}
 use Rattle.type_order.proofs.val_below.Statement.{statement}

@@ -1,4 +1,4 @@
--- `reach::clauses_in_reach` meets its contract: both clauses are looked at.
+-- `type_reach::clauses_in_reach` meets its contract: both clauses are looked at.
 use borrow.Author.Needs.{needs}
 use Rattle.type_reach.proofs.Naming.{clause-exits}
 use Rattle.type_reach.proofs.clauses_in_reach.Statement.{statement}

@@ -1,4 +1,4 @@
--- `reach::code_in_reach` meets its contract: half of a field's code is its value type's.
+-- `type_reach::code_in_reach` meets its contract: half of a field's code is its value type's.
 use borrow.Author.Needs.{needs}
 use Rattle.type_reach.proofs.Naming.{type-exits}
 use Rattle.type_reach.proofs.code_in_reach.Statement.{statement}

@@ -1,4 +1,4 @@
--- `reach::codes_in_reach` meets its contract: each turn takes the first code's names off the list.
+-- `type_reach::codes_in_reach` meets its contract: each turn takes the first code's names off the list.
 use borrow.Author.Needs.{needs}
 use Rattle.type_reach.proofs.Walking.{Walk, walk-exits}
 use Rattle.type_reach.proofs.codes_in_reach.Statement.{statement}
@@ -13,8 +13,8 @@ abbrev μ-loop : tie.MeasureT-loop
 loop-holds : tie.Need-loop-holds Inv-loop μ-loop
 loop-holds c = search (walk-exits, needs)
 
-word-requires : tie.Need-word-requires Inv-loop μ-loop
-word-requires c κs = search (walk-exits, needs)
+code-word-requires : tie.Need-code-word-requires Inv-loop μ-loop
+code-word-requires c κs = search (walk-exits, needs)
 
 code-in-reach-requires : tie.Need-code-in-reach-requires Inv-loop μ-loop
 code-in-reach-requires c κs = search (walk-exits, needs)
@@ -44,7 +44,7 @@ codes-in-reach-spec =
     Inv-loop
     μ-loop
     loop-holds
-    word-requires
+    code-word-requires
     code-in-reach-requires
     returns
     add-at

@@ -1,4 +1,4 @@
--- `reach::form_in_reach` meets its contract: a form names what its lists of codes name.
+-- `type_reach::form_in_reach` meets its contract: a form names what its lists of codes name.
 use borrow.Author.Needs.{needs}
 use Rattle.type_reach.proofs.Naming.{form-exits}
 use Rattle.type_reach.proofs.form_in_reach.Statement.{statement}

@@ -1,4 +1,4 @@
--- `reach::heap_in_reach` meets its contract: an abstract heap type names no number, the others one.
+-- `type_reach::heap_in_reach` meets its contract: an abstract heap type names no number, the others one.
 use borrow.Author.Needs.{needs}
 use Rattle.type_reach.proofs.Naming.{type-exits}
 use Rattle.type_reach.proofs.heap_in_reach.Statement.{statement}

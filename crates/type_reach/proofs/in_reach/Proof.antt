@@ -1,4 +1,4 @@
--- `reach::in_reach` meets its contract: the names of a definition are those of its three parts.
+-- `type_reach::in_reach` meets its contract: the names of a definition are those of its three parts.
 use borrow.Author.Needs.{needs}
 use Rattle.type_reach.proofs.Naming.{reach-exits}
 use Rattle.type_reach.proofs.in_reach.Statement.{statement}

@@ -1,4 +1,4 @@
--- `reach::link_in_reach` meets its contract: a link names one number or none.
+-- `type_reach::link_in_reach` meets its contract: a link names one number or none.
 use borrow.Author.Needs.{needs}
 use Rattle.type_reach.proofs.Naming.{link-exits}
 use Rattle.type_reach.proofs.link_in_reach.Statement.{statement}

@@ -1,4 +1,4 @@
--- `reach::supers_in_reach` meets its contract: each supertype that the table keeps is looked at.
+-- `type_reach::supers_in_reach` meets its contract: each supertype that the table keeps is looked at.
 use borrow.Author.Needs.{needs}
 use Rattle.type_reach.proofs.Naming.{super-exits}
 use Rattle.type_reach.proofs.supers_in_reach.Statement.{statement}

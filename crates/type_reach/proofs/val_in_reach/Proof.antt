@@ -1,4 +1,4 @@
--- `reach::val_in_reach` meets its contract: a reference names what its heap type names.
+-- `type_reach::val_in_reach` meets its contract: a reference names what its heap type names.
 use borrow.Author.Needs.{needs}
 use Rattle.type_reach.proofs.Naming.{type-exits}
 use Rattle.type_reach.proofs.val_in_reach.Statement.{statement}

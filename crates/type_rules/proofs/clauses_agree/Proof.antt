@@ -1,4 +1,4 @@
--- `rules::clauses_agree` meets its contract: both clauses are asked.
+-- `type_rules::clauses_agree` meets its contract: both clauses are asked.
 use borrow.Author.Needs.{needs}
 use Rattle.type_rules.proofs.Clauses.{agree-exits}
 use Rattle.type_rules.proofs.clauses_agree.Statement.{statement}

@@ -1,4 +1,4 @@
--- `rules::clauses_on_struct` meets its contract: a struct may have clauses, another form neither.
+-- `type_rules::clauses_on_struct` meets its contract: a struct may have clauses, another form neither.
 use borrow.Author.Needs.{needs}
 use Rattle.type_rules.proofs.Clauses.{struct-exits}
 use Rattle.type_rules.proofs.clauses_on_struct.Statement.{statement}

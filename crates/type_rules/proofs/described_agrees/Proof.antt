@@ -1,4 +1,4 @@
--- `rules::described_agrees` meets its contract: the type described is asked for its descriptor.
+-- `type_rules::described_agrees` meets its contract: the type described is asked for its descriptor.
 use borrow.Author.Needs.{needs}
 use Rattle.type_rules.proofs.Clauses.{agree-exits}
 use Rattle.type_rules.proofs.described_agrees.Statement.{statement}

@@ -1,4 +1,4 @@
--- `rules::described_follow` meets its contract: the four cases are those of the rule.
+-- `type_rules::described_follow` meets its contract: the four cases are those of the rule.
 use borrow.Author.Needs.{needs}
 use Rattle.type_rules.proofs.Clauses.{describes-exits}
 use Rattle.type_rules.proofs.described_follow.Statement.{statement}

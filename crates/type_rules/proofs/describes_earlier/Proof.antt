@@ -1,4 +1,4 @@
--- `rules::describes_earlier` meets its contract: the type described is compared with its own number.
+-- `type_rules::describes_earlier` meets its contract: the type described is compared with its own number.
 use borrow.Author.Needs.{needs}
 use Rattle.type_rules.proofs.Clauses.{struct-exits}
 use Rattle.type_rules.proofs.describes_earlier.Statement.{statement}

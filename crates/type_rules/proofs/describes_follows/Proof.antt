@@ -1,4 +1,4 @@
--- `rules::describes_follows` meets its contract: both clauses are read, and the rule asks for the same.
+-- `type_rules::describes_follows` meets its contract: both clauses are read, and the rule asks for the same.
 use borrow.Author.Needs.{needs}
 use Rattle.type_rules.proofs.Clauses.{describes-exits}
 use Rattle.type_rules.proofs.describes_follows.Statement.{statement}

@@ -1,4 +1,4 @@
--- `rules::descriptor_agrees` meets its contract: the descriptor is asked what it describes.
+-- `type_rules::descriptor_agrees` meets its contract: the descriptor is asked what it describes.
 use borrow.Author.Needs.{needs}
 use Rattle.type_rules.proofs.Clauses.{agree-exits}
 use Rattle.type_rules.proofs.descriptor_agrees.Statement.{statement}

@@ -1,4 +1,4 @@
--- `rules::descriptor_follows` meets its contract: a supertype without descriptor allows either.
+-- `type_rules::descriptor_follows` meets its contract: a supertype without descriptor allows either.
 use borrow.Author.Needs.{needs}
 use Rattle.type_rules.proofs.Clauses.{descriptor-exits}
 use Rattle.type_rules.proofs.descriptor_follows.Statement.{statement}

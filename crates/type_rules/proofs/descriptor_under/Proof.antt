@@ -1,4 +1,4 @@
--- `rules::descriptor_under` meets its contract: the descriptor is asked for its supertype.
+-- `type_rules::descriptor_under` meets its contract: the descriptor is asked for its supertype.
 use borrow.Author.Needs.{needs}
 use Rattle.type_rules.proofs.Clauses.{descriptor-exits}
 use Rattle.type_rules.proofs.descriptor_under.Statement.{statement}

@@ -1,4 +1,4 @@
--- `rules::is_the` meets its contract: a link names one type or none.
+-- `type_rules::is_the` meets its contract: a link names one type or none.
 use borrow.Author.Needs.{needs}
 use Rattle.type_rules.proofs.Clauses.{the-exits}
 use Rattle.type_rules.proofs.is_the.Statement.{statement}

@@ -1,7 +1,7 @@
--- `rules::short_chain` meets its contract: each turn goes one supertype up, as the rule does, with one step less.
+-- `type_rules::short_chain` meets its contract: each turn goes one supertype up, as the rule does, with one step less.
 use borrow.Author.Needs.{needs}
-use Rattle.type_rules.proofs.Supers.{Climb, climb-exits}
 use Rattle.type_table.specs.View.{view}
+use Rattle.type_rules.proofs.Supers.{Climb, climb-exits}
 use Rattle.type_rules.proofs.short_chain.Statement.{statement}
 use Rattle.type_rules.proofs.short_chain.Tie as tie
 

@@ -1,4 +1,4 @@
--- `rules::super_earlier_and_open` meets its contract: the cases are those of the rule: no supertype, one, more.
+-- `type_rules::super_earlier_and_open` meets its contract: the cases are those of the rule: no supertype, one, more.
 use borrow.Author.Needs.{needs}
 use Rattle.type_rules.proofs.Supers.{super-exits}
 use Rattle.type_rules.proofs.super_earlier_and_open.Statement.{statement}
