@@ -18,12 +18,11 @@ use Rattle.number.specs.declared.Byte
 use Rattle.number.specs.declared.Natural.{Natural}
 use Rattle.number.specs.declared.Natural
 use Rattle.number.specs.Answers.{ByteAt, naturalIs}
-use Rattle.number.proofs.Bits.{byte-got, byte-none}
+use Rattle.number.proofs.Bits.{byte-got, byte-none, next-fits}
 use Rattle.number.proofs.Laws.{natural-got, natural-refused}
 use Rattle.type_read.specs.declared.Coded.{Coded}
 use Rattle.type_read.specs.declared.Coded
 use Rattle.type_read.specs.Codes.{codedIs, heapCodeKept}
-use Rattle.type_read.proofs.Heaps.{next-fits}
 use Rattle.type_read.proofs.Vals.{coded-got, coded-refused}
 use Rattle.body_immediates.specs.declared.Instruction.{Instruction}
 use Rattle.body_immediates.specs.declared.Instruction

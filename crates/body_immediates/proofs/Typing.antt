@@ -16,11 +16,10 @@ use Rattle.scope.specs.Instructions.{Op, Instr, op, blockTypeAt}
 use Rattle.number.specs.declared.Byte.{Byte}
 use Rattle.number.specs.declared.Byte
 use Rattle.number.specs.Answers.{ByteAt}
-use Rattle.number.proofs.Bits.{byte-got, byte-none}
+use Rattle.number.proofs.Bits.{byte-got, byte-none, next-fits}
 use Rattle.type_read.specs.declared.Coded.{Coded}
 use Rattle.type_read.specs.declared.Coded
 use Rattle.type_read.specs.Codes.{codedIs, heapCodeKept, valCodeKept}
-use Rattle.type_read.proofs.Heaps.{next-fits}
 use Rattle.type_read.proofs.Vals.{coded-got, coded-refused}
 use Rattle.type_read.proofs.Fields.{val-code-most}
 use Rattle.body_immediates.specs.declared.Instruction.{Instruction}

@@ -13,9 +13,8 @@ use Rattle.number.specs.declared.Byte
 use Rattle.number.specs.declared.Natural.{Natural}
 use Rattle.number.specs.declared.Natural
 use Rattle.number.specs.Answers.{ByteAt, naturalIs}
-use Rattle.number.proofs.Bits.{byte-got, byte-none}
+use Rattle.number.proofs.Bits.{byte-got, byte-none, next-fits}
 use Rattle.number.proofs.Laws.{natural-got, natural-refused}
-use Rattle.type_read.proofs.Heaps.{next-fits}
 use Rattle.body_immediates.specs.declared.Instruction.{Instruction}
 use Rattle.body_immediates.specs.declared.Instruction
 use Rattle.body_immediates.specs.declared.InstructionRead.{InstructionRead}

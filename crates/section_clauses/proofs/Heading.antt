@@ -7,6 +7,7 @@ use mathlib.Core.Option.{Option, none, some}
 use mathlib.Core.List.{List, []}
 use lib.ListN.{length, getElem?}
 use borrow.Author.Tests.{eq-eqb, ne-eqb}
+use Rattle.scope.specs.Refusals.{bytesEnd}
 use Rattle.scope.specs.Reading.{Read, got, refused, then}
 use Rattle.scope.specs.Numbers.{u32}
 use Rattle.scope.specs.Sections.{supersAt, Head, headAt, clauseAt, describesCode, descriptorCode}
@@ -53,7 +54,7 @@ closed (got xs n) = refl
 closed (refused n p) = refl
 
 module _ {s : List ℕ} {at : ℕ} {r : Byte} (a : ByteAt s at r) where
-  pub head-missing : r ≡ Byte.the-variants.Missing → HeadRead.the-variants.Refused 1 at ≡ headIs (headAt s at)
+  pub head-missing : r ≡ Byte.the-variants.Missing → HeadRead.the-variants.Refused bytesEnd at ≡ headIs (headAt s at)
   unfolding headAt
   head-missing e = rw (byte-none (getElem? s at) (a .is) e)
 
@@ -85,7 +86,7 @@ module _ (s : List ℕ) (at : ℕ) {r : Natural} (a : r ≡ naturalIs (u32 s at)
 pub ruleset named-exits = (named-refused, named-got)
 
 module _ {s : List ℕ} {at : ℕ} {r : Byte} (a : ByteAt s at r) where
-  pub clause-missing : (code : ℕ) → r ≡ Byte.the-variants.Missing → ClauseRead.the-variants.Refused 1 at ≡ clauseIs (clauseAt code s at)
+  pub clause-missing : (code : ℕ) → r ≡ Byte.the-variants.Missing → ClauseRead.the-variants.Refused bytesEnd at ≡ clauseIs (clauseAt code s at)
   unfolding clauseAt
   clause-missing code e = rw (byte-none (getElem? s at) (a .is) e)
 

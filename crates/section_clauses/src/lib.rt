@@ -2,6 +2,7 @@
 // answered as the table holds it: 0 for none, else one more than the number as it is kept.
 use number::Byte;
 use number::Natural;
+use scope::refusals;
 ghost use mathlib.Core.Path.{_≡_};
 ghost use Rattle.scope.specs.Reading.{entries};
 ghost use Rattle.scope.specs.Numbers.{u32};
@@ -95,7 +96,7 @@ fn head_at(s: &[u8], at: usize) -> HeadRead
 {
     let first = number::byte_at(s, at);
     let Byte::Is(b) = first else {
-        return HeadRead::Refused(1, at);
+        return HeadRead::Refused(refusals::BYTES_END, at);
     };
     if b == 0x50 {
         return sub_at(s, at + 1, 1);
@@ -128,7 +129,7 @@ fn clause_at(s: &[u8], at: usize, code: u64) -> ClauseRead
 {
     let first = number::byte_at(s, at);
     let Byte::Is(b) = first else {
-        return ClauseRead::Refused(1, at);
+        return ClauseRead::Refused(refusals::BYTES_END, at);
     };
     if b == code {
         return named_at(s, at + 1);

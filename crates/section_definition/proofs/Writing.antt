@@ -6,6 +6,8 @@ use native.Mathlib.Omega.{arith}
 use lib.ListN.{length, set}
 use mir.Syntax.{w64}
 use mir.Val.{Fits}
+use Rattle.scope.specs.Layout.{rowSpan}
+use Rattle.lent_u16.specs.Words.{wordLimit}
 use Rattle.type_table.proofs.Puts.{Puts, puts-one, puts-more, puts-length}
 use Rattle.section_definition.specs.Rows.{low, rowLow}
 
@@ -16,7 +18,7 @@ puts-next {m} {m′} {m″} {at} {n} w p e h f =
     let one : Puts m′ m″ (at + n) (w ∷ []) = rw f (puts-one m′ (at + n) w (omega arith)) in
     puts-more p (rw e one)
 
-pub four-put : {m m₁ m₂ m₃ m₄ : List ℕ} {at : ℕ} (a b c d : ℕ) → at + 4 ≤ length m → m₁ ≡ set m at (a % 65536) → m₂ ≡ set m₁ (at + 1) (b % 65536) → m₃ ≡ set m₂ (at + 2) (c % 65536) → m₄ ≡ set m₃ (at + 3) (d % 65536) → Puts m m₄ at (low a ∷ low b ∷ low c ∷ low d ∷ [])
+pub four-put : {m m₁ m₂ m₃ m₄ : List ℕ} {at : ℕ} (a b c d : ℕ) → at + 4 ≤ length m → m₁ ≡ set m at (a % wordLimit) → m₂ ≡ set m₁ (at + 1) (b % wordLimit) → m₃ ≡ set m₂ (at + 2) (c % wordLimit) → m₄ ≡ set m₃ (at + 3) (d % wordLimit) → Puts m m₄ at (low a ∷ low b ∷ low c ∷ low d ∷ [])
 four-put {m} {m₁} {at = at} a b c d h e f g i =
     let one : Puts m m₁ at (low a ∷ []) = rw e (puts-one m at (low a) (omega arith)) in
     let two = puts-next (low b) one refl (omega arith) f in
@@ -26,13 +28,13 @@ four-put {m} {m₁} {at = at} a b c d h e f g i =
 pub ruleset four-exits = (four-put)
 
 -- the twelve words of a row
-pub row-put : {m m₁ m₂ m₃ : List ℕ} {at : ℕ} (a b c d e f g h i j k l : ℕ) → at + 12 ≤ length m → Puts m m₁ at (low a ∷ low b ∷ low c ∷ low d ∷ []) → Puts m₁ m₂ (at + 4) (low e ∷ low f ∷ low g ∷ low h ∷ []) → Puts m₂ m₃ (at + 8) (low i ∷ low j ∷ low k ∷ low l ∷ []) → Puts m m₃ at (rowLow a b c d e f g h i j k l)
+pub row-put : {m m₁ m₂ m₃ : List ℕ} {at : ℕ} (a b c d e f g h i j k l : ℕ) → at + rowSpan ≤ length m → Puts m m₁ at (low a ∷ low b ∷ low c ∷ low d ∷ []) → Puts m₁ m₂ (at + 4) (low e ∷ low f ∷ low g ∷ low h ∷ []) → Puts m₂ m₃ (at + 8) (low i ∷ low j ∷ low k ∷ low l ∷ []) → Puts m m₃ at (rowLow a b c d e f g h i j k l)
 row-put a b c d e f g h i j k l room p q r = puts-more (puts-more p q) r
 
-pub row-starts : (at : ℕ) (m : List ℕ) → at + 12 ≤ length m → at + 4 ≤ length m
+pub row-starts : (at : ℕ) (m : List ℕ) → at + rowSpan ≤ length m → at + 4 ≤ length m
 row-starts at m h = omega arith
 
-module _ {m m₁ : List ℕ} {at : ℕ} {ws : List ℕ} (p : Puts m m₁ at ws) (h : at + 12 ≤ length m) where
+module _ {m m₁ : List ℕ} {at : ℕ} {ws : List ℕ} (p : Puts m m₁ at ws) (h : at + rowSpan ≤ length m) where
   pub row-goes-on : at + 4 + 4 ≤ length m₁
   row-goes-on = let size = puts-length p in omega arith
 

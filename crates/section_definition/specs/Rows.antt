@@ -3,10 +3,12 @@ use Prim.Native.Nat.{ℕ, _+_, _%_, _≤_}
 use mathlib.Core.Path.{_≡_}
 use mathlib.Core.List.{List, [], _∷_, _++_, map}
 use lib.ListN.{length}
+use Rattle.scope.specs.Layout.{rowSpan}
 use Rattle.scope.specs.Reading.{Read, got, refused}
 use Rattle.scope.specs.Syntax.{Form, struct, func, Definition}
 use Rattle.scope.specs.Sections.{formAt, definitionAt}
 use Rattle.scope.specs.Memory.{formCodes, formWords}
+use Rattle.lent_u16.specs.Words.{wordLimit}
 use Rattle.type_table.specs.Kept.{keptForm, keptDefinition}
 use Rattle.type_table.specs.View.{row}
 use Rattle.type_table.proofs.Puts.{Puts}
@@ -16,7 +18,7 @@ use Rattle.section_definition.specs.declared.DefinitionRead
 
 -- a word holds the lowest 16 bits of a number
 abbrev pub low : ℕ → ℕ
-low n = n % 65_536
+low n = n % wordLimit
 
 -- the twelve words of a row
 abbrev pub rowLow : ℕ → ℕ → ℕ → ℕ → ℕ → ℕ → ℕ → ℕ → ℕ → ℕ → ℕ → ℕ → List ℕ
@@ -31,7 +33,7 @@ rowOf opens first described describing from reach used further f to =
 -- the table has room for the row and for the codes
 pub record Place (s rows codes : List ℕ) (at row used : ℕ) : Type 0 where
   pub room : Room s codes at used
-  pub line : row + 12 ≤ length rows
+  pub line : row + rowSpan ≤ length rows
 
 abbrev pub formedIs : ℕ → Read Form → DefinitionRead
 formedIs used (got f end) = DefinitionRead.the-variants.Got end (used + length (formCodes (keptForm f)))

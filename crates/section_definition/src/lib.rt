@@ -4,6 +4,7 @@ use section_forms::FormRead;
 ghost use Prim.Native.Nat.{_+_, _≤_};
 ghost use mathlib.Core.List.{_∷_, []};
 ghost use lib.ListN.{length};
+ghost use Rattle.scope.specs.Layout.{rowSpan};
 ghost use Rattle.type_table.proofs.Puts.{Puts};
 ghost use Rattle.section_definition.specs.Rows.{low, rowLow, rowOf, Place, FormedRead, DefinitionPut};
 
@@ -18,7 +19,7 @@ fn put_four(m: &mut [u16], at: u64, a: u64, b: u64, c: u64, d: u64)
     lent_u16::put(m, at + 3, d);
 }
 
-// The twelve words of a row, in the order of table's View.antt.
+// The twelve words of a row, in the order of type_table's RowWords.antt.
 fn put_row(
     m: &mut [u16],
     at: u64,
@@ -35,7 +36,7 @@ fn put_row(
     used: u64,
     further: u64,
 )
-    requires { ⌜ at + 12 ≤ length (now m) ⌝ }
+    requires { ⌜ at + rowSpan ≤ length (now m) ⌝ }
     ensures { λ r. ⌜ Puts (now (m .entry)) (now (m .exit)) at (rowLow kind n results opens first described describing from to reach used further) ⌝ }
 {
     put_four(m, at, kind, n, results, opens);
@@ -66,7 +67,9 @@ fn formed_at(
     used: u64,
 ) -> DefinitionRead
     requires { ⌜ Place (now s) (now rows) (now codes) at row used ⌝ }
-    ensures { λ r. ⌜ FormedRead (rowOf opens first described describing from reach used further) (now (s .entry)) at (now (rows .entry)) (now (rows .exit)) row (now (codes .entry)) (now (codes .exit)) used r ⌝ }
+    ensures { λ r.
+        let words = rowOf opens first described describing from reach used further in
+        ⌜ FormedRead words (now (s .entry)) at (now (rows .entry)) (now (rows .exit)) row (now (codes .entry)) (now (codes .exit)) used r ⌝ }
 {
     let form = section_forms::form_at(s, at, codes, used);
     match form {
@@ -75,7 +78,7 @@ fn formed_at(
             put_row(
                 rows,
                 row,
-                1,
+                type_table::STRUCT,
                 n,
                 0,
                 opens,
@@ -94,7 +97,7 @@ fn formed_at(
             put_row(
                 rows,
                 row,
-                2,
+                type_table::FUNC,
                 n,
                 m,
                 opens,

@@ -7,6 +7,7 @@ use mathlib.Core.List.{List, [], _∷_, _++_, map}
 use native.Mathlib.Omega.{arith}
 use lib.ListN.{length, length-map, length-append, getElem?}
 use lib.Dec.{eqb}
+use Rattle.scope.specs.Refusals.{bytesEnd, notListed}
 use Rattle.scope.specs.Reading.{Read, got, refused, given, then}
 use Rattle.scope.specs.Syntax.{Val, Field, Form, struct, func}
 use Rattle.scope.specs.Sections.{valAt, fieldAt, fewAt, formAt}
@@ -17,7 +18,7 @@ use Rattle.type_table.specs.Kept.{keptVal, keptField, keptForm}
 use Rattle.section_forms.specs.declared.FormRead.{FormRead}
 use Rattle.section_forms.specs.declared.FormRead
 use Rattle.section_forms.specs.Reads.{formIs, structAt, funcAt}
-use Rattle.section_forms.proofs.Forms.{few-ahead}
+use Rattle.section_forms.proofs.Counting.{few-ahead}
 
 -- the answer, taken apart
 
@@ -53,52 +54,52 @@ func-codes ps rs =
 -- they took a byte each, and the form's code one more
 
 -- the place after lies past so many codes
-data Past (at : ℕ) : Read Form → Type 0 where
-  none-read : {k place : ℕ} → Past at (refused k place)
-  past : {f : Form} {end : ℕ} → at + length (formCodes (keptForm f)) < end → Past at (got f end)
+data Leads (at : ℕ) : Read Form → Type 0 where
+  none-read : {k place : ℕ} → Leads at (refused k place)
+  leads : {f : Form} {end : ℕ} → at + length (formCodes (keptForm f)) < end → Leads at (got f end)
 
-struct-past : (s : List ℕ) (at : ℕ) → Past at (structAt s (at + 1))
-struct-past s at = go (fewAt fieldAt s (at + 1)) refl
+struct-leads : (s : List ℕ) (at : ℕ) → Leads at (structAt s (at + 1))
+struct-leads s at = go (fewAt fieldAt s (at + 1)) refl
   where
-    go : (o : Read (List Field)) → fewAt fieldAt s (at + 1) ≡ o → Past at (then o (λ fs next. got (struct fs) next))
+    go : (o : Read (List Field)) → fewAt fieldAt s (at + 1) ≡ o → Leads at (then o (λ fs next. got (struct fs) next))
     go (refused k p) e = none-read
     go (got fs end) e =
         let h = few-ahead field-takes s (at + 1) e in
         let c = struct-codes fs in
         let q : at + length (formCodes (keptForm (struct fs))) < end = omega arith in
-        past q
+        leads q
 
-func-past : (s : List ℕ) (at : ℕ) → Past at (funcAt s (at + 1))
-func-past s at = go (fewAt valAt s (at + 1)) refl
+func-leads : (s : List ℕ) (at : ℕ) → Leads at (funcAt s (at + 1))
+func-leads s at = go (fewAt valAt s (at + 1)) refl
   where
-    more : (ps : List Val) (next : ℕ) → at + 1 + length ps ≤ next → (o : Read (List Val)) → fewAt valAt s next ≡ o → Past at (then o (λ rs end. got (func ps rs) end))
+    more : (ps : List Val) (next : ℕ) → at + 1 + length ps ≤ next → (o : Read (List Val)) → fewAt valAt s next ≡ o → Leads at (then o (λ rs end. got (func ps rs) end))
     more ps next h (refused k p) e = none-read
     more ps next h (got rs end) e =
         let k = few-ahead val-takes s next e in
         let c = func-codes ps rs in
         let q : at + length (formCodes (keptForm (func ps rs))) < end = omega arith in
-        past q
+        leads q
 
-    go : (o : Read (List Val)) → fewAt valAt s (at + 1) ≡ o → Past at (then o (λ ps next. then (fewAt valAt s next) (λ rs end. got (func ps rs) end)))
+    go : (o : Read (List Val)) → fewAt valAt s (at + 1) ≡ o → Leads at (then o (λ ps next. then (fewAt valAt s next) (λ rs end. got (func ps rs) end)))
     go (refused k p) e = none-read
     go (got ps next) e = more ps next (few-ahead val-takes s (at + 1) e) (fewAt valAt s next) refl
 
-past-cond : {at : ℕ} (b : Bool) {p q : Read Form} → Past at p → Past at q → Past at (cond b p q)
-past-cond true p q = p
-past-cond false p q = q
+leads-cond : {at : ℕ} (b : Bool) {p q : Read Form} → Leads at p → Leads at q → Leads at (cond b p q)
+leads-cond true p q = p
+leads-cond false p q = q
 
-form-past : (s : List ℕ) (at : ℕ) → Past at (formAt s at)
+form-leads : (s : List ℕ) (at : ℕ) → Leads at (formAt s at)
 unfolding formAt
-form-past s at = go (getElem? s at)
+form-leads s at = go (getElem? s at)
   where
-    go : (o : Option ℕ) → Past at (given o (refused 1 at) (λ b. cond (eqb b 0x5F) (structAt s (at + 1)) (cond (eqb b 0x60) (funcAt s (at + 1)) (refused 3 at))))
+    go : (o : Option ℕ) → Leads at (given o (refused bytesEnd at) (λ b. cond (eqb b 0x5F) (structAt s (at + 1)) (cond (eqb b 0x60) (funcAt s (at + 1)) (refused notListed at))))
     go none = none-read
-    go (some b) = past-cond (eqb b 0x5F) (struct-past s at) (past-cond (eqb b 0x60) (func-past s at) none-read)
+    go (some b) = leads-cond (eqb b 0x5F) (struct-leads s at) (leads-cond (eqb b 0x60) (func-leads s at) none-read)
 
 pub form-ahead : (s : List ℕ) (at : ℕ) {f : Form} {end : ℕ} → formAt s at ≡ got f end → at + length (formCodes (keptForm f)) < end
-form-ahead s at {f} {end} e = go (form-past s at) e
+form-ahead s at {f} {end} e = go (form-leads s at) e
   where
-    go : {o : Read Form} → Past at o → o ≡ got f end → at + length (formCodes (keptForm f)) < end
+    go : {o : Read Form} → Leads at o → o ≡ got f end → at + length (formCodes (keptForm f)) < end
     go none-read q = impossible cc
-    go (past {f = g} {end = stop} h) q =
+    go (leads {f = g} {end = stop} h) q =
         let a : g ≡ f = cc in let b : stop ≡ end = cc in let c : length (formCodes (keptForm g)) ≡ length (formCodes (keptForm f)) = ap (λ (x : Form). length (formCodes (keptForm x))) a in omega arith

@@ -1,22 +1,22 @@
--- Forms: a list of fields, or of parameters and then results. A list read as codes is the definition's list, each entry as
--- its code; so what a form's reader leaves in the table are the codes of the form as it is kept.
-use Prim.Native.Nat.{ℕ, zero, suc, _+_, _^_, _≤_, _<_}
+-- Forms: a list of fields, or of parameters and then results. A list is read as the codes of the definition's list, so what a
+-- form's reader leaves in the table are the codes of the form as it is kept.
+use Prim.Native.Nat.{ℕ, _+_}
 use mathlib.Core.Path.{_≡_, refl, sym, ap, _∙_}
 use mathlib.Core.Bool.{Bool, true, false}
-use mathlib.Core.List.{List, [], _∷_, _++_, map, map-map}
+use mathlib.Core.List.{List, map}
 use native.Mathlib.Omega.{arith}
-use lib.ListN.{length, length-map, length-append, getElem?}
-use lib.Dec.{eqb}
+use lib.ListN.{length, length-map, getElem?}
 use borrow.Author.Tests.{eq-eqb, ne-eqb}
 use mir.Syntax.{w64}
 use mir.Val.{Fits}
+use Rattle.scope.specs.Refusals.{bytesEnd, notListed}
 use Rattle.scope.specs.Sizes.{mostEach}
 use Rattle.scope.specs.Reading.{Read, got, refused, Reader, then, entries}
 use Rattle.scope.specs.Numbers.{u32}
 use Rattle.scope.specs.Syntax.{Val, Field, Form, struct, func}
 use Rattle.scope.specs.Sections.{valAt, fieldAt, fewAt, formAt}
-use Rattle.scope.specs.Memory.{valCode, fieldCode, formCodes}
-use Rattle.scope.proofs.Forward.{Ends, stops, reaches, Takes, few-takes, val-takes, field-takes, never-back, unsigned-takes}
+use Rattle.scope.specs.Memory.{formCodes}
+use Rattle.scope.proofs.Forward.{few-takes, val-takes, never-back, unsigned-takes}
 use Rattle.scope.proofs.Impossible.{contradiction, impossible}
 use Rattle.number.specs.declared.Byte.{Byte}
 use Rattle.number.specs.declared.Byte
@@ -25,14 +25,16 @@ use Rattle.number.specs.declared.Natural
 use Rattle.number.specs.Answers.{ByteAt, naturalIs}
 use Rattle.number.proofs.Bits.{byte-got, byte-none}
 use Rattle.number.proofs.Laws.{natural-got, natural-refused}
-use Rattle.type_table.specs.Kept.{keptVal, keptField, keptForm}
-use Rattle.type_table.proofs.Puts.{Puts, puts-more, puts-length}
+use Rattle.type_table.specs.Kept.{keptForm}
+use Rattle.type_table.proofs.Puts.{Puts, puts-more}
 use Rattle.type_read.specs.Codes.{valCodeKept, fieldCodeKept}
 use Rattle.section_forms.specs.declared.Entries.{Entries}
 use Rattle.section_forms.specs.declared.Entries
 use Rattle.section_forms.specs.declared.FormRead.{FormRead}
 use Rattle.section_forms.specs.declared.FormRead
 use Rattle.section_forms.specs.Reads.{Room, coding, codeAt, entriesIs, EntriesRead, FewRead, formIs, PartRead, structAt, funcAt, resultsIs, ResultsRead}
+use Rattle.section_forms.proofs.Coding.{fields-coded, vals-coded, list-got, list-refused, field-codes, val-codes}
+use Rattle.section_forms.proofs.Counting.{few-ahead}
 
 -- few_at
 
@@ -62,69 +64,6 @@ module _ (s : List ℕ) (at : ℕ) {c : Natural} (a : c ≡ naturalIs (u32 s at)
         record { behind = omega (arith, room .behind, ends .0); inside = ends .1; enough = room .enough; small = room .small }
 
 pub ruleset few-exits = (few-refused, few-got, few-room)
-
--- a list read as codes is the list, each entry as its code
-
-then-coding : {A B C : Type 0} (f : B → C) (o : Read A) (k : A → ℕ → Read B) → coding f (then o k) ≡ then o (λ x n. coding f (k x n))
-then-coding f (got x n) k = refl
-then-coding f (refused n p) k = refl
-
-module _ {A : Type 0} (one : Reader A) (code : A → ℕ) (coded : Reader ℕ) (same : (s : List ℕ) (at : ℕ) → coded s at ≡ coding code (one s at)) where
-  entries-coded : (room n : ℕ) (s : List ℕ) (at : ℕ) → entries coded room n s at ≡ coding (map code) (entries one room n s at)
-  unfolding entries
-  entries-coded room zero s at = refl
-  entries-coded zero (suc n) s at = refl
-  entries-coded (suc room) (suc n) s at = go (coded s at) (one s at) (same s at) (λ next. entries-coded room n s next)
-    where
-      tail : (x : A) (o : Read (List A)) → then (coding (map code) o) (λ xs stop. got (code x ∷ xs) stop) ≡ coding (map code) (then o (λ xs stop. got (x ∷ xs) stop))
-      tail x (got xs stop) = refl
-      tail x (refused k p) = refl
-
-      go : (c : Read ℕ) (o : Read A) → c ≡ coding code o → ((next : ℕ) → entries coded room n s next ≡ coding (map code) (entries one room n s next))
-          → then c (λ x next. then (entries coded room n s next) (λ xs stop. got (x ∷ xs) stop))
-          ≡ coding (map code) (then o (λ x next. then (entries one room n s next) (λ xs stop. got (x ∷ xs) stop)))
-      go c (got x next) e later = rw (e, later next) (tail x (entries one room n s next))
-      go c (refused k p) e later = rw e
-
-  few-coded : (s : List ℕ) (at : ℕ) → fewAt coded s at ≡ coding (map code) (fewAt one s at)
-  unfolding fewAt
-  few-coded s at = go (u32 s at)
-    where
-      go : (o : Read ℕ) → then o (λ n next. entries coded mostEach n s next) ≡ coding (map code) (then o (λ n next. entries one mostEach n s next))
-      go (got n next) = entries-coded mostEach n s next
-      go (refused k p) = refl
-
-fields-coded : (s : List ℕ) (at : ℕ) → fewAt (codeAt true) s at ≡ coding (map fieldCodeKept) (fewAt fieldAt s at)
-unfolding codeAt
-fields-coded = few-coded fieldAt fieldCodeKept (codeAt true) (λ s at. refl)
-
-vals-coded : (s : List ℕ) (at : ℕ) → fewAt (codeAt false) s at ≡ coding (map valCodeKept) (fewAt valAt s at)
-unfolding codeAt
-vals-coded = few-coded valAt valCodeKept (codeAt false) (λ s at. refl)
-
--- the answer of few_at, taken apart
-
-module _ {A : Type 0} (code : A → ℕ) where
-  list-got : (o : Read (List A)) {r : Entries} {n next : ℕ} → r ≡ entriesIs (coding (map code) o) → r ≡ Entries.the-variants.Got n next → (xs : List A) × (o ≡ got xs next) × (n ≡ length xs)
-  list-got (got xs m) {n = n} {next = next} p q =
-      let e : length (map code xs) ≡ n = cc in
-      let f : m ≡ next = cc in
-      (xs, ap (got xs) f, sym e ∙ length-map xs code)
-  list-got (refused k m) p q = impossible cc
-
-  list-refused : (o : Read (List A)) {r : Entries} {k place : ℕ} → r ≡ entriesIs (coding (map code) o) → r ≡ Entries.the-variants.Refused k place → o ≡ refused k place
-  list-refused (got xs m) p q = impossible cc
-  list-refused (refused n m) p q = cc
-
--- a form's codes
-
-field-codes : (fs : List Field) → formCodes (keptForm (struct fs)) ≡ map fieldCodeKept fs
-unfolding fieldCodeKept
-field-codes fs = map-map fieldCode keptField fs
-
-val-codes : (vs : List Val) → map valCode (map keptVal vs) ≡ map valCodeKept vs
-unfolding valCodeKept
-val-codes vs = map-map valCode keptVal vs
 
 -- struct_at
 
@@ -177,47 +116,6 @@ pub ruleset result-exits = (results-refused, results-got)
 
 -- func_at
 
--- a list's entries take a byte each
-data Counted {A : Type 0} (at : ℕ) : Read (List A) → Type 0 where
-  uncounted : {k place : ℕ} → Counted at (refused k place)
-  counted : {xs : List A} {next : ℕ} → at + length xs ≤ next → Counted at (got xs next)
-
-one-more : {A : Type 0} {at next : ℕ} (x : A) {o : Read (List A)} → at + 1 ≤ next → Counted next o → Counted at (then o (λ xs stop. got (x ∷ xs) stop))
-one-more x h uncounted = uncounted
-one-more {at = at} x h (counted {xs = xs} {next = stop} k) = let q : at + length (x ∷ xs) ≤ stop = omega arith in counted q
-
-none-more : (at : ℕ) → at + 0 ≤ at
-none-more at = omega arith
-
-entries-counted : {A : Type 0} {one : Reader A} → Takes one → (room n : ℕ) (s : List ℕ) (at : ℕ) → Counted at (entries one room n s at)
-unfolding entries
-entries-counted t room zero s at = counted (none-more at)
-entries-counted t zero (suc n) s at = uncounted
-entries-counted {A} {one} t (suc room) (suc n) s at = go (t .takes s at) (λ next. entries-counted t room n s next)
-  where
-    go : {o : Read A} → Ends (at + 1) (length s) o → ((next : ℕ) → Counted next (entries one room n s next)) → Counted at (then o (λ x next. then (entries one room n s next) (λ xs stop. got (x ∷ xs) stop)))
-    go stops later = uncounted
-    go (reaches {x = x} {next = next} a b) later = one-more x a (later next)
-
-few-counted : {A : Type 0} {one : Reader A} → Takes one → (s : List ℕ) (at : ℕ) → Counted at (fewAt one s at)
-unfolding fewAt
-few-counted {A} {one} t s at = go (unsigned-takes 32 .takes s at)
-  where
-    earlier : {next : ℕ} {o : Read (List A)} → at + 1 ≤ next → Counted next o → Counted at o
-    earlier h uncounted = uncounted
-    earlier {next} h (counted {xs = xs} {next = stop} k) = let q : at + length xs ≤ stop = omega arith in counted q
-
-    go : {o : Read ℕ} → Ends (at + 1) (length s) o → Counted at (then o (λ n next. entries one mostEach n s next))
-    go stops = uncounted
-    go (reaches {x = n} {next = next} a b) = earlier a (entries-counted t mostEach n s next)
-
-pub few-ahead : {A : Type 0} {one : Reader A} → Takes one → (s : List ℕ) (at : ℕ) {xs : List A} {next : ℕ} → fewAt one s at ≡ got xs next → at + length xs ≤ next
-few-ahead {A} {one} t s at {xs} {next} e = go (few-counted t s at) e
-  where
-    go : {o : Read (List A)} → Counted at o → o ≡ got xs next → at + length xs ≤ next
-    go uncounted q = impossible cc
-    go (counted {xs = ys} {next = stop} h) q = let a : ys ≡ xs = cc in let b : stop ≡ next = cc in let c : length ys ≡ length xs = ap length a in omega arith
-
 module _ {s : List ℕ} {at : ℕ} {codes codes′ : List ℕ} {used : ℕ} {r : Entries} (a : FewRead (codeAt false) s at codes codes′ used r) where
   pub func-refused : {k place : ℕ} → r ≡ Entries.the-variants.Refused k place → PartRead funcAt s at codes codes′ used (FormRead.the-variants.Refused k place)
   func-refused {k} {place} e =
@@ -237,7 +135,7 @@ module _ {s : List ℕ} {at : ℕ} {codes codes′ : List ℕ} {used : ℕ} {r :
         record { behind = omega (arith, room .behind); inside = ends .1; enough = omega (arith, room .enough, a .size); small = room .small }
 
     pub results-fit : Room s codes at used → Fits w64 (used + n)
-    results-fit room = let after = results-room room in record { fits = omega (arith, after .behind, after .inside, after .small) }
+    results-fit room = let left = results-room room in record { fits = omega (arith, left .behind, left .inside, left .small) }
 
     func-read : {codes″ : List ℕ} {q : FormRead} (ps : List Val) → fewAt valAt s at ≡ got ps next → n ≡ length ps → ResultsRead n s next codes′ codes″ (used + n) q → PartRead funcAt s at codes codes″ used q
     func-read {codes″} {q} ps read count b =
@@ -281,7 +179,7 @@ module _ {s : List ℕ} {at : ℕ} {r : Byte} (a : ByteAt s at r) where
   no-form : (codes : List ℕ) (used : ℕ) {k place : ℕ} → formAt s at ≡ refused k place → PartRead formAt s at codes codes used (FormRead.the-variants.Refused k place)
   no-form codes used e = record { answer = rw e; memory = λ f next g. impossible cc; size = refl }
 
-  pub form-missing : (codes : List ℕ) (used : ℕ) → r ≡ Byte.the-variants.Missing → PartRead formAt s at codes codes used (FormRead.the-variants.Refused 1 at)
+  pub form-missing : (codes : List ℕ) (used : ℕ) → r ≡ Byte.the-variants.Missing → PartRead formAt s at codes codes used (FormRead.the-variants.Refused bytesEnd at)
   unfolding formAt
   form-missing codes used e = no-form codes used (rw (byte-none (getElem? s at) (a .is) e))
 
@@ -297,7 +195,7 @@ module _ {s : List ℕ} {at : ℕ} {r : Byte} (a : ByteAt s at r) where
     unfolding formAt
     form-func f g p = part-is (rw (byte-got (getElem? s at) (a .is) e, ne-eqb b 0x5F f, eq-eqb b 0x60 g)) p
 
-    pub form-unlisted : (codes : List ℕ) (used : ℕ) → (b ≡ 0x5F → ⊥) → (b ≡ 0x60 → ⊥) → PartRead formAt s at codes codes used (FormRead.the-variants.Refused 3 at)
+    pub form-unlisted : (codes : List ℕ) (used : ℕ) → (b ≡ 0x5F → ⊥) → (b ≡ 0x60 → ⊥) → PartRead formAt s at codes codes used (FormRead.the-variants.Refused notListed at)
     unfolding formAt
     form-unlisted codes used f g = no-form codes used (rw (byte-got (getElem? s at) (a .is) e, ne-eqb b 0x5F f, ne-eqb b 0x60 g))
 

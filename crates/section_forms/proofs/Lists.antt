@@ -9,11 +9,13 @@ use native.Mathlib.Nat.{mod-eq-of-lt}
 use lib.ListN.{length, set, length-append}
 use mir.Syntax.{w64}
 use mir.Val.{Fits}
+use Rattle.scope.specs.Refusals.{oversize}
 use Rattle.scope.specs.Sizes.{mostEach}
 use Rattle.scope.specs.Reading.{Read, got, refused, Reader, then, entries}
 use Rattle.scope.specs.Sections.{valAt, fieldAt}
 use Rattle.scope.proofs.Forward.{Ends, stops, reaches, Takes, val-takes, field-takes, never-back}
 use Rattle.scope.proofs.Impossible.{contradiction}
+use Rattle.lent_u16.specs.Words.{wordLimit}
 use Rattle.type_table.proofs.Puts.{Puts, puts-none, puts-one, puts-more, puts-length}
 use Rattle.type_read.specs.declared.Coded.{Coded}
 use Rattle.type_read.specs.declared.Coded
@@ -50,7 +52,7 @@ unfolding codeAt
 code-takes true = record { takes = λ s at. coding-ends fieldCodeKept (field-takes .takes s at) }
 code-takes false = record { takes = λ s at. coding-ends valCodeKept (val-takes .takes s at) }
 
-code-most : (fields : Bool) (s : List ℕ) (at : ℕ) {c next : ℕ} → codeAt fields s at ≡ got c next → c < 65536
+code-most : (fields : Bool) (s : List ℕ) (at : ℕ) {c next : ℕ} → codeAt fields s at ≡ got c next → c < wordLimit
 unfolding codeAt
 code-most true s at {c} {next} e = let h = field-code-most (fieldAt s at) refl (coded-coding fieldCodeKept (fieldAt s at) ∙ ap (codedIs itself) e) in omega arith
 code-most false s at {c} {next} e = let h = val-code-most (valAt s at) refl (coded-coding valCodeKept (valAt s at) ∙ ap (codedIs itself) e) in omega arith
@@ -65,9 +67,9 @@ onto done (refused n p) = refused n p
 pub record Listed (fields : Bool) (n : ℕ) (s : List ℕ) (at : ℕ) (codes₀ codes : List ℕ) (used next count : ℕ) : Type 0 where
   pub done : List ℕ
   pub counted : length done ≡ count
-  pub few : count ≤ 64
+  pub few : count ≤ mostEach
   pub fewer : count ≤ n
-  pub same : entries (codeAt fields) 64 n s at ≡ onto done (entries (codeAt fields) (64 - count) (n - count) s next)
+  pub same : entries (codeAt fields) mostEach n s at ≡ onto done (entries (codeAt fields) (mostEach - count) (n - count) s next)
   pub puts : Puts codes₀ codes used done
   pub ahead : at + count ≤ next
   pub inside : next ≤ length s
@@ -93,7 +95,7 @@ entries-refused one zero n s at p q e = absurd (omega arith)
 entries-refused one (suc room) zero s at p q e = absurd (omega arith)
 entries-refused one (suc room) (suc n) s at p q e = rw e
 
-pub entries-over : {A : Type 0} (one : Reader A) (room n : ℕ) (s : List ℕ) (at : ℕ) → room ≤ 0 → 0 < n → entries one room n s at ≡ refused 4 at
+pub entries-over : {A : Type 0} (one : Reader A) (room n : ℕ) (s : List ℕ) (at : ℕ) → room ≤ 0 → 0 < n → entries one room n s at ≡ refused oversize at
 unfolding entries
 entries-over one zero zero s at p q = absurd (omega arith)
 entries-over one zero (suc n) s at p q = refl
@@ -111,22 +113,22 @@ listed-first {s} {codes} {at} {used} n fields room =
       counted = refl;
       few = omega arith;
       fewer = omega arith;
-      same = let e : n - 0 ≡ n = omega arith in rw e (onto-none (entries (codeAt fields) 64 n s at));
+      same = let e : n - 0 ≡ n = omega arith in rw e (onto-none (entries (codeAt fields) mostEach n s at));
       puts = puts-none codes used (omega (arith, room .behind, room .inside, room .enough));
       ahead = omega arith;
       inside = room .inside;
     }
 
 module _ {fields : Bool} {n : ℕ} {s : List ℕ} {at : ℕ} {codes₀ codes : List ℕ} {used next count : ℕ} (p : Listed fields n s at codes₀ codes used next count) where
-  no-list : {r : Entries} → ((xs : List ℕ) (stop : ℕ) → entries (codeAt fields) 64 n s at ≡ got xs stop → ⊥) → r ≡ entriesIs (entries (codeAt fields) 64 n s at) → EntriesRead (codeAt fields) n s at codes₀ codes used r
+  no-list : {r : Entries} → ((xs : List ℕ) (stop : ℕ) → entries (codeAt fields) mostEach n s at ≡ got xs stop → ⊥) → r ≡ entriesIs (entries (codeAt fields) mostEach n s at) → EntriesRead (codeAt fields) n s at codes₀ codes used r
   no-list never e = record { answer = e; memory = λ xs stop f. absurd (never xs stop f); size = puts-length (p .puts) }
 
-  refused-list : {k place : ℕ} → entries (codeAt fields) 64 n s at ≡ refused k place → EntriesRead (codeAt fields) n s at codes₀ codes used (Entries.the-variants.Refused k place)
+  refused-list : {k place : ℕ} → entries (codeAt fields) mostEach n s at ≡ refused k place → EntriesRead (codeAt fields) n s at codes₀ codes used (Entries.the-variants.Refused k place)
   refused-list e = no-list (λ xs stop f. contradiction cc) (rw e)
 
   pub listed-done : n ≤ count → EntriesRead (codeAt fields) n s at codes₀ codes used (Entries.the-variants.Got count next)
   listed-done h =
-      let all : entries (codeAt fields) 64 n s at ≡ got (p .done ++ []) next = p .same ∙ ap (onto (p .done)) (entries-done (codeAt fields) (64 - count) (n - count) s next (omega arith)) in
+      let all : entries (codeAt fields) mostEach n s at ≡ got (p .done ++ []) next = p .same ∙ ap (onto (p .done)) (entries-done (codeAt fields) (mostEach - count) (n - count) s next (omega arith)) in
       let long : length (p .done ++ []) ≡ count = length-append (p .done) [] ∙ (let q = p .counted in omega arith) in
       record {
         answer = rw (all, long);
@@ -135,23 +137,23 @@ module _ {fields : Bool} {n : ℕ} {s : List ℕ} {at : ℕ} {codes₀ codes : L
       }
 
   module _ (more : count < n) where
-    pub listed-over : 64 ≤ count → EntriesRead (codeAt fields) n s at codes₀ codes used (Entries.the-variants.Refused 4 next)
-    listed-over h = refused-list (p .same ∙ ap (onto (p .done)) (entries-over (codeAt fields) (64 - count) (n - count) s next (omega arith) (omega arith)))
+    pub listed-over : mostEach ≤ count → EntriesRead (codeAt fields) n s at codes₀ codes used (Entries.the-variants.Refused oversize next)
+    listed-over h = refused-list (p .same ∙ ap (onto (p .done)) (entries-over (codeAt fields) (mostEach - count) (n - count) s next (omega arith) (omega arith)))
 
-    module _ (room : count < 64) {r : Coded} (a : r ≡ codedIs itself (codeAt fields s next)) where
+    module _ (room : count < mostEach) {r : Coded} (a : r ≡ codedIs itself (codeAt fields s next)) where
       pub listed-refused : {k place : ℕ} → r ≡ Coded.the-variants.Refused k place → EntriesRead (codeAt fields) n s at codes₀ codes used (Entries.the-variants.Refused k place)
       listed-refused e =
           refused-list
           (p .same
-          ∙ ap (onto (p .done)) (entries-refused (codeAt fields) (64 - count) (n - count) s next (omega arith) (omega arith) (coded-refused itself (codeAt fields s next) a e)))
+          ∙ ap (onto (p .done)) (entries-refused (codeAt fields) (mostEach - count) (n - count) s next (omega arith) (omega arith) (coded-refused itself (codeAt fields s next) a e)))
 
       module _ {code after : ℕ} (e : r ≡ Coded.the-variants.Is code after) where
         code-read : codeAt fields s next ≡ got code after
         code-read = let (x, read, same) = coded-got itself (codeAt fields s next) a e in read ∙ ap (λ (c : ℕ). got c after) (sym same)
 
-        pub listed-turn : {codes′ : List ℕ} → codes′ ≡ set codes (used + count) (code % 65536) → Room s codes₀ at used → Listed fields n s at codes₀ codes′ used after (count + 1)
+        pub listed-turn : {codes′ : List ℕ} → codes′ ≡ set codes (used + count) (code % wordLimit) → Room s codes₀ at used → Listed fields n s at codes₀ codes′ used after (count + 1)
         listed-turn {codes′} f space =
-            let small : code % 65536 ≡ code = mod-eq-of-lt (code-most fields s next code-read) in
+            let small : code % wordLimit ≡ code = mod-eq-of-lt (code-most fields s next code-read) in
             let ends = never-back (code-takes fields) s next code-read in
             let q : length (p .done) ≡ count = p .counted in
             let size : length codes ≡ length codes₀ = puts-length (p .puts) in
@@ -164,18 +166,18 @@ module _ {fields : Bool} {n : ℕ} {s : List ℕ} {at : ℕ} {codes₀ codes : L
               fewer = omega arith;
               same =
                   p .same
-                  ∙ ap (onto (p .done)) (entries-step (codeAt fields) (64 - count) (n - count) s next (omega arith) (omega arith) code-read)
-                  ∙ onto-more (p .done) code (entries (codeAt fields) (64 - count - 1) (n - count - 1) s after)
+                  ∙ ap (onto (p .done)) (entries-step (codeAt fields) (mostEach - count) (n - count) s next (omega arith) (omega arith) code-read)
+                  ∙ onto-more (p .done) code (entries (codeAt fields) (mostEach - count - 1) (n - count - 1) s after)
                   ∙ ap₂ (λ (i j : ℕ). onto (p .done ++ code ∷ []) (entries (codeAt fields) i j s after)) (omega arith) (omega arith);
               puts = puts-more (p .puts) (rw q one);
               ahead = omega (arith, p .ahead, ends .0);
               inside = ends .1;
             }
 
-  pub place-fits : count < n → count < 64 → Room s codes₀ at used → Fits w64 (used + count)
+  pub place-fits : count < n → count < mostEach → Room s codes₀ at used → Fits w64 (used + count)
   place-fits h k space = record { fits = omega (arith, space .behind, space .inside, space .small) }
 
-  pub count-fits : count < n → count < 64 → Fits w64 (count + 1)
+  pub count-fits : count < n → count < mostEach → Fits w64 (count + 1)
   count-fits h k = record { fits = omega arith }
 
   pub listed-size : length codes ≡ length codes₀

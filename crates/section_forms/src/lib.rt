@@ -1,6 +1,8 @@
 // Reading the forms of definitions into the lent table: lists of fields, parameters and results as codes.
 use number::Byte;
 use number::Natural;
+use scope::refusals;
+use scope::sizes;
 use type_read::Coded;
 ghost use mathlib.Core.Path.{_≡_};
 ghost use Rattle.section_forms.specs.Reads.{Room, codeAt, itself, EntriesRead, FewRead, PartRead, ResultsRead, structAt, funcAt};
@@ -31,8 +33,8 @@ fn entries_at(s: &[u8], at: usize, n: u64, fields: bool, codes: &mut [u16], used
     let mut next = at;
     let mut count: u64 = 0;
     while count < n {
-        if 64 <= count {
-            return Entries::Refused(4, next);
+        if sizes::MOST_EACH <= count {
+            return Entries::Refused(refusals::OVERSIZE, next);
         }
         let read = code_at(s, next, fields);
         match read {
@@ -111,7 +113,7 @@ pub fn form_at(s: &[u8], at: usize, codes: &mut [u16], used: u64) -> FormRead
 {
     let first = number::byte_at(s, at);
     let Byte::Is(b) = first else {
-        return FormRead::Refused(1, at);
+        return FormRead::Refused(refusals::BYTES_END, at);
     };
     if b == 0x5F {
         return struct_at(s, at + 1, codes, used);
@@ -119,5 +121,5 @@ pub fn form_at(s: &[u8], at: usize, codes: &mut [u16], used: u64) -> FormRead
     if b == 0x60 {
         return func_at(s, at + 1, codes, used);
     }
-    FormRead::Refused(3, at)
+    FormRead::Refused(refusals::NOT_LISTED, at)
 }

@@ -7,6 +7,8 @@ use native.Mathlib.Omega.{arith}
 use lib.ListN.{length, length-append, length-map}
 use mir.Syntax.{w64}
 use mir.Val.{Fits}
+use Rattle.scope.specs.Layout.{rowSpan}
+use Rattle.scope.specs.Refusals.{oversize}
 use Rattle.scope.specs.Sizes.{mostTypes}
 use Rattle.scope.specs.Reading.{Read, got, refused, then, entries}
 use Rattle.scope.specs.Syntax.{Definition}
@@ -78,8 +80,8 @@ more-codes ds d =
     ∙ codes-append (keptAll ds) (keptDefinition d ∷ [])
     ∙ ap (λ cs. codesOf (keptAll ds) ++ cs) (one-codes d)
 
-pub rows-done : (used : ℕ) (ds : List Definition) → length (map low (rowsOf used (keptAll ds))) ≡ 12 * length ds
-rows-done used ds = length-map (rowsOf used (keptAll ds)) low ∙ rows-length used (keptAll ds) ∙ ap (λ (n : ℕ). 12 * n) (length-map ds keptDefinition)
+pub rows-done : (used : ℕ) (ds : List Definition) → length (map low (rowsOf used (keptAll ds))) ≡ rowSpan * length ds
+rows-done used ds = length-map (rowsOf used (keptAll ds)) low ∙ rows-length used (keptAll ds) ∙ ap (λ (n : ℕ). rowSpan * n) (length-map ds keptDefinition)
 
 module _ {reach first n : ℕ} {s : List ℕ} {at : ℕ} {rows₀ rows codes₀ codes : List ℕ} {used next count taken : ℕ} (p : Grouped reach first n s at rows₀ rows codes₀ codes used next count taken) where
   pub grouped-rows-size : length rows ≡ length rows₀
@@ -114,25 +116,25 @@ module _ {reach first n : ℕ} {s : List ℕ} {at : ℕ} {rows₀ rows codes₀ 
           codesSize = b;
         }
 
-    pub grouped-over : 256 ≤ first + count → GroupPut (entriesAt reach first n) s at rows₀ rows codes₀ codes used (GroupRead.the-variants.Refused 4 next)
+    pub grouped-over : mostTypes ≤ first + count → GroupPut (entriesAt reach first n) s at rows₀ rows codes₀ codes used (GroupRead.the-variants.Refused oversize next)
     grouped-over h =
         no-group grouped-rows-size grouped-codes-size
         (p .same ∙ ap (onto (p .done)) (entries-over (definitionAt reach) (mostTypes - first - count) (n - count) s next (omega arith) (omega arith)))
 
-    module _ (space : first + count < 256) where
-      pub grouped-line-fits : Fits w64 (12 * count)
+    module _ (space : first + count < mostTypes) where
+      pub grouped-line-fits : Fits w64 (rowSpan * count)
       grouped-line-fits = record { fits = omega arith }
 
       pub grouped-count-fits : Fits w64 (count + 1)
       grouped-count-fits = record { fits = omega arith }
 
-      pub grouped-place : Lent s rows₀ codes₀ at first used → Place s rows codes next (12 * count) taken
+      pub grouped-place : Lent s rows₀ codes₀ at first used → Place s rows codes next (rowSpan * count) taken
       grouped-place lent =
           let size = grouped-rows-size in
           let lines = lent .lines in
           record { room = p .room; line = omega arith }
 
-      module _ {rows′ codes′ : List ℕ} {r : DefinitionRead} (a : DefinitionPut reach s next rows rows′ (12 * count) codes codes′ taken r) where
+      module _ {rows′ codes′ : List ℕ} {r : DefinitionRead} (a : DefinitionPut reach s next rows rows′ (rowSpan * count) codes codes′ taken r) where
         pub grouped-rows-kept : length rows′ ≡ length rows₀
         grouped-rows-kept = a .rowsSize ∙ grouped-rows-size
 
@@ -151,7 +153,7 @@ module _ {reach first n : ℕ} {s : List ℕ} {at : ℕ} {rows₀ rows codes₀ 
             let t : taken ≡ used + length (codesOf (keptAll (p .done))) = p .takes in
             let ends = never-back (definition-takes reach) s next read in
             let ahead = definition-ahead reach s next read in
-            let line : 0 + length (map low (rowsOf used (keptAll (p .done)))) ≡ 12 * count = (let l = rows-done used (p .done) in omega arith) in
+            let line : 0 + length (map low (rowsOf used (keptAll (p .done)))) ≡ rowSpan * count = (let l = rows-done used (p .done) in omega arith) in
             let put : Puts rows rows′ (0 + length (map low (rowsOf used (keptAll (p .done))))) (map low (row (used + length (codesOf (keptAll (p .done)))) (keptDefinition d))) =
             rw (line, ← t) (a .rowPut d after read) in
             let coded : Puts codes codes′ (used + length (codesOf (keptAll (p .done)))) (formCodes (keptForm (d .form))) = rw (← t) (a .codesPut d after read) in

@@ -9,6 +9,7 @@ use lib.Dec.{ltb, eqb}
 use borrow.Author.Tests.{eq-eqb, ne-eqb, lt-ltb, le-ltb}
 use mir.Syntax.{w64}
 use mir.Val.{Fits}
+use Rattle.scope.specs.Refusals.{bytesEnd, oversize}
 use Rattle.scope.specs.Sizes.{mostTypes}
 use Rattle.scope.specs.Reading.{Read, got, refused, Reader, then}
 use Rattle.scope.specs.Numbers.{u32}
@@ -85,16 +86,16 @@ pub ruleset several-exits = (several-refused, several-lent, several-reach-fits, 
 
 -- alone_at
 
-pub alone-over : {first : ℕ} (s : List ℕ) (at : ℕ) (rows codes : List ℕ) (used : ℕ) → 256 ≤ first → GroupPut (aloneAt first) s at rows rows codes codes used (GroupRead.the-variants.Refused 4 at)
+pub alone-over : {first : ℕ} (s : List ℕ) (at : ℕ) (rows codes : List ℕ) (used : ℕ) → mostTypes ≤ first → GroupPut (aloneAt first) s at rows rows codes codes used (GroupRead.the-variants.Refused oversize at)
 alone-over {first} s at rows codes used h = no-put (aloneAt first) s at used refl refl (rw (le-ltb first mostTypes h))
 
-pub alone-place : {s rows codes : List ℕ} {at first used : ℕ} → first < 256 → Lent s rows codes at first used → Place s rows codes at 0 used
+pub alone-place : {s rows codes : List ℕ} {at first used : ℕ} → first < mostTypes → Lent s rows codes at first used → Place s rows codes at 0 used
 alone-place h lent = let l = lent .lines in record { room = lent .room; line = omega arith }
 
-pub alone-reach-fits : (first : ℕ) → first < 256 → Fits w64 (first + 1)
+pub alone-reach-fits : (first : ℕ) → first < mostTypes → Fits w64 (first + 1)
 alone-reach-fits first h = record { fits = omega arith }
 
-module _ {s : List ℕ} {at first : ℕ} {rows rows′ codes codes′ : List ℕ} {used : ℕ} {r : DefinitionRead} (h : first < 256) (a : DefinitionPut (first + 1) s at rows rows′ 0 codes codes′ used r) where
+module _ {s : List ℕ} {at first : ℕ} {rows rows′ codes codes′ : List ℕ} {used : ℕ} {r : DefinitionRead} (h : first < mostTypes) (a : DefinitionPut (first + 1) s at rows rows′ 0 codes codes′ used r) where
   alone-is : {o : Read Definition} → definitionAt (first + 1) s at ≡ o → aloneAt first s at ≡ then o (λ d next. got (d ∷ []) next)
   alone-is e = rw (lt-ltb first mostTypes h, e)
 
@@ -121,7 +122,7 @@ pub ruleset alone-exits = (alone-over, alone-place, alone-reach-fits, alone-refu
 -- group_at
 
 module _ {s : List ℕ} {at : ℕ} {b : Byte} (a : ByteAt s at b) where
-  pub group-missing : (first : ℕ) (rows codes : List ℕ) (used : ℕ) → b ≡ Byte.the-variants.Missing → GroupPut (groupAt first) s at rows rows codes codes used (GroupRead.the-variants.Refused 1 at)
+  pub group-missing : (first : ℕ) (rows codes : List ℕ) (used : ℕ) → b ≡ Byte.the-variants.Missing → GroupPut (groupAt first) s at rows rows codes codes used (GroupRead.the-variants.Refused bytesEnd at)
   unfolding groupAt
   group-missing first rows codes used e = no-put (groupAt first) s at used refl refl (rw (byte-none (getElem? s at) (a .is) e))
 

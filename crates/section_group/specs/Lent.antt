@@ -5,6 +5,7 @@ use mathlib.Core.Bool.{cond}
 use lib.Dec.{ltb}
 use mathlib.Core.List.{List, [], _∷_, map}
 use lib.ListN.{length}
+use Rattle.scope.specs.Layout.{rowSpan}
 use Rattle.scope.specs.Sizes.{mostTypes}
 use Rattle.scope.specs.Refusals.{oversize}
 use Rattle.scope.specs.Reading.{Read, got, refused, Reader, then, entries}
@@ -23,7 +24,7 @@ use Rattle.section_group.specs.declared.GroupRead
 pub record Lent (s rows codes : List ℕ) (at first used : ℕ) : Type 0 where
   pub room : Room s codes at used
   pub few : first ≤ mostTypes
-  pub lines : 12 * (mostTypes - first) ≤ length rows
+  pub lines : rowSpan * (mostTypes - first) ≤ length rows
 
 -- n definitions of a group that reaches so far and whose first type has the number `first`
 abbrev pub entriesAt : ℕ → ℕ → ℕ → Reader (List Definition)

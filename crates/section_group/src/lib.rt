@@ -2,6 +2,8 @@
 // from its first row on.
 use number::Byte;
 use number::Natural;
+use scope::refusals;
+use scope::sizes;
 use section_definition::DefinitionRead;
 ghost use Rattle.scope.specs.Sections.{groupAt};
 ghost use Rattle.section_group.specs.Lent.{Lent, GroupPut, entriesAt, severalAt, aloneAt};
@@ -31,15 +33,15 @@ fn entries_at(
     let mut count: u64 = 0;
     let mut taken = used;
     while count < n {
-        if 256 <= first + count {
-            return GroupRead::Refused(4, next);
+        if sizes::MOST_TYPES <= first + count {
+            return GroupRead::Refused(refusals::OVERSIZE, next);
         }
         let read = section_definition::definition_at(
             s,
             next,
             reach,
             rows,
-            12 * count,
+            sizes::ROW * count,
             codes,
             taken,
         );
@@ -88,8 +90,8 @@ fn alone_at(
     requires { ⌜ Lent (now s) (now rows) (now codes) at first used ⌝ }
     ensures { λ r. ⌜ GroupPut (aloneAt first) (now (s .entry)) at (now (rows .entry)) (now (rows .exit)) (now (codes .entry)) (now (codes .exit)) used r ⌝ }
 {
-    if 256 <= first {
-        return GroupRead::Refused(4, at);
+    if sizes::MOST_TYPES <= first {
+        return GroupRead::Refused(refusals::OVERSIZE, at);
     }
     let read = section_definition::definition_at(s, at, first + 1, rows, 0, codes, used);
     match read {
@@ -112,7 +114,7 @@ pub fn group_at(
 {
     let form = number::byte_at(s, at);
     let Byte::Is(b) = form else {
-        return GroupRead::Refused(1, at);
+        return GroupRead::Refused(refusals::BYTES_END, at);
     };
     if b == 0x4E {
         return several_at(s, at + 1, first, rows, codes, used);

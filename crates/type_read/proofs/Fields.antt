@@ -9,6 +9,7 @@ use lib.Dec.{eqb}
 use borrow.Author.Tests.{eq-eqb, ne-eqb}
 use mir.Syntax.{w64}
 use mir.Val.{Fits}
+use Rattle.scope.specs.Refusals.{bytesEnd, notListed}
 use Rattle.scope.specs.Reading.{Read, got, refused, then}
 use Rattle.scope.specs.Syntax.{Number, i32, i64, f32, f64, Val, num, ref, Field}
 use Rattle.scope.specs.Sections.{valAt, flagAt, fieldAt}
@@ -26,7 +27,7 @@ use Rattle.type_read.proofs.Vals.{coded-got, coded-refused}
 -- flag_at
 
 module _ {s : List ℕ} {at : ℕ} {r : Byte} (a : ByteAt s at r) where
-  pub flag-missing : r ≡ Byte.the-variants.Missing → Coded.the-variants.Refused 1 at ≡ codedIs flag (flagAt s at)
+  pub flag-missing : r ≡ Byte.the-variants.Missing → Coded.the-variants.Refused bytesEnd at ≡ codedIs flag (flagAt s at)
   flag-missing e = rw (byte-none (getElem? s at) (a .is) e)
 
   module _ {b : ℕ} (e : r ≡ Byte.the-variants.Is b) where
@@ -36,7 +37,7 @@ module _ {s : List ℕ} {at : ℕ} {r : Byte} (a : ByteAt s at r) where
     pub flag-mutable : b ≡ 1 → Coded.the-variants.Is 1 (at + 1) ≡ codedIs flag (flagAt s at)
     flag-mutable f = rw (byte-got (getElem? s at) (a .is) e, f)
 
-    pub flag-unlisted : (b ≡ 0 → ⊥) → (b ≡ 1 → ⊥) → Coded.the-variants.Refused 3 at ≡ codedIs flag (flagAt s at)
+    pub flag-unlisted : (b ≡ 0 → ⊥) → (b ≡ 1 → ⊥) → Coded.the-variants.Refused notListed at ≡ codedIs flag (flagAt s at)
     flag-unlisted f g = rw (byte-got (getElem? s at) (a .is) e, ne-eqb b 0 f, ne-eqb b 1 g)
 
 pub ruleset flag-exits = (flag-missing, flag-fixed, flag-mutable, flag-unlisted)

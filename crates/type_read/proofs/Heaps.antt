@@ -10,6 +10,7 @@ use lib.Dec.{eqb}
 use borrow.Author.Tests.{eq-eqb, ne-eqb}
 use mir.Syntax.{w64}
 use mir.Val.{Fits}
+use Rattle.scope.specs.Refusals.{bytesEnd, notListed}
 use Rattle.scope.specs.Reading.{Read, got, refused, given, then}
 use Rattle.scope.specs.Numbers.{Whole, plus, minus, u32, s33}
 use Rattle.scope.specs.Abstract.{Abstract, abstractOf}
@@ -23,28 +24,28 @@ use Rattle.number.specs.declared.Natural
 use Rattle.number.specs.declared.Integer.{Integer}
 use Rattle.number.specs.declared.Integer
 use Rattle.number.specs.Answers.{ByteAt, naturalIs, integerIs}
-use Rattle.number.proofs.Bits.{byte-got, byte-none}
+use Rattle.number.proofs.Bits.{byte-got, byte-none, next-fits}
 use Rattle.number.proofs.Laws.{natural-got, natural-refused, integer-plus, integer-minus, integer-refused}
 use Rattle.type_abstract.specs.declared.AbstractType.{AbstractType}
 use Rattle.type_abstract.specs.declared.AbstractType
 use Rattle.type_abstract.specs.Heaps.{abstractIs}
 use Rattle.type_abstract.proofs.Laws.{is-inv, not-one-inv, code-small}
-use Rattle.type_table.specs.Kept.{kept, keptHeap}
+use Rattle.type_table.specs.Kept.{beyond, kept, keptHeap}
 use Rattle.type_read.specs.declared.Coded.{Coded}
 use Rattle.type_read.specs.declared.Coded
 use Rattle.type_read.specs.Codes.{codedIs, heapCodeKept, exactAt, definedAt}
 
 -- kept_number
 
-pub kept-small : {x : ℕ} → x < 4095 → x ≡ kept x
+pub kept-small : {x : ℕ} → x < beyond → x ≡ kept x
 kept-small h = omega arith
 
-pub kept-beyond : {x : ℕ} → 4095 ≤ x → 4095 ≡ kept x
+pub kept-beyond : {x : ℕ} → beyond ≤ x → beyond ≡ kept x
 kept-beyond h = omega arith
 
 pub ruleset kept-exits = (kept-small, kept-beyond)
 
-kept-most : (x : ℕ) → kept x ≤ 4095
+kept-most : (x : ℕ) → kept x ≤ beyond
 kept-most x = omega arith
 
 pub kept-code-fits : (x : ℕ) {k : ℕ} → k ≡ kept x → Fits w64 (2 * k)
@@ -73,7 +74,7 @@ module _ (s : List ℕ) (at : ℕ) {r : Integer} (a : r ≡ integerIs (s33 s at)
   unfolding heapCodeKept
   defined-got e f = rw (integer-plus (s33 s at) a e, f)
 
-  pub defined-negative : {x next : ℕ} → r ≡ Integer.the-variants.Minus x next → Coded.the-variants.Refused 3 at ≡ codedIs heapCodeKept (definedAt s at)
+  pub defined-negative : {x next : ℕ} → r ≡ Integer.the-variants.Minus x next → Coded.the-variants.Refused notListed at ≡ codedIs heapCodeKept (definedAt s at)
   defined-negative e = rw (integer-minus (s33 s at) a e)
 
   pub defined-refused : {n place : ℕ} → r ≡ Integer.the-variants.Refused n place → Coded.the-variants.Refused n place ≡ codedIs heapCodeKept (definedAt s at)
@@ -83,11 +84,8 @@ pub ruleset number-exits = (kept-code-fits, exact-code-fits, defined-code-fits, 
 
 -- heap_at
 
-pub next-fits : {s : List ℕ} {at : ℕ} {r : Byte} {b : ℕ} → length s < 2 ^ 64 → ByteAt s at r → r ≡ Byte.the-variants.Is b → Fits w64 (at + 1)
-next-fits {s} {at} {b = b} l a e = let h : at < length s = a .small b e .1 in record { fits = omega arith }
-
 module _ {s : List ℕ} {at : ℕ} {r : Byte} (a : ByteAt s at r) where
-  pub heap-missing : r ≡ Byte.the-variants.Missing → Coded.the-variants.Refused 1 at ≡ codedIs heapCodeKept (heapAt s at)
+  pub heap-missing : r ≡ Byte.the-variants.Missing → Coded.the-variants.Refused bytesEnd at ≡ codedIs heapCodeKept (heapAt s at)
   unfolding heapAt
   heap-missing e = rw (byte-none (getElem? s at) (a .is) e)
 

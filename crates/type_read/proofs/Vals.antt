@@ -11,6 +11,7 @@ use lib.Dec.{eqb}
 use borrow.Author.Tests.{eq-eqb, ne-eqb}
 use mir.Syntax.{w64}
 use mir.Val.{Fits}
+use Rattle.scope.specs.Refusals.{bytesEnd, notListed}
 use Rattle.scope.specs.Reading.{Read, got, refused, given, then}
 use Rattle.scope.specs.Abstract.{Abstract, abstractOf}
 use Rattle.scope.specs.Syntax.{Heap, abstract, defined, exact, Number, i32, i64, f32, f64, Val, num, ref}
@@ -117,7 +118,7 @@ module _ (b : ℕ) (s : List ℕ) (at next : ℕ) where
     reference-not f g = g ∙ sym (rw (ne-eqb b 0x63 e, eq-eqb b 0x64 f))
 
     module _ (f : b ≡ 0x64 → ⊥) {t : AbstractType} (n : t ≡ abstractIs (abstractOf b)) where
-      pub reference-unlisted : t ≡ AbstractType.the-variants.NotOne → Coded.the-variants.Refused 3 at ≡ codedIs valCodeKept (referenceAt b s at next)
+      pub reference-unlisted : t ≡ AbstractType.the-variants.NotOne → Coded.the-variants.Refused notListed at ≡ codedIs valCodeKept (referenceAt b s at next)
       reference-unlisted o = rw (ne-eqb b 0x63 e, ne-eqb b 0x64 f, not-one-inv (abstractOf b) n o)
 
       reference-named : {k : ℕ} (c : Abstract) → abstractOf b ≡ some c → k ≡ abstractCode c → Coded.the-variants.Is (5 + 2 * k) next ≡ codedIs valCodeKept (referenceAt b s at next)
@@ -151,7 +152,7 @@ number-none-inv none p q = refl
 number-none-inv (some n) p q = impossible cc
 
 module _ {s : List ℕ} {at : ℕ} {r : Byte} (a : ByteAt s at r) where
-  pub val-missing : r ≡ Byte.the-variants.Missing → Coded.the-variants.Refused 1 at ≡ codedIs valCodeKept (valAt s at)
+  pub val-missing : r ≡ Byte.the-variants.Missing → Coded.the-variants.Refused bytesEnd at ≡ codedIs valCodeKept (valAt s at)
   unfolding valAt
   val-missing e = rw (byte-none (getElem? s at) (a .is) e)
 

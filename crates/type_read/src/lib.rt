@@ -1,8 +1,9 @@
 // Reading heap types, value types and fields. A type is answered by its code (scope's Memory.antt), a type number that
-// names no type as table's Kept.antt keeps it.
+// names no type as type_table's Kept.antt keeps it.
 use number::Byte;
 use number::Integer;
 use number::Natural;
+use scope::refusals;
 use type_abstract::AbstractType;
 ghost use mathlib.Core.Path.{_≡_};
 ghost use Rattle.scope.specs.Sections.{heapAt, valAt, flagAt, fieldAt, numberOf};
@@ -20,7 +21,11 @@ pub enum Coded {
 pub fn kept_number(x: u64) -> u64
     ensures { λ r. ⌜ r ≡ kept x ⌝ }
 {
-    if x < 4095 { x } else { 4095 }
+    if x < type_table::BEYOND {
+        x
+    } else {
+        type_table::BEYOND
+    }
 }
 
 // 62 was read: the number of an exact type.
@@ -41,7 +46,7 @@ fn defined_at(s: &[u8], at: usize) -> Coded
     let read = number::s33_at(s, at);
     match read {
         Integer::Plus(x, next) => Coded::Is(10 + 2 * kept_number(x), next),
-        Integer::Minus(_, _) => Coded::Refused(3, at),
+        Integer::Minus(_, _) => Coded::Refused(refusals::NOT_LISTED, at),
         Integer::Refused(n, place) => Coded::Refused(n, place),
     }
 }
@@ -51,7 +56,7 @@ pub fn heap_at(s: &[u8], at: usize) -> Coded
 {
     let first = number::byte_at(s, at);
     let Byte::Is(b) = first else {
-        return Coded::Refused(1, at);
+        return Coded::Refused(refusals::BYTES_END, at);
     };
     if b == 0x62 {
         return exact_at(s, at + 1);
@@ -108,7 +113,7 @@ fn reference_at(s: &[u8], at: usize, b: u64, next: usize) -> Coded
     }
     let named = type_abstract::abstract_of(b);
     let AbstractType::Is(a) = named else {
-        return Coded::Refused(3, at);
+        return Coded::Refused(refusals::NOT_LISTED, at);
     };
     Coded::Is(5 + 2 * a, next)
 }
@@ -118,7 +123,7 @@ pub fn val_at(s: &[u8], at: usize) -> Coded
 {
     let first = number::byte_at(s, at);
     let Byte::Is(b) = first else {
-        return Coded::Refused(1, at);
+        return Coded::Refused(refusals::BYTES_END, at);
     };
     let named = number_of(b);
     let NumberType::Is(n) = named else {
@@ -133,7 +138,7 @@ fn flag_at(s: &[u8], at: usize) -> Coded
 {
     let first = number::byte_at(s, at);
     let Byte::Is(b) = first else {
-        return Coded::Refused(1, at);
+        return Coded::Refused(refusals::BYTES_END, at);
     };
     if b == 0 {
         return Coded::Is(0, at + 1);
@@ -141,7 +146,7 @@ fn flag_at(s: &[u8], at: usize) -> Coded
     if b == 1 {
         return Coded::Is(1, at + 1);
     }
-    Coded::Refused(3, at)
+    Coded::Refused(refusals::NOT_LISTED, at)
 }
 
 pub fn field_at(s: &[u8], at: usize) -> Coded

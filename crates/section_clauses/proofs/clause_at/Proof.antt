@@ -1,6 +1,6 @@
--- `fronts::clause_at` meets its contract: the clause is there where its code is.
+-- `section_clauses::clause_at` meets its contract: the clause is there where its code is.
 use borrow.Author.Needs.{needs}
-use Rattle.type_read.proofs.Heaps.{next-fits}
+use Rattle.number.proofs.Bits.{next-fits}
 use Rattle.section_clauses.proofs.Heading.{clause-exits}
 use Rattle.section_clauses.proofs.clause_at.Statement.{statement}
 use Rattle.section_clauses.proofs.clause_at.Tie as tie

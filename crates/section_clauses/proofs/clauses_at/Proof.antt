@@ -1,4 +1,4 @@
--- `fronts::clauses_at` meets its contract: describes, then descriptor.
+-- `section_clauses::clauses_at` meets its contract: describes, then descriptor.
 use borrow.Author.Needs.{needs}
 use Rattle.section_clauses.proofs.Heading.{clauses-exits}
 use Rattle.section_clauses.proofs.clauses_at.Statement.{statement}

@@ -1,4 +1,4 @@
--- `fronts::descriptor_at` meets its contract: the clause, with what was read before it.
+-- `section_clauses::descriptor_at` meets its contract: the clause, with what was read before it.
 use borrow.Author.Needs.{needs}
 use Rattle.section_clauses.proofs.Heading.{descriptor-exits}
 use Rattle.section_clauses.proofs.descriptor_at.Statement.{statement}

@@ -1,4 +1,4 @@
--- `fronts::first_link` meets its contract: by the count.
+-- `section_clauses::first_link` meets its contract: by the count.
 use borrow.Author.Needs.{needs}
 use Rattle.section_clauses.proofs.Listing.{link-exits}
 use Rattle.section_clauses.proofs.first_link.Statement.{statement}

@@ -1,4 +1,4 @@
--- `fronts::front_at` meets its contract: the head, then the clauses.
+-- `section_clauses::front_at` meets its contract: the head, then the clauses.
 use borrow.Author.Needs.{needs}
 use Rattle.section_clauses.proofs.Heading.{front-exits}
 use Rattle.section_clauses.proofs.front_at.Statement.{statement}

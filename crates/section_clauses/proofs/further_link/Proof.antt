@@ -1,4 +1,4 @@
--- `fronts::further_link` meets its contract: by the count and the greater.
+-- `section_clauses::further_link` meets its contract: by the count and the greater.
 use borrow.Author.Needs.{needs}
 use Rattle.section_clauses.proofs.Listing.{link-exits}
 use Rattle.section_clauses.proofs.further_link.Statement.{statement}

@@ -1,6 +1,6 @@
--- `fronts::head_at` meets its contract: 50, 4F or neither, by the byte.
+-- `section_clauses::head_at` meets its contract: 50, 4F or neither, by the byte.
 use borrow.Author.Needs.{needs}
-use Rattle.type_read.proofs.Heaps.{next-fits}
+use Rattle.number.proofs.Bits.{next-fits}
 use Rattle.section_clauses.proofs.Heading.{head-exits}
 use Rattle.section_clauses.proofs.head_at.Statement.{statement}
 use Rattle.section_clauses.proofs.head_at.Tie as tie

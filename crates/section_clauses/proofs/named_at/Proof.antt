@@ -1,4 +1,4 @@
--- `fronts::named_at` meets its contract: the number as the table keeps it.
+-- `section_clauses::named_at` meets its contract: the number as the table keeps it.
 use borrow.Author.Needs.{needs}
 use Rattle.section_clauses.proofs.Heading.{named-exits}
 use Rattle.section_clauses.proofs.Listing.{link-fits}

@@ -1,4 +1,4 @@
--- `fronts::sub_at` meets its contract: the supertypes, with what was read before them.
+-- `section_clauses::sub_at` meets its contract: the supertypes, with what was read before them.
 use borrow.Author.Needs.{needs}
 use Rattle.section_clauses.proofs.Heading.{sub-exits}
 use Rattle.section_clauses.proofs.sub_at.Statement.{statement}

@@ -1,4 +1,4 @@
--- `fronts::super_entries` meets its contract: the loop holds the links of the numbers that are done.
+-- `section_clauses::super_entries` meets its contract: the loop holds the links of the numbers that are done.
 use borrow.Author.Needs.{needs}
 use Rattle.section_clauses.proofs.Listing.{super-exits}
 use Prim.Native.Nat.{_-_}

@@ -1,4 +1,4 @@
--- `fronts::supers_at` meets its contract: the count, then the numbers.
+-- `section_clauses::supers_at` meets its contract: the count, then the numbers.
 use borrow.Author.Needs.{needs}
 use Rattle.section_clauses.proofs.Listing.{supers-exits}
 use Rattle.section_clauses.proofs.supers_at.Statement.{statement}

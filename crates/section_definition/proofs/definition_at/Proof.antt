@@ -1,4 +1,4 @@
--- `definitions::definition_at` meets its contract: what stands before the form, then the form and its row.
+-- `section_definition::definition_at` meets its contract: what stands before the form, then the form and its row.
 use borrow.Author.Needs.{needs}
 use Rattle.section_definition.proofs.Defining.{definition-exits}
 use Rattle.section_definition.proofs.definition_at.Statement.{statement}

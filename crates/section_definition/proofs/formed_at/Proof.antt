@@ -1,4 +1,4 @@
--- `definitions::formed_at` meets its contract: the form, then the row made of it.
+-- `section_definition::formed_at` meets its contract: the form, then the row made of it.
 use borrow.Author.Needs.{needs}
 use Rattle.section_definition.proofs.Forming.{formed-exits}
 use Rattle.section_definition.proofs.formed_at.Statement.{statement}

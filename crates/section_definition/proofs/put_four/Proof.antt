@@ -1,4 +1,4 @@
--- `definitions::put_four` meets its contract: one word behind the other.
+-- `section_definition::put_four` meets its contract: one word behind the other.
 use borrow.Author.Needs.{needs}
 use Rattle.section_definition.proofs.Writing.{four-exits}
 use Rattle.section_definition.proofs.put_four.Statement.{statement}

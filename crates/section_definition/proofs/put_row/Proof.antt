@@ -1,4 +1,4 @@
--- `definitions::put_row` meets its contract: four words, three times.
+-- `section_definition::put_row` meets its contract: four words, three times.
 use borrow.Author.Needs.{needs}
 use Rattle.section_definition.proofs.Writing.{row-exits}
 use Rattle.section_definition.proofs.put_row.Statement.{statement}

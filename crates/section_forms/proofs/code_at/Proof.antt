@@ -1,4 +1,4 @@
--- `forms::code_at` meets its contract: by the flag.
+-- `section_forms::code_at` meets its contract: by the flag.
 use borrow.Author.Needs.{needs}
 use Rattle.section_forms.proofs.Lists.{code-exits}
 use Rattle.section_forms.proofs.code_at.Statement.{statement}

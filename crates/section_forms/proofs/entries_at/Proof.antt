@@ -1,4 +1,4 @@
--- `forms::entries_at` meets its contract: the loop puts a code for each entry that the definition reads.
+-- `section_forms::entries_at` meets its contract: the loop puts a code for each entry that the definition reads.
 use borrow.Author.Needs.{needs}
 use Rattle.section_forms.proofs.Lists.{list-exits}
 use Prim.Native.Nat.{_-_}

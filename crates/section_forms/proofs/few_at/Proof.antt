@@ -1,4 +1,4 @@
--- `forms::few_at` meets its contract: the count, then the entries.
+-- `section_forms::few_at` meets its contract: the count, then the entries.
 use borrow.Author.Needs.{needs}
 use Rattle.section_forms.proofs.Forms.{few-exits}
 use Rattle.section_forms.proofs.few_at.Statement.{statement}

@@ -1,7 +1,7 @@
--- `forms::form_at` meets its contract: 5F or 60, by the byte.
+-- `section_forms::form_at` meets its contract: 5F or 60, by the byte.
 use borrow.Author.Needs.{needs}
+use Rattle.number.proofs.Bits.{next-fits}
 use Rattle.section_forms.proofs.Forms.{form-exits}
-use Rattle.type_read.proofs.Heaps.{next-fits}
 use Rattle.section_forms.proofs.form_at.Statement.{statement}
 use Rattle.section_forms.proofs.form_at.Tie as tie
 

@@ -1,4 +1,4 @@
--- `forms::func_at` meets its contract: the parameters, then the results after them in the table.
+-- `section_forms::func_at` meets its contract: the parameters, then the results after them in the table.
 use borrow.Author.Needs.{needs}
 use Rattle.section_forms.proofs.Forms.{func-exits}
 use Rattle.section_forms.proofs.func_at.Statement.{statement}

@@ -1,4 +1,4 @@
--- `forms::results_at` meets its contract: the results.
+-- `section_forms::results_at` meets its contract: the results.
 use borrow.Author.Needs.{needs}
 use Rattle.section_forms.proofs.Forms.{result-exits}
 use Rattle.section_forms.proofs.results_at.Statement.{statement}

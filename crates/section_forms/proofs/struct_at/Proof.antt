@@ -1,4 +1,4 @@
--- `forms::struct_at` meets its contract: the fields.
+-- `section_forms::struct_at` meets its contract: the fields.
 use borrow.Author.Needs.{needs}
 use Rattle.section_forms.proofs.Forms.{struct-exits}
 use Rattle.section_forms.proofs.struct_at.Statement.{statement}

@@ -1,4 +1,4 @@
--- `groups::alone_at` meets its contract: one definition, where there is a row for it.
+-- `section_group::alone_at` meets its contract: one definition, where there is a row for it.
 use borrow.Author.Needs.{needs}
 use Rattle.section_group.proofs.Ways.{alone-exits}
 use Rattle.section_group.proofs.alone_at.Statement.{statement}

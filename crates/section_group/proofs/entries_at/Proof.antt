@@ -1,4 +1,4 @@
--- `groups::entries_at` meets its contract: the loop puts a row and the codes of each definition that is read.
+-- `section_group::entries_at` meets its contract: the loop puts a row and the codes of each definition that is read.
 use borrow.Author.Needs.{needs}
 use Rattle.section_group.proofs.Grouping.{grouped-turn, group-exits}
 use Prim.Native.Nat.{_-_}

@@ -1,4 +1,4 @@
--- `groups::several_at` meets its contract: the count, then the definitions.
+-- `section_group::several_at` meets its contract: the count, then the definitions.
 use borrow.Author.Needs.{needs}
 use Rattle.section_group.proofs.Ways.{several-exits}
 use Rattle.section_group.proofs.several_at.Statement.{statement}

@@ -1,4 +1,4 @@
--- `valtypes::defined_at` meets its contract: a number that is not negative, as the table keeps it, or a refusal.
+-- `type_read::defined_at` meets its contract: a number that is not negative, as the table keeps it, or a refusal.
 use borrow.Author.Needs.{needs}
 use Rattle.type_read.proofs.Heaps.{number-exits}
 use Rattle.type_read.proofs.defined_at.Statement.{statement}

@@ -1,4 +1,4 @@
--- `valtypes::exact_at` meets its contract: the number as the table keeps it, or its refusal.
+-- `type_read::exact_at` meets its contract: the number as the table keeps it, or its refusal.
 use borrow.Author.Needs.{needs}
 use Rattle.type_read.proofs.Heaps.{number-exits}
 use Rattle.type_read.proofs.exact_at.Statement.{statement}

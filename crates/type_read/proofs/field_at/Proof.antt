@@ -1,4 +1,4 @@
--- `valtypes::field_at` meets its contract: the type, then the flag.
+-- `type_read::field_at` meets its contract: the type, then the flag.
 use borrow.Author.Needs.{needs}
 use Rattle.type_read.proofs.Fields.{field-exits}
 use Rattle.type_read.proofs.field_at.Statement.{statement}

@@ -1,4 +1,4 @@
--- `valtypes::heap_at` meets its contract: 62, an abstract code or a number, by the first byte.
+-- `type_read::heap_at` meets its contract: 62, an abstract code or a number, by the first byte.
 use borrow.Author.Needs.{needs}
 use Rattle.type_read.proofs.Heaps.{heap-exits}
 use Rattle.type_read.proofs.heap_at.Statement.{statement}

@@ -1,4 +1,4 @@
--- `valtypes::number_of` meets its contract: each number type by its byte.
+-- `type_read::number_of` meets its contract: each number type by its byte.
 use borrow.Author.Needs.{needs}
 use Rattle.type_read.proofs.Vals.{number-of-exits}
 use Rattle.type_read.proofs.number_of.Statement.{statement}

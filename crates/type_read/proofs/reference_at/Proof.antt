@@ -1,4 +1,4 @@
--- `valtypes::reference_at` meets its contract: 63, 64 or an abstract code, by the byte.
+-- `type_read::reference_at` meets its contract: 63, 64 or an abstract code, by the byte.
 use borrow.Author.Needs.{needs}
 use Rattle.type_read.proofs.Vals.{reference-exits}
 use Rattle.type_read.proofs.reference_at.Statement.{statement}

@@ -1,4 +1,4 @@
--- `valtypes::referent_at` meets its contract: the reference's code is made of its heap type's.
+-- `type_read::referent_at` meets its contract: the reference's code is made of its heap type's.
 use borrow.Author.Needs.{needs}
 use Rattle.type_read.proofs.Vals.{referent-exits}
 use Rattle.type_read.proofs.referent_at.Statement.{statement}

@@ -1,7 +1,7 @@
--- `valtypes::val_at` meets its contract: a number by its byte, else a reference.
+-- `type_read::val_at` meets its contract: a number by its byte, else a reference.
 use borrow.Author.Needs.{needs}
+use Rattle.number.proofs.Bits.{next-fits}
 use Rattle.type_read.proofs.Vals.{val-exits}
-use Rattle.type_read.proofs.Heaps.{next-fits}
 use Rattle.type_read.proofs.val_at.Statement.{statement}
 use Rattle.type_read.proofs.val_at.Tie as tie
 
