@@ -1,4 +1,4 @@
--- Each way out of a function on words. A store and the wiping of all are those of crate words; wiping from a place on: after
+-- Each way out of a function on words. A store and the wiping of all are those of lent_u16; wiping from a place on: after
 -- some turns the words from there up to place i are 0.
 use Prim.Native.Nat.{ℕ, suc, _+_, _-_, _*_, _≤_, _<_}
 use mathlib.Core.Path.{_≡_, refl, sym, ap, ap₂, _∙_}
@@ -6,19 +6,20 @@ use mathlib.Core.List.{List, [], _∷_, _++_, append-assoc, append-nil}
 use native.Mathlib.Omega.{arith}
 use lib.ListN.{length, getD, set, take, drop, replicate, length-set, length-append, length-replicate, drop-of-length-le, take-append-drop, replicate-append-replicate, List·getD-eq-default}
 use lib.Seq.{set-at, drop-cons, length-take-le}
+use Rattle.run_values.specs.Layout.{kindPlace, bitsPlace}
 use Rattle.run_values.specs.Values.{Word64At, setValue}
 
 pub word-there : (m : List ℕ) (at : ℕ) → Word64At m at (getD m at 0)
 word-there m at = record { is = refl }
 
-pub word-past : {m : List ℕ} {at : ℕ} → length m ≤ at → Word64At m at 0
-word-past {m} {at} h = record { is = sym (List·getD-eq-default m 0 h) }
+pub word-missing : {m : List ℕ} {at : ℕ} → length m ≤ at → Word64At m at 0
+word-missing {m} {at} h = record { is = sym (List·getD-eq-default m 0 h) }
 
-pub value-put : (m : List ℕ) {m′ m″ : List ℕ} (j k n : ℕ) → m′ ≡ set m (2 * j) k → m″ ≡ set m′ (2 * j + 1) n → m″ ≡ setValue m j k n
+pub value-put : (m : List ℕ) {m′ m″ : List ℕ} (j k n : ℕ) → m′ ≡ set m (kindPlace j) k → m″ ≡ set m′ (bitsPlace j) n → m″ ≡ setValue m j k n
 unfolding setValue
 value-put m j k n e f = rw (f, e)
 
-pub ruleset word-exits = (word-there, word-past, value-put)
+pub ruleset word-exits = (word-there, word-missing, value-put)
 
 -- wiping
 

@@ -7,7 +7,9 @@ use native.Mathlib.Omega.{arith}
 use native.Mathlib.Nat.{add-zero}
 use lib.ListN.{length, getD, getElem?, set, take, drop}
 use lib.Seq.{drop-cons}
+use Rattle.scope.specs.Layout.{valueSpan}
 use Rattle.scope.specs.Lists.{joined}
+use Rattle.run_values.specs.Layout.{kindPlace, bitsPlace}
 use Rattle.run_values.specs.Values.{numbered}
 
 module _ {A : Type 0} (f : ℕ → A) where
@@ -24,11 +26,11 @@ module _ {A : Type 0} (f : ℕ → A) where
       let same : at + 1 + i ≡ at + suc i = omega arith in
       numbered-there (at + 1) n i (omega arith) ∙ ap (λ (k : ℕ). some (f k)) same
 
-  pub numbered-past : (at n i : ℕ) → n ≤ i → getElem? (numbered f at n) i ≡ none
+  pub numbered-none : (at n i : ℕ) → n ≤ i → getElem? (numbered f at n) i ≡ none
   unfolding numbered
-  numbered-past at zero i h = refl
-  numbered-past at (suc n) zero h = absurd (omega arith)
-  numbered-past at (suc n) (suc i) h = numbered-past (at + 1) n i (omega arith)
+  numbered-none at zero i h = refl
+  numbered-none at (suc n) zero h = absurd (omega arith)
+  numbered-none at (suc n) (suc i) h = numbered-none (at + 1) n i (omega arith)
 
   -- one part after the other
   pub numbered-append : (at n m : ℕ) → numbered f at (n + m) ≡ numbered f at n ++ numbered f (at + n) m
@@ -68,18 +70,18 @@ module _ {A : Type 0} (f g : ℕ → A) where
 
 -- entries of two words: where each of n entries is written as the two words at its place, all of them are the first words
 module _ {A : Type 0} (f : ℕ → A) (write : A → List ℕ) (m : List ℕ) where
-  pairs-from : (at n : ℕ) → 2 * (at + n) ≤ length m → ((j : ℕ) → at ≤ j → j < at + n → write (f j) ≡ getD m (2 * j) 0 ∷ getD m (2 * j + 1) 0 ∷ []) → joined (map write (numbered f at n)) ≡ take (2 * n) (drop (2 * at) m)
+  pairs-from : (at n : ℕ) → valueSpan * (at + n) ≤ length m → ((j : ℕ) → at ≤ j → j < at + n → write (f j) ≡ getD m (kindPlace j) 0 ∷ getD m (bitsPlace j) 0 ∷ []) → joined (map write (numbered f at n)) ≡ take (valueSpan * n) (drop (valueSpan * at) m)
   unfolding numbered
   pairs-from at zero room written = refl
   pairs-from at (suc n) room written =
-      let two : 2 * suc n ≡ suc (suc (2 * n)) = omega arith in
-      let next : suc (suc (2 * at)) ≡ 2 * (at + 1) = omega arith in
-      let second : suc (2 * at) ≡ 2 * at + 1 = omega arith in
-      let front : drop (2 * at) m ≡ getD m (2 * at) 0 ∷ getD m (2 * at + 1) 0 ∷ drop (2 * (at + 1)) m =
-      drop-cons m (2 * at) 0 (omega arith)
-      ∙ ap (λ (l : List ℕ). getD m (2 * at) 0 ∷ l) (drop-cons m (suc (2 * at)) 0 (omega arith) ∙ ap₂ (λ (i j : ℕ). getD m i 0 ∷ drop j m) second next) in
+      let two : valueSpan * suc n ≡ suc (suc (valueSpan * n)) = omega arith in
+      let next : suc (suc (valueSpan * at)) ≡ valueSpan * (at + 1) = omega arith in
+      let second : suc (valueSpan * at) ≡ bitsPlace at = omega arith in
+      let front : drop (valueSpan * at) m ≡ getD m (kindPlace at) 0 ∷ getD m (bitsPlace at) 0 ∷ drop (valueSpan * (at + 1)) m =
+      drop-cons m (kindPlace at) 0 (omega arith)
+      ∙ ap (λ (l : List ℕ). getD m (kindPlace at) 0 ∷ l) (drop-cons m (suc (valueSpan * at)) 0 (omega arith) ∙ ap₂ (λ (i j : ℕ). getD m i 0 ∷ drop j m) second next) in
       ap₂ _++_ (written at (omega arith) (omega arith)) (pairs-from (at + 1) n (omega arith) (λ j h l. written j (omega arith) (omega arith)))
       ∙ sym (ap₂ take two front)
 
-  pub pairs-are : (n : ℕ) → 2 * n ≤ length m → ((j : ℕ) → j < n → write (f j) ≡ getD m (2 * j) 0 ∷ getD m (2 * j + 1) 0 ∷ []) → joined (map write (numbered f 0 n)) ≡ take (2 * n) m
+  pub pairs-are : (n : ℕ) → valueSpan * n ≤ length m → ((j : ℕ) → j < n → write (f j) ≡ getD m (kindPlace j) 0 ∷ getD m (bitsPlace j) 0 ∷ []) → joined (map write (numbered f 0 n)) ≡ take (valueSpan * n) m
   pairs-are n room written = pairs-from 0 n (omega arith) (λ j h l. written j (omega arith))

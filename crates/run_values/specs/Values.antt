@@ -9,6 +9,7 @@ use lib.ListN.{getD, set}
 use lib.Dec.{eqb}
 use Rattle.scope.specs.Machine.{Value, number, null, object}
 use Rattle.scope.specs.Memory.{valueWords, localWords}
+use Rattle.run_values.specs.Layout.{kindPlace, bitsPlace, noValue, nullKind, objectKind}
 use Rattle.type_table.specs.View.{numberAt}
 
 -- r is the word at a place, 0 past the end
@@ -22,17 +23,17 @@ numbered f at (suc n) = f at ∷ numbered f (at + 1) n
 
 -- a kind and bits, read
 
--- 5 null, 6 an object; else a number, whose kind is one more than its code
+-- null, an object, or a number, whose kind is one more than its code
 unfoldable pub valueAt : ℕ → ℕ → Value
-valueAt k n = cond (eqb k 5) null (cond (eqb k 6) (object n) (number (numberAt (k - 1)) n))
+valueAt k n = cond (eqb k nullKind) null (cond (eqb k objectKind) (object n) (number (numberAt (k - 1)) n))
 
--- 0 no value
+-- which a local may have none of
 unfoldable pub heldAt : ℕ → ℕ → Option Value
-heldAt k n = cond (eqb k 0) none (some (valueAt k n))
+heldAt k n = cond (eqb k noValue) none (some (valueAt k n))
 
--- entry j lies at words 2 j and 2 j + 1
+-- entry j
 unfoldable pub entryIn : {A : Type 0} → (ℕ → ℕ → A) → List ℕ → ℕ → A
-entryIn f m j = f (getD m (2 * j) 0) (getD m (2 * j + 1) 0)
+entryIn f m j = f (getD m (kindPlace j) 0) (getD m (bitsPlace j) 0)
 
 -- so many values from number `at` on
 abbrev pub valuesFrom : List ℕ → ℕ → ℕ → List Value
@@ -43,7 +44,7 @@ heldFrom m at n = numbered (entryIn heldAt m) at n
 
 -- memory with another entry j
 unfoldable pub setValue : List ℕ → ℕ → ℕ → ℕ → List ℕ
-setValue m j k n = set (set m (2 * j) k) (2 * j + 1) n
+setValue m j k n = set (set m (kindPlace j) k) (bitsPlace j) n
 
 -- the two words are those of the value that they say
 pub record Canon (k n : ℕ) : Type 0 where
@@ -55,7 +56,7 @@ pub record HeldCanon (k n : ℕ) : Type 0 where
 
 -- so of each of the first n entries
 pub record AllWords (P : ℕ → ℕ → Type 0) (m : List ℕ) (n : ℕ) : Type 0 where
-  pub each : (j : ℕ) → j < n → P (getD m (2 * j) 0) (getD m (2 * j + 1) 0)
+  pub each : (j : ℕ) → j < n → P (getD m (kindPlace j) 0) (getD m (bitsPlace j) 0)
 
 abbrev pub AllCanon : List ℕ → ℕ → Type 0
 AllCanon m n = AllWords Canon m n

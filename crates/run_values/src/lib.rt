@@ -1,9 +1,13 @@
-// Total access to lent memory of 64-bit words, and values in it. As in crate words, no place is out of range: a word past the
+// Total access to lent memory of 64-bit words, and values in it. As in lent_u16, no place is out of range: a word past the
 // end reads as 0, and a store there does nothing. A value takes two words, its kind and its bits (docs/LAYOUT.md).
+pub mod layout;
+
+use scope::sizes::VALUE;
 ghost use mathlib.Core.Path.{_≡_};
 ghost use mathlib.Core.List.{_++_};
-ghost use Prim.Native.Nat.{_+_, _-_, _*_};
+ghost use Prim.Native.Nat.{_-_};
 ghost use lib.ListN.{length, set, take, replicate};
+ghost use Rattle.run_values.specs.Layout.{kindPlace, bitsPlace};
 ghost use Rattle.run_values.specs.Values.{Word64At, setValue};
 
 // The word at a place, and 0 past the end.
@@ -59,21 +63,21 @@ pub fn wipe_from16(m: &mut [u16], from: u64)
 
 // The kind of value j, and its bits.
 pub fn kind_of(m: &[u64], j: u32) -> u64
-    ensures { λ r. ⌜ Word64At (now (m .entry)) (2 * j) r ⌝ }
+    ensures { λ r. ⌜ Word64At (now (m .entry)) (kindPlace j) r ⌝ }
 {
-    word64(m, 2 * j as u64)
+    word64(m, VALUE * j as u64)
 }
 
 pub fn bits_of(m: &[u64], j: u32) -> u64
-    ensures { λ r. ⌜ Word64At (now (m .entry)) (2 * j + 1) r ⌝ }
+    ensures { λ r. ⌜ Word64At (now (m .entry)) (bitsPlace j) r ⌝ }
 {
-    word64(m, 2 * j as u64 + 1)
+    word64(m, VALUE * j as u64 + 1)
 }
 
 // Value j, by its kind and its bits.
 pub fn put_value(m: &mut [u64], j: u32, kind: u64, bits: u64)
     ensures { λ r. ⌜ now (m .exit) ≡ setValue (now (m .entry)) j kind bits ⌝ }
 {
-    put64(m, 2 * j as u64, kind);
-    put64(m, 2 * j as u64 + 1, bits);
+    put64(m, VALUE * j as u64, kind);
+    put64(m, VALUE * j as u64 + 1, bits);
 }

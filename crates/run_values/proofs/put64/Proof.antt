@@ -1,4 +1,4 @@
--- `cells::put64` meets its contract: out of range, a store to a list leaves it as it was.
+-- `run_values::put64` meets its contract: out of range, a store to a list leaves it as it was.
 use borrow.Author.Needs.{needs}
 use Rattle.lent_u16.proofs.Laws.{put-exits}
 use Rattle.run_values.proofs.put64.Statement.{statement}

@@ -1,4 +1,4 @@
--- `cells::put_value` meets its contract.
+-- `run_values::put_value` meets its contract.
 use borrow.Author.Needs.{needs}
 use Rattle.run_values.proofs.Access.{word-exits}
 use Rattle.run_values.proofs.put_value.Statement.{statement}

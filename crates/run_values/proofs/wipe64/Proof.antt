@@ -1,4 +1,4 @@
--- `cells::wipe64` meets its contract: after i turns the first i words are 0.
+-- `run_values::wipe64` meets its contract: after i turns the first i words are 0.
 use borrow.Author.Needs.{needs}
 use Prim.Native.Nat.{_-_}
 use lib.ListN.{length}

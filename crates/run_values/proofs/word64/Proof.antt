@@ -1,4 +1,4 @@
--- `cells::word64` meets its contract.
+-- `run_values::word64` meets its contract.
 use borrow.Author.Needs.{needs}
 use Rattle.run_values.proofs.Access.{word-exits}
 use Rattle.run_values.proofs.word64.Statement.{statement}
