@@ -9,24 +9,27 @@ use native.Mathlib.Nat.{mod-eq-of-lt}
 use lib.ListN.{length, getD, getElem?}
 use lib.Dec.{leb}
 use borrow.Author.Tests.{ne-eqb, lt-ltb, le-ltb, leb-true}
+use Rattle.scope.specs.Layout.{objectSpan}
+use Rattle.scope.specs.Sizes.{mostObjects, mostCells}
 use Rattle.lent_u16.specs.Words.{WordAt}
 use Rattle.type_table.specs.declared.Link.{Link}
 use Rattle.type_table.specs.declared.Link
 use Rattle.run_values.specs.Values.{Word64At, valueAt, entryIn, setValue}
-use Rattle.run_values.proofs.Numbered.{numbered-length, numbered-there, numbered-past}
+use Rattle.run_values.proofs.Numbered.{numbered-length, numbered-there, numbered-none}
 use Rattle.run_values.proofs.Laws.{put-long}
 use Rattle.run_heap.specs.declared.Held.{Held}
 use Rattle.run_heap.specs.declared.Held
 use Rattle.run_heap.specs.Heap.{objectWord, objectAt, TypeOf, DescriptorOf, FieldCount, heldOption, HeldField, FieldSet, RoomFor}
-use Rattle.run_heap.proofs.Packs.{store-length, packed-within, packed-cells, store-set, set-canon}
+use Rattle.run_heap.proofs.Packs.{store-length, packed-inside, packed-cells, store-set, set-canon}
 use Rattle.scope.proofs.Impossible.{impossible}
+use Rattle.run_values.specs.Layout.{kindPlace, bitsPlace, typeWord, descriptorWord, firstWord, countWord, numberLimit}
 
 module _ {objects : List ℕ} {o : ℕ} where
-  pub type-is : {r : ℕ} → WordAt objects (4 * o + 0) r → TypeOf objects o r
+  pub type-is : {r : ℕ} → WordAt objects (objectSpan * o + typeWord) r → TypeOf objects o r
   unfolding objectAt
   type-is a = record { is = λ cells. sym (a .is); small = a .small }
 
-  module _ {w : ℕ} (a : WordAt objects (4 * o + 1) w) where
+  module _ {w : ℕ} (a : WordAt objects (objectSpan * o + descriptorWord) w) where
     pub descriptor-none : w ≡ 0 → DescriptorOf objects o Link.the-variants.Nothing
     unfolding objectAt
     descriptor-none e = record { is = λ cells. rw (← a .is, e) }
@@ -36,11 +39,11 @@ module _ {objects : List ℕ} {o : ℕ} where
     descriptor-some d = record { is = λ cells. rw (← a .is, ne-eqb w 0 d) }
 
 -- how many fields
-pub fields-length : (objects cells : List ℕ) (o : ℕ) → length (objectAt objects cells o .fields) ≡ objectWord objects o 3
+pub fields-length : (objects cells : List ℕ) (o : ℕ) → length (objectAt objects cells o .fields) ≡ objectWord objects o countWord
 unfolding objectAt
-fields-length objects cells o = numbered-length (entryIn valueAt cells) (objectWord objects o 2) (objectWord objects o 3)
+fields-length objects cells o = numbered-length (entryIn valueAt cells) (objectWord objects o firstWord) (objectWord objects o countWord)
 
-module _ {objects : List ℕ} {o count : ℕ} (a : WordAt objects (4 * o + 3) count) where
+module _ {objects : List ℕ} {o count : ℕ} (a : WordAt objects (objectSpan * o + countWord) count) where
   pub count-is : FieldCount objects o count
   count-is = record { is = λ cells. fields-length objects cells o ∙ sym (a .is); small = a .small }
 
@@ -48,29 +51,29 @@ module _ {objects : List ℕ} {o count : ℕ} (a : WordAt objects (4 * o + 3) co
     pub field-absent : count ≤ i → HeldField objects cells o i Held.the-variants.Absent
     unfolding objectAt
     field-absent h =
-        let past : objectWord objects o 3 ≤ i = rw (← a .is) h in
+        let past : objectWord objects o countWord ≤ i = rw (← a .is) h in
         record {
-          is = sym (numbered-past (entryIn valueAt cells) (objectWord objects o 2) (objectWord objects o 3) i past);
+          is = sym (numbered-none (entryIn valueAt cells) (objectWord objects o firstWord) (objectWord objects o countWord) i past);
           inside = λ k b e. impossible cc;
           canon = λ n total p l k b e. impossible cc;
         }
 
-    module _ (h : i < count) {first : ℕ} (b : WordAt objects (4 * o + 2) first) {kind bits : ℕ} where
-      pub field-held : Word64At cells (2 * (first + i)) kind → Word64At cells (2 * (first + i) + 1) bits → HeldField objects cells o i (Held.the-variants.Is kind bits)
+    module _ (h : i < count) {first : ℕ} (b : WordAt objects (objectSpan * o + firstWord) first) {kind bits : ℕ} where
+      pub field-held : Word64At cells (kindPlace (first + i)) kind → Word64At cells (bitsPlace (first + i)) bits → HeldField objects cells o i (Held.the-variants.Is kind bits)
       unfolding objectAt entryIn
       field-held c d =
-          let there : i < objectWord objects o 3 = rw (← a .is) h in
-          let place : first ≡ objectWord objects o 2 = b .is in
-          let kind′ : kind ≡ getD cells (2 * (objectWord objects o 2 + i)) 0 = c .is ∙ ap (λ (f : ℕ). getD cells (2 * (f + i)) 0) place in
-          let bits′ : bits ≡ getD cells (2 * (objectWord objects o 2 + i) + 1) 0 = d .is ∙ ap (λ (f : ℕ). getD cells (2 * (f + i) + 1) 0) place in
+          let there : i < objectWord objects o countWord = rw (← a .is) h in
+          let place : first ≡ objectWord objects o firstWord = b .is in
+          let kind′ : kind ≡ getD cells (kindPlace (objectWord objects o firstWord + i)) 0 = c .is ∙ ap (λ (f : ℕ). getD cells (kindPlace (f + i)) 0) place in
+          let bits′ : bits ≡ getD cells (bitsPlace (objectWord objects o firstWord + i)) 0 = d .is ∙ ap (λ (f : ℕ). getD cells (bitsPlace (f + i)) 0) place in
           record {
-            is = ap some (ap₂ valueAt kind′ bits′) ∙ sym (numbered-there (entryIn valueAt cells) (objectWord objects o 2) (objectWord objects o 3) i there);
+            is = ap some (ap₂ valueAt kind′ bits′) ∙ sym (numbered-there (entryIn valueAt cells) (objectWord objects o firstWord) (objectWord objects o countWord) i there);
             inside = λ k′ b′ e. rw (fields-length objects cells o) there;
             canon = λ n total p l k′ b′ e.
-                let k″ : k′ ≡ getD cells (2 * (objectWord objects o 2 + i)) 0 = cc in
-                let b″ : b′ ≡ getD cells (2 * (objectWord objects o 2 + i) + 1) 0 = cc in
-                let low = packed-within (p .packed) o l in
-                rw (k″, b″) (p .canon .each (objectWord objects o 2 + i) (omega arith));
+                let k″ : k′ ≡ getD cells (kindPlace (objectWord objects o firstWord + i)) 0 = cc in
+                let b″ : b′ ≡ getD cells (bitsPlace (objectWord objects o firstWord + i)) 0 = cc in
+                let low = packed-inside (p .packed) o l in
+                rw (k″, b″) (p .canon .each (objectWord objects o firstWord + i) (omega arith));
           }
 
 -- the answer, taken apart
@@ -84,17 +87,17 @@ module _ {objects cells : List ℕ} {o i : ℕ} {r : Held} (a : HeldField object
 
 -- a store in a field
 
-module _ {objects : List ℕ} {o first : ℕ} (a : WordAt objects (4 * o + 2) first) {cells cells′ : List ℕ} {i k b : ℕ} where
-  pub field-set : cells′ ≡ setValue cells ((first + i) % 4_294_967_296) k b → FieldSet objects cells cells′ o i k b
+module _ {objects : List ℕ} {o first : ℕ} (a : WordAt objects (objectSpan * o + firstWord) first) {cells cells′ : List ℕ} {i k b : ℕ} where
+  pub field-set : cells′ ≡ setValue cells ((first + i) % numberLimit) k b → FieldSet objects cells cells′ o i k b
   field-set e =
       record {
         store = λ n total p h l.
-            let there : i < objectWord objects o 3 = rw (fields-length objects cells o) at l in
-            let same = where-it-is (packed-within (p .packed) o h) (p .most) there in
+            let there : i < objectWord objects o countWord = rw (fields-length objects cells o) at l in
+            let same = where-it-is (packed-inside (p .packed) o h) (p .most) there in
             rw same (store-set (p .packed) cells (omega (arith, p .cellRoom, p .most)) o i h there k b);
         kept = λ n total p h l c.
-            let there : i < objectWord objects o 3 = rw (fields-length objects cells o) at l in
-            let same = where-it-is (packed-within (p .packed) o h) (p .most) there in
+            let there : i < objectWord objects o countWord = rw (fields-length objects cells o) at l in
+            let same = where-it-is (packed-inside (p .packed) o h) (p .most) there in
             record {
               objectRoom = p .objectRoom;
               cellRoom = omega (arith, p .cellRoom, long);
@@ -107,31 +110,31 @@ module _ {objects : List ℕ} {o first : ℕ} (a : WordAt objects (4 * o + 2) fi
       }
     where
       long : length cells′ ≡ length cells
-      long = rw e (put-long cells ((first + i) % 4_294_967_296) k b)
+      long = rw e (put-long cells ((first + i) % numberLimit) k b)
 
-      where-it-is : {total : ℕ} → objectWord objects o 2 + objectWord objects o 3 ≤ total → total ≤ 4_096 → i < objectWord objects o 3 → cells′ ≡ setValue cells (objectWord objects o 2 + i) k b
+      where-it-is : {total : ℕ} → objectWord objects o firstWord + objectWord objects o countWord ≤ total → total ≤ mostCells → i < objectWord objects o countWord → cells′ ≡ setValue cells (objectWord objects o firstWord + i) k b
       where-it-is low most there =
-          let place : first ≡ objectWord objects o 2 = a .is in
-          let small : (first + i) % 4_294_967_296 ≡ first + i = mod-eq-of-lt (omega arith) in
+          let place : first ≡ objectWord objects o firstWord = a .is in
+          let small : (first + i) % numberLimit ≡ first + i = mod-eq-of-lt (omega arith) in
           e ∙ ap (λ (j : ℕ). setValue cells j k b) (small ∙ ap (λ (f : ℕ). f + i) place)
 
 -- room
 
 module _ {n total need : ℕ} where
-  pub room-none : 1_024 ≤ n → RoomFor n total need false
+  pub room-none : mostObjects ≤ n → RoomFor n total need false
   room-none h =
       record {
-        is = λ objects cells p. rw (store-length objects cells n, le-ltb n 1_024 h);
+        is = λ objects cells p. rw (store-length objects cells n, le-ltb n mostObjects h);
         few = λ e. impossible cc;
         most = λ e. impossible cc;
       }
 
-  pub room-by : n < 1_024 → RoomFor n total need (leb (total + need) 4_096)
+  pub room-by : n < mostObjects → RoomFor n total need (leb (total + need) mostCells)
   room-by h =
       record {
-        is = λ objects cells p. rw (store-length objects cells n, lt-ltb n 1_024 h, packed-cells p cells);
+        is = λ objects cells p. rw (store-length objects cells n, lt-ltb n mostObjects h, packed-cells p cells);
         few = λ e. h;
-        most = λ e. leb-true (total + need) 4_096 e;
+        most = λ e. leb-true (total + need) mostCells e;
       }
 
 pub ruleset ask-exits = (type-is, descriptor-none, descriptor-some, count-is, field-absent, field-held, field-set, room-none, room-by)

@@ -14,6 +14,7 @@ use Rattle.scope.specs.Lists.{every}
 use Rattle.scope.specs.BodyRules.{holdsOf, hasDefault}
 use Rattle.scope.specs.Machine.{Value, defaultsOf}
 use Rattle.scope.proofs.Impossible.{impossible}
+use Rattle.run_values.specs.Layout.{kindPlace, bitsPlace, nullKind}
 use Rattle.lent_u16.specs.Words.{WordAt}
 use Rattle.type_table.specs.View.{valAtCode, fieldAtCode, codesAt}
 use Rattle.type_table.specs.Answers.{valIs}
@@ -29,7 +30,7 @@ filled-none : (cells : List ℕ) (total : ℕ) → Filled cells cells total 0 []
 unfolding numbered
 filled-none cells total = record { values = refl; below = λ i h. refl; size = refl }
 
-filled-more : {cells cells₁ cells′ : List ℕ} {total i : ℕ} {vs : List Value} → Filled cells cells₁ total i vs → (k b : ℕ) → 2 * (total + i) + 1 < length cells → cells′ ≡ setValue cells₁ (total + i) k b → Filled cells cells′ total (i + 1) (vs ++ (valueAt k b ∷ []))
+filled-more : {cells cells₁ cells′ : List ℕ} {total i : ℕ} {vs : List Value} → Filled cells cells₁ total i vs → (k b : ℕ) → bitsPlace (total + i) < length cells → cells′ ≡ setValue cells₁ (total + i) k b → Filled cells cells′ total (i + 1) (vs ++ (valueAt k b ∷ []))
 filled-more {cells} {cells₁} {cells′} {total} {i} {vs} p k b room e =
     record {
       values =
@@ -40,7 +41,7 @@ filled-more {cells} {cells₁} {cells′} {total} {i} {vs} p k b room e =
       size = ap length e ∙ put-long cells₁ (total + i) k b ∙ p .size;
     }
 
-canon-more : {cells cells′ : List ℕ} (total i k b : ℕ) → 2 * (total + i) + 1 < length cells → cells′ ≡ setValue cells (total + i) k b → Canon k b → AllCanon cells (total + i) → AllCanon cells′ (total + (i + 1))
+canon-more : {cells cells′ : List ℕ} (total i k b : ℕ) → bitsPlace (total + i) < length cells → cells′ ≡ setValue cells (total + i) k b → Canon k b → AllCanon cells (total + i) → AllCanon cells′ (total + (i + 1))
 canon-more {cells} total i k b room e c all =
     let next : total + (i + 1) ≡ total + i + 1 = omega arith in
     rw (next, e) (put-all-more cells (total + i) k b room c all)
@@ -68,7 +69,7 @@ module _ {from cells₀ cells : List ℕ} {at total k i : ℕ} (p : CopiedSoFar 
   copied-size = p .done .filled .size
 
   module _ (h : i < k) where
-    pub copied-turn : {kind bits : ℕ} → Word64At from (2 * (at + i)) kind → Word64At from (2 * (at + i) + 1) bits → {cells′ : List ℕ} → cells′ ≡ setValue cells (total + i) kind bits → CellRoom cells₀ total k → CopiedSoFar from cells₀ cells′ at total k (i + 1)
+    pub copied-turn : {kind bits : ℕ} → Word64At from (kindPlace (at + i)) kind → Word64At from (bitsPlace (at + i)) bits → {cells′ : List ℕ} → cells′ ≡ setValue cells (total + i) kind bits → CellRoom cells₀ total k → CopiedSoFar from cells₀ cells′ at total k (i + 1)
     unfolding entryIn
     copied-turn {kind} {bits} a b {cells′} e room =
         let one : valueAt kind bits ≡ entryIn valueAt from (at + i) = ap₂ valueAt (a .is) (b .is) in
@@ -109,9 +110,9 @@ module _ (c : ℕ) {r : ValKind} (v : r ≡ valIs (valAtCode c)) where
         let small = code-small n in
         record { is = default-number c k n same code; canon = canon-number {k = k + 1} 0 (omega arith) (omega arith) }
 
-  pub reference-kind : {n : Bool} {h : ℕ} → r ≡ ValKind.the-variants.Ref n h → DefaultKind c 5
+  pub reference-kind : {n : Bool} {h : ℕ} → r ≡ ValKind.the-variants.Ref n h → DefaultKind c nullKind
   reference-kind e =
-      let same = is-ref (valAtCode c) v e in record { is = rw same (value-null {k = 5} 0 refl); canon = canon-null }
+      let same = is-ref (valAtCode c) v e in record { is = rw same (value-null {k = nullKind} 0 refl); canon = canon-null }
 
 pub ruleset kind-exits = (kind-fits, number-kind, reference-kind)
 

@@ -11,14 +11,16 @@ use lib.ListN.{length, getElem?, set, take, drop, length-append}
 use lib.Seq.{drop-cons}
 use lib.Dec.{eqb, ltb}
 use borrow.Author.Tests.{eqb-true, eqb-false, ltb-true, ltb-false}
+use Rattle.scope.specs.Layout.{valueSpan, objectSpan}
 use Rattle.scope.specs.Lists.{joined}
 use Rattle.scope.specs.Machine.{Value, Object, Store, withField, cellsOf}
 use Rattle.scope.specs.Memory.{orZero, valueWords, objectsFrom, cellValues}
 use Rattle.scope.proofs.Truths.{decided}
 use Rattle.scope.proofs.Impossible.{contradiction}
+use Rattle.run_values.specs.Layout.{bitsPlace, typeWord, descriptorWord, firstWord, countWord}
 use Rattle.type_table.specs.View.{linkAt}
 use Rattle.run_values.specs.Values.{numbered, valueAt, entryIn, valuesFrom, setValue, Canon, AllCanon}
-use Rattle.run_values.proofs.Numbered.{numbered-length, numbered-there, numbered-past, numbered-append, numbered-more, numbered-same, numbered-set}
+use Rattle.run_values.proofs.Numbered.{numbered-length, numbered-there, numbered-none, numbered-append, numbered-more, numbered-same, numbered-set}
 use Rattle.run_values.proofs.Laws.{canon-words, put-other, put-among, put-all}
 use Rattle.run_heap.specs.Heap.{objectWord, objectWith, objectAt, storeAt, cellsBelow, Packed}
 
@@ -34,8 +36,8 @@ module _ (objects cells : List ℕ) (n : ℕ) where
         let same : 0 + o ≡ o = omega arith in
         numbered-there (objectAt objects cells) 0 n o h ∙ ap (λ (k : ℕ). some (objectAt objects cells k)) same
 
-    pub store-past : n ≤ o → getElem? (storeAt objects cells n) o ≡ none
-    store-past h = numbered-past (objectAt objects cells) 0 n o h
+    pub store-none : n ≤ o → getElem? (storeAt objects cells n) o ≡ none
+    store-none h = numbered-none (objectAt objects cells) 0 n o h
 
     -- what is found by a number is that object
     pub store-found : {it : Object} → getElem? (storeAt objects cells n) o ≡ some it → (o < n) × (it ≡ objectAt objects cells o)
@@ -46,7 +48,7 @@ module _ (objects cells : List ℕ) (n : ℕ) where
             let h : o < n = ltb-true o n l in
             let there : some it ≡ some (objectAt objects cells o) = sym e ∙ store-there h in
             (h, cc)
-        go (inr l) = absurd (let z : some it ≡ none = sym e ∙ store-past (ltb-false o n l) in contradiction cc)
+        go (inr l) = absurd (let z : some it ≡ none = sym e ∙ store-none (ltb-false o n l) in contradiction cc)
 
 -- the same of a heap that is what the words say
 module _ {os : Store} (objects cells : List ℕ) {n : ℕ} (heap : os ≡ storeAt objects cells n) where
@@ -57,13 +59,13 @@ module _ {os : Store} (objects cells : List ℕ) {n : ℕ} (heap : os ≡ storeA
     pub object-there : o < n → getElem? os o ≡ some (objectAt objects cells o)
     object-there h = ap (λ (l : Store). getElem? l o) heap ∙ store-there objects cells n o h
 
-    pub object-past : n ≤ o → getElem? os o ≡ none
-    object-past h = ap (λ (l : Store). getElem? l o) heap ∙ store-past objects cells n o h
+    pub object-none : n ≤ o → getElem? os o ≡ none
+    object-none h = ap (λ (l : Store). getElem? l o) heap ∙ store-none objects cells n o h
 
 -- cells below an object
 
 module _ (objects : List ℕ) where
-  pub below-next : (n : ℕ) → cellsBelow objects (n + 1) ≡ cellsBelow objects n + objectWord objects n 3
+  pub below-next : (n : ℕ) → cellsBelow objects (n + 1) ≡ cellsBelow objects n + objectWord objects n countWord
   unfolding cellsBelow
   below-next n = let next : n + 1 ≡ suc n = omega arith in rw next
 
@@ -86,7 +88,7 @@ packed-none objects = record { starts = λ o h. absurd (omega arith); ends = ref
 
 module _ {objects : List ℕ} {n total : ℕ} (p : Packed objects n total) where
   -- an object's cells lie below those of a later one
-  pub packed-before : (o q : ℕ) → o < q → q < n → objectWord objects o 2 + objectWord objects o 3 ≤ objectWord objects q 2
+  pub packed-before : (o q : ℕ) → o < q → q < n → objectWord objects o firstWord + objectWord objects o countWord ≤ objectWord objects q firstWord
   packed-before o q h l =
       let first = p .starts o (omega arith) in
       let last = p .starts q l in
@@ -94,15 +96,15 @@ module _ {objects : List ℕ} {n total : ℕ} (p : Packed objects n total) where
       let least = below-least objects (o + 1) q (omega arith) in
       omega arith
 
-  pub packed-within : (o : ℕ) → o < n → objectWord objects o 2 + objectWord objects o 3 ≤ total
-  packed-within o h =
+  pub packed-inside : (o : ℕ) → o < n → objectWord objects o firstWord + objectWord objects o countWord ≤ total
+  packed-inside o h =
       let first = p .starts o h in
       let next = below-next objects o in
       let least = below-least objects (o + 1) n (omega arith) in
       omega (arith, p .ends)
 
   -- a cell of one object is none of another's
-  pub packed-apart : (o q : ℕ) → o < n → q < n → (q ≡ o → ⊥) → (i j : ℕ) → i < objectWord objects o 3 → j < objectWord objects q 3 → objectWord objects q 2 + j ≡ objectWord objects o 2 + i → ⊥
+  pub packed-apart : (o q : ℕ) → o < n → q < n → (q ≡ o → ⊥) → (i j : ℕ) → i < objectWord objects o countWord → j < objectWord objects q countWord → objectWord objects q firstWord + j ≡ objectWord objects o firstWord + i → ⊥
   packed-apart o q h l d i j a b e = go (decided (ltb o q))
     where
       go : (ltb o q ≡ true) ⊎ (ltb o q ≡ false) → ⊥
@@ -115,31 +117,31 @@ module _ {objects : List ℕ} {n total : ℕ} (p : Packed objects n total) where
 
 -- a field that is set
 
-module _ {objects : List ℕ} {n total : ℕ} (p : Packed objects n total) (cells : List ℕ) (room : 2 * total ≤ length cells) (o i : ℕ) (h : o < n) (l : i < objectWord objects o 3) (k b : ℕ) where
-  field-room : 2 * (objectWord objects o 2 + i) + 1 < length cells
-  field-room = let low = packed-within p o h in omega arith
+module _ {objects : List ℕ} {n total : ℕ} (p : Packed objects n total) (cells : List ℕ) (room : valueSpan * total ≤ length cells) (o i : ℕ) (h : o < n) (l : i < objectWord objects o countWord) (k b : ℕ) where
+  field-room : bitsPlace (objectWord objects o firstWord + i) < length cells
+  field-room = let low = packed-inside p o h in omega arith
 
-  set-elsewhere : (q : ℕ) → q < n → (q ≡ o → ⊥) → objectAt objects (setValue cells (objectWord objects o 2 + i) k b) q ≡ objectAt objects cells q
+  set-elsewhere : (q : ℕ) → q < n → (q ≡ o → ⊥) → objectAt objects (setValue cells (objectWord objects o firstWord + i) k b) q ≡ objectAt objects cells q
   unfolding objectAt
   set-elsewhere q g d =
       ap (objectWith objects q)
-      (numbered-same (entryIn valueAt cells) (entryIn valueAt (setValue cells (objectWord objects o 2 + i) k b)) (objectWord objects q 2) (objectWord objects q 3)
-      (λ j a c. put-other cells (objectWord objects o 2 + i) k b valueAt j (λ e. packed-apart p o q h g d i (j - objectWord objects q 2) l (omega arith) (omega arith))))
+      (numbered-same (entryIn valueAt cells) (entryIn valueAt (setValue cells (objectWord objects o firstWord + i) k b)) (objectWord objects q firstWord) (objectWord objects q countWord)
+      (λ j a c. put-other cells (objectWord objects o firstWord + i) k b valueAt j (λ e. packed-apart p o q h g d i (j - objectWord objects q firstWord) l (omega arith) (omega arith))))
 
-  set-there : objectAt objects (setValue cells (objectWord objects o 2 + i) k b) o ≡ withField (objectAt objects cells o) i (valueAt k b)
+  set-there : objectAt objects (setValue cells (objectWord objects o firstWord + i) k b) o ≡ withField (objectAt objects cells o) i (valueAt k b)
   unfolding objectAt
   set-there =
       ap (objectWith objects o)
-      (put-among cells (objectWord objects o 2 + i) k b field-room valueAt (objectWord objects o 2) (objectWord objects o 3) i l refl)
+      (put-among cells (objectWord objects o firstWord + i) k b field-room valueAt (objectWord objects o firstWord) (objectWord objects o countWord) i l refl)
 
-  pub store-set : storeAt objects (setValue cells (objectWord objects o 2 + i) k b) n ≡ set (storeAt objects cells n) o (withField (objectAt objects cells o) i (valueAt k b))
+  pub store-set : storeAt objects (setValue cells (objectWord objects o firstWord + i) k b) n ≡ set (storeAt objects cells n) o (withField (objectAt objects cells o) i (valueAt k b))
   store-set =
       let same : 0 + o ≡ o = omega arith in
-      numbered-set (objectAt objects cells) (objectAt objects (setValue cells (objectWord objects o 2 + i) k b)) 0 n o h (λ q a c d. set-elsewhere q (omega arith) (λ e. d (omega arith)))
-      ∙ ap (set (storeAt objects cells n) o) (ap (objectAt objects (setValue cells (objectWord objects o 2 + i) k b)) same ∙ set-there)
+      numbered-set (objectAt objects cells) (objectAt objects (setValue cells (objectWord objects o firstWord + i) k b)) 0 n o h (λ q a c d. set-elsewhere q (omega arith) (λ e. d (omega arith)))
+      ∙ ap (set (storeAt objects cells n) o) (ap (objectAt objects (setValue cells (objectWord objects o firstWord + i) k b)) same ∙ set-there)
 
-  pub set-canon : Canon k b → AllCanon cells total → AllCanon (setValue cells (objectWord objects o 2 + i) k b) total
-  set-canon c all = put-all cells (objectWord objects o 2 + i) k b field-room c all
+  pub set-canon : Canon k b → AllCanon cells total → AllCanon (setValue cells (objectWord objects o firstWord + i) k b) total
+  set-canon c all = put-all cells (objectWord objects o firstWord + i) k b field-room c all
 
 -- all fields are the cells
 
@@ -147,7 +149,7 @@ joined-more : {A B : Type 0} (f : A → List B) (xs : List A) (x : A) → joined
 joined-more f [] x = append-nil (f x)
 joined-more f (y ∷ ys) x = ap (λ (l : List _). f y ++ l) (joined-more f ys x) ∙ sym (append-assoc (f y) (joined (map f ys)) (f x))
 
-fields-next : (objects cells : List ℕ) (n : ℕ) → objectWord objects n 2 ≡ cellsBelow objects n → cellValues (storeAt objects cells n) ≡ valuesFrom cells 0 (cellsBelow objects n) → cellValues (storeAt objects cells (suc n)) ≡ valuesFrom cells 0 (cellsBelow objects n + objectWord objects n 3)
+fields-next : (objects cells : List ℕ) (n : ℕ) → objectWord objects n firstWord ≡ cellsBelow objects n → cellValues (storeAt objects cells n) ≡ valuesFrom cells 0 (cellsBelow objects n) → cellValues (storeAt objects cells (suc n)) ≡ valuesFrom cells 0 (cellsBelow objects n + objectWord objects n countWord)
 unfolding objectAt
 fields-next objects cells n starts before =
     let next : suc n ≡ n + 1 = omega arith in
@@ -156,10 +158,10 @@ fields-next objects cells n starts before =
     ap (λ (k : ℕ). cellValues (storeAt objects cells k)) next
     ∙ ap cellValues (numbered-more (objectAt objects cells) 0 n)
     ∙ joined-more (λ o. o .fields) (storeAt objects cells n) (objectAt objects cells (0 + n))
-    ∙ ap₂ _++_ before (ap (λ (k : ℕ). objectAt objects cells k .fields) here ∙ ap (λ (k : ℕ). valuesFrom cells k (objectWord objects n 3)) (starts ∙ sym there))
-    ∙ sym (numbered-append (entryIn valueAt cells) 0 (cellsBelow objects n) (objectWord objects n 3))
+    ∙ ap₂ _++_ before (ap (λ (k : ℕ). objectAt objects cells k .fields) here ∙ ap (λ (k : ℕ). valuesFrom cells k (objectWord objects n countWord)) (starts ∙ sym there))
+    ∙ sym (numbered-append (entryIn valueAt cells) 0 (cellsBelow objects n) (objectWord objects n countWord))
 
-fields-are : (objects cells : List ℕ) (n : ℕ) → ((o : ℕ) → o < n → objectWord objects o 2 ≡ cellsBelow objects o) → cellValues (storeAt objects cells n) ≡ valuesFrom cells 0 (cellsBelow objects n)
+fields-are : (objects cells : List ℕ) (n : ℕ) → ((o : ℕ) → o < n → objectWord objects o firstWord ≡ cellsBelow objects o) → cellValues (storeAt objects cells n) ≡ valuesFrom cells 0 (cellsBelow objects n)
 unfolding numbered cellsBelow
 fields-are objects cells zero starts = refl
 fields-are objects cells (suc n) starts = fields-next objects cells n (starts n (omega arith)) (fields-are objects cells n (λ o h. starts o (omega arith)))
@@ -185,48 +187,48 @@ link-word w = go (decided (eqb w 0))
     go (inr z) = let d : w ≡ 0 → ⊥ = eqb-false w 0 z in rw z (omega (arith, d))
 
 module _ (objects cells : List ℕ) where
-  object-front : (at : ℕ) → 4 * (at + 1) ≤ length objects → drop (4 * at) objects ≡ objectWord objects at 0 ∷ objectWord objects at 1 ∷ objectWord objects at 2 ∷ objectWord objects at 3 ∷ drop (4 * (at + 1)) objects
+  object-front : (at : ℕ) → objectSpan * (at + 1) ≤ length objects → drop (objectSpan * at) objects ≡ objectWord objects at typeWord ∷ objectWord objects at descriptorWord ∷ objectWord objects at firstWord ∷ objectWord objects at countWord ∷ drop (objectSpan * (at + 1)) objects
   object-front at room =
-      let first : 4 * at ≡ 4 * at + 0 = omega arith in
-      let second : suc (4 * at + 0) ≡ 4 * at + 1 = omega arith in
-      let third : suc (4 * at + 1) ≡ 4 * at + 2 = omega arith in
-      let fourth : suc (4 * at + 2) ≡ 4 * at + 3 = omega arith in
-      let next : suc (4 * at + 3) ≡ 4 * (at + 1) = omega arith in
-      let a : drop (4 * at + 0) objects ≡ objectWord objects at 0 ∷ drop (suc (4 * at + 0)) objects = drop-cons objects (4 * at + 0) 0 (omega arith) in
-      let b : drop (4 * at + 1) objects ≡ objectWord objects at 1 ∷ drop (suc (4 * at + 1)) objects = drop-cons objects (4 * at + 1) 0 (omega arith) in
-      let c : drop (4 * at + 2) objects ≡ objectWord objects at 2 ∷ drop (suc (4 * at + 2)) objects = drop-cons objects (4 * at + 2) 0 (omega arith) in
-      let d : drop (4 * at + 3) objects ≡ objectWord objects at 3 ∷ drop (suc (4 * at + 3)) objects = drop-cons objects (4 * at + 3) 0 (omega arith) in
+      let first : objectSpan * at ≡ objectSpan * at + typeWord = omega arith in
+      let second : suc (objectSpan * at + typeWord) ≡ objectSpan * at + descriptorWord = omega arith in
+      let third : suc (objectSpan * at + descriptorWord) ≡ objectSpan * at + firstWord = omega arith in
+      let fourth : suc (objectSpan * at + firstWord) ≡ objectSpan * at + countWord = omega arith in
+      let next : suc (objectSpan * at + countWord) ≡ objectSpan * (at + 1) = omega arith in
+      let a : drop (objectSpan * at + typeWord) objects ≡ objectWord objects at typeWord ∷ drop (suc (objectSpan * at + typeWord)) objects = drop-cons objects (objectSpan * at + typeWord) 0 (omega arith) in
+      let b : drop (objectSpan * at + descriptorWord) objects ≡ objectWord objects at descriptorWord ∷ drop (suc (objectSpan * at + descriptorWord)) objects = drop-cons objects (objectSpan * at + descriptorWord) 0 (omega arith) in
+      let c : drop (objectSpan * at + firstWord) objects ≡ objectWord objects at firstWord ∷ drop (suc (objectSpan * at + firstWord)) objects = drop-cons objects (objectSpan * at + firstWord) 0 (omega arith) in
+      let d : drop (objectSpan * at + countWord) objects ≡ objectWord objects at countWord ∷ drop (suc (objectSpan * at + countWord)) objects = drop-cons objects (objectSpan * at + countWord) 0 (omega arith) in
       ap (λ (k : ℕ). drop k objects) first
       ∙ a
-      ∙ ap (λ (l : List ℕ). objectWord objects at 0 ∷ l)
+      ∙ ap (λ (l : List ℕ). objectWord objects at typeWord ∷ l)
       (ap (λ (k : ℕ). drop k objects) second
       ∙ b
-      ∙ ap (λ (l : List ℕ). objectWord objects at 1 ∷ l)
+      ∙ ap (λ (l : List ℕ). objectWord objects at descriptorWord ∷ l)
       (ap (λ (k : ℕ). drop k objects) third
       ∙ c
-      ∙ ap (λ (l : List ℕ). objectWord objects at 2 ∷ l)
-      (ap (λ (k : ℕ). drop k objects) fourth ∙ d ∙ ap (λ (k : ℕ). objectWord objects at 3 ∷ drop k objects) next)))
+      ∙ ap (λ (l : List ℕ). objectWord objects at firstWord ∷ l)
+      (ap (λ (k : ℕ). drop k objects) fourth ∙ d ∙ ap (λ (k : ℕ). objectWord objects at countWord ∷ drop k objects) next)))
 
-  rows-from : (at n : ℕ) → 4 * (at + n) ≤ length objects → ((o : ℕ) → o < at + n → objectWord objects o 2 ≡ cellsBelow objects o) → objectsFrom (cellsBelow objects at) (numbered (objectAt objects cells) at n) ≡ take (4 * n) (drop (4 * at) objects)
+  rows-from : (at n : ℕ) → objectSpan * (at + n) ≤ length objects → ((o : ℕ) → o < at + n → objectWord objects o firstWord ≡ cellsBelow objects o) → objectsFrom (cellsBelow objects at) (numbered (objectAt objects cells) at n) ≡ take (objectSpan * n) (drop (objectSpan * at) objects)
   unfolding numbered objectsFrom objectAt
   rows-from at zero room starts = refl
   rows-from at (suc n) room starts =
-      let four : 4 * suc n ≡ suc (suc (suc (suc (4 * n)))) = omega arith in
+      let four : objectSpan * suc n ≡ suc (suc (suc (suc (objectSpan * n)))) = omega arith in
       let front = object-front at (omega arith) in
-      let count : length (valuesFrom cells (objectWord objects at 2) (objectWord objects at 3)) ≡ objectWord objects at 3 = numbered-length (entryIn valueAt cells) (objectWord objects at 2) (objectWord objects at 3) in
-      let first : cellsBelow objects at ≡ objectWord objects at 2 = sym (starts at (omega arith)) in
-      let link : orZero (linkAt (objectWord objects at 1)) ≡ objectWord objects at 1 = link-word (objectWord objects at 1) in
-      let more : cellsBelow objects at + length (valuesFrom cells (objectWord objects at 2) (objectWord objects at 3)) ≡ cellsBelow objects (at + 1) = ap (λ (c : ℕ). cellsBelow objects at + c) count ∙ sym (below-next objects at) in
-      let rest : objectsFrom (cellsBelow objects at + length (valuesFrom cells (objectWord objects at 2) (objectWord objects at 3))) (numbered (objectAt objects cells) (at + 1) n) ≡ take (4 * n) (drop (4 * (at + 1)) objects) =
+      let count : length (valuesFrom cells (objectWord objects at firstWord) (objectWord objects at countWord)) ≡ objectWord objects at countWord = numbered-length (entryIn valueAt cells) (objectWord objects at firstWord) (objectWord objects at countWord) in
+      let first : cellsBelow objects at ≡ objectWord objects at firstWord = sym (starts at (omega arith)) in
+      let link : orZero (linkAt (objectWord objects at descriptorWord)) ≡ objectWord objects at descriptorWord = link-word (objectWord objects at descriptorWord) in
+      let more : cellsBelow objects at + length (valuesFrom cells (objectWord objects at firstWord) (objectWord objects at countWord)) ≡ cellsBelow objects (at + 1) = ap (λ (c : ℕ). cellsBelow objects at + c) count ∙ sym (below-next objects at) in
+      let rest : objectsFrom (cellsBelow objects at + length (valuesFrom cells (objectWord objects at firstWord) (objectWord objects at countWord))) (numbered (objectAt objects cells) (at + 1) n) ≡ take (objectSpan * n) (drop (objectSpan * (at + 1)) objects) =
       ap (λ (f : ℕ). objectsFrom f (numbered (objectAt objects cells) (at + 1) n)) more ∙ rows-from (at + 1) n (omega arith) (λ o h. starts o (omega arith)) in
-      ap₂ (λ (d f : ℕ). objectWord objects at 0 ∷ d ∷ f ∷ length (valuesFrom cells (objectWord objects at 2) (objectWord objects at 3)) ∷ objectsFrom (cellsBelow objects at + length (valuesFrom cells (objectWord objects at 2) (objectWord objects at 3))) (numbered (objectAt objects cells) (at + 1) n)) link first
-      ∙ ap₂ (λ (c : ℕ) (l : List ℕ). objectWord objects at 0 ∷ objectWord objects at 1 ∷ objectWord objects at 2 ∷ c ∷ l) count rest
+      ap₂ (λ (d f : ℕ). objectWord objects at typeWord ∷ d ∷ f ∷ length (valuesFrom cells (objectWord objects at firstWord) (objectWord objects at countWord)) ∷ objectsFrom (cellsBelow objects at + length (valuesFrom cells (objectWord objects at firstWord) (objectWord objects at countWord))) (numbered (objectAt objects cells) (at + 1) n)) link first
+      ∙ ap₂ (λ (c : ℕ) (l : List ℕ). objectWord objects at typeWord ∷ objectWord objects at descriptorWord ∷ objectWord objects at firstWord ∷ c ∷ l) count rest
       ∙ sym (ap₂ take four front)
 
 module _ {objects : List ℕ} {n total : ℕ} (p : Packed objects n total) (cells : List ℕ) where
-  pub objects-words : 4 * n ≤ length objects → take (4 * n) objects ≡ objectsFrom 0 (storeAt objects cells n)
+  pub objects-words : objectSpan * n ≤ length objects → take (objectSpan * n) objects ≡ objectsFrom 0 (storeAt objects cells n)
   unfolding cellsBelow
   objects-words room = sym (rows-from objects cells 0 n (omega arith) (λ o h. p .starts o (omega arith)))
 
-  pub cells-words : 2 * total ≤ length cells → AllCanon cells total → take (2 * total) cells ≡ joined (map valueWords (cellValues (storeAt objects cells n)))
+  pub cells-words : valueSpan * total ≤ length cells → AllCanon cells total → take (valueSpan * total) cells ≡ joined (map valueWords (cellValues (storeAt objects cells n)))
   cells-words room c = sym (ap (λ (vs : List Value). joined (map valueWords vs)) (packed-fields p cells) ∙ canon-words c room)

@@ -6,10 +6,12 @@ use mathlib.Core.Bool.{Bool, true}
 use mathlib.Core.Option.{Option, none, some}
 use mathlib.Core.List.{List, map}
 use lib.ListN.{getD, getElem?, length, set}
+use Rattle.scope.specs.Layout.{valueSpan, objectSpan, objectsSize, cellsSize}
 use Rattle.scope.specs.Sizes.{mostObjects, mostCells}
 use Rattle.scope.specs.Syntax.{Val, num, ref}
 use Rattle.scope.specs.BodyRules.{holdsOf}
 use Rattle.scope.specs.Machine.{Value, number, null, Object, Store, hasRoom, withField}
+use Rattle.run_values.specs.Layout.{typeWord, descriptorWord, firstWord, countWord}
 use Rattle.type_table.specs.View.{linkAt, valAtCode, fieldAtCode, codesAt}
 use Rattle.type_table.specs.Answers.{linkIs}
 use Rattle.type_table.specs.declared.Link.{Link}
@@ -19,15 +21,15 @@ use Rattle.run_heap.specs.declared.Held
 
 -- word k of object o
 abbrev pub objectWord : List ℕ → ℕ → ℕ → ℕ
-objectWord objects o k = getD objects (4 * o + k) 0
+objectWord objects o k = getD objects (objectSpan * o + k) 0
 
 -- object o, were these its fields
 abbrev pub objectWith : List ℕ → ℕ → List Value → Object
 objectWith objects o fields =
-    record { type = objectWord objects o 0; descriptor = linkAt (objectWord objects o 1); fields = fields }
+    record { type = objectWord objects o typeWord; descriptor = linkAt (objectWord objects o descriptorWord); fields = fields }
 
 unfoldable pub objectAt : List ℕ → List ℕ → ℕ → Object
-objectAt objects cells o = objectWith objects o (valuesFrom cells (objectWord objects o 2) (objectWord objects o 3))
+objectAt objects cells o = objectWith objects o (valuesFrom cells (objectWord objects o firstWord) (objectWord objects o countWord))
 
 -- the first n objects
 abbrev pub storeAt : List ℕ → List ℕ → ℕ → Store
@@ -36,17 +38,17 @@ storeAt objects cells n = numbered (objectAt objects cells) 0 n
 -- how many cells the first n objects have
 unfoldable pub cellsBelow : List ℕ → ℕ → ℕ
 cellsBelow objects zero = 0
-cellsBelow objects (suc n) = cellsBelow objects n + objectWord objects n 3
+cellsBelow objects (suc n) = cellsBelow objects n + objectWord objects n countWord
 
 -- the cells of n objects lie end to end, and fill the first `total`
 pub record Packed (objects : List ℕ) (n total : ℕ) : Type 0 where
-  pub starts : (o : ℕ) → o < n → objectWord objects o 2 ≡ cellsBelow objects o
+  pub starts : (o : ℕ) → o < n → objectWord objects o firstWord ≡ cellsBelow objects o
   pub ends : total ≡ cellsBelow objects n
 
 -- what holds of the heap between two instructions
 pub record Kept (objects cells : List ℕ) (n total : ℕ) : Type 0 where
-  pub objectRoom : 4_096 ≤ length objects
-  pub cellRoom : 8_192 ≤ length cells
+  pub objectRoom : objectsSize ≤ length objects
+  pub cellRoom : cellsSize ≤ length cells
   pub few : n ≤ mostObjects
   pub most : total ≤ mostCells
   pub packed : Packed objects n total
@@ -90,26 +92,26 @@ pub record RoomFor (n total need : ℕ) (r : Bool) : Type 0 where
 -- memory with other words of object n
 unfoldable pub withRow : List ℕ → ℕ → ℕ → ℕ → ℕ → ℕ → List ℕ
 withRow objects n x d total k =
-    set (set (set (set objects (4 * n + 0) x) (4 * n + 1) d) (4 * n + 2) total) (4 * n + 3) k
+    set (set (set (set objects (objectSpan * n + typeWord) x) (objectSpan * n + descriptorWord) d) (objectSpan * n + firstWord) total) (objectSpan * n + countWord) k
 
 -- the words of object n are these, and those below are as they were
 pub record RowPut (objects objects′ : List ℕ) (n x d total k : ℕ) : Type 0 where
-  pub type : objectWord objects′ n 0 ≡ x
-  pub descriptor : objectWord objects′ n 1 ≡ d
-  pub first : objectWord objects′ n 2 ≡ total
-  pub count : objectWord objects′ n 3 ≡ k
-  pub below : (i : ℕ) → i < 4 * n → getD objects′ i 0 ≡ getD objects i 0
+  pub type : objectWord objects′ n typeWord ≡ x
+  pub descriptor : objectWord objects′ n descriptorWord ≡ d
+  pub first : objectWord objects′ n firstWord ≡ total
+  pub count : objectWord objects′ n countWord ≡ k
+  pub below : (i : ℕ) → i < objectSpan * n → getD objects′ i 0 ≡ getD objects i 0
   pub size : length objects′ ≡ length objects
 
 -- k more cells are within the sizes
 pub record CellRoom (cells : List ℕ) (total k : ℕ) : Type 0 where
-  pub room : 8_192 ≤ length cells
-  pub few : total + k ≤ 4_096
+  pub room : cellsSize ≤ length cells
+  pub few : total + k ≤ mostCells
 
 -- k cells from `total` on say these values, and the cells below are as they were
 pub record Filled (cells cells′ : List ℕ) (total k : ℕ) (vs : List Value) : Type 0 where
   pub values : valuesFrom cells′ total k ≡ vs
-  pub below : (i : ℕ) → i < 2 * total → getD cells′ i 0 ≡ getD cells i 0
+  pub below : (i : ℕ) → i < valueSpan * total → getD cells′ i 0 ≡ getD cells i 0
   pub size : length cells′ ≡ length cells
 
 pub record CellsCopied (from cells cells′ : List ℕ) (at total k : ℕ) : Type 0 where

@@ -1,34 +1,15 @@
 // The heap of a run in lent memory: objects of four words (type; descriptor, 0 none, else one more than its number; first
 // cell; how many cells), and cells, which are values. Each answer is what the words say (specs/Heap.antt).
+use run_values::layout;
+use scope::sizes;
 use type_table::Link;
 use type_table::ValKind;
 ghost use mathlib.Core.Path.{_≡_};
 ghost use Prim.Native.Nat.{_+_, _*_};
 ghost use lib.ListN.{set};
+ghost use Rattle.scope.specs.Layout.{objectSpan};
 ghost use Rattle.lent_u16.specs.Words.{WordAt};
 ghost use Rattle.run_heap.specs.Heap.{withRow, TypeOf, DescriptorOf, FieldCount, HeldField, FieldSet, RoomFor, CellRoom, CellsCopied, DefaultKind, CellsDefault};
-
-// The words of an object.
-const OBJECT: u64 = 4;
-
-const TYPE: u8 = 0;
-
-const DESCRIPTOR: u8 = 1;
-
-const FIRST: u8 = 2;
-
-const COUNT: u8 = 3;
-
-// "45 exactly when 1,024 objects exist or fewer than the needed cells are left of 4,096"
-const OBJECTS: u32 = 1024;
-
-const CELLS: u64 = 4096;
-
-// The kind of null.
-const NULL: u64 = 5;
-
-// Numbers of cells are 32-bit ones.
-const NUMBERS: u64 = 4294967296;
 
 // What a field holds, by its kind and bits.
 pub enum Held {
@@ -38,23 +19,23 @@ pub enum Held {
 
 // A word of an object.
 fn object_word(objects: &[u16], o: u32, k: u8) -> u64
-    ensures { λ r. ⌜ WordAt (now (objects .entry)) (4 * o + k) r ⌝ }
+    ensures { λ r. ⌜ WordAt (now (objects .entry)) (objectSpan * o + k) r ⌝ }
 {
-    lent_u16::word(objects, OBJECT * o as u64 + k as u64)
+    lent_u16::word(objects, sizes::OBJECT * o as u64 + k as u64)
 }
 
 // The type as which it was made.
 pub fn type_of(objects: &[u16], o: u32) -> u64
     ensures { λ r. ⌜ TypeOf (now (objects .entry)) o r ⌝ }
 {
-    object_word(objects, o, TYPE)
+    object_word(objects, o, layout::TYPE)
 }
 
 // The number of its descriptor object.
 pub fn descriptor_of(objects: &[u16], o: u32) -> Link
     ensures { λ r. ⌜ DescriptorOf (now (objects .entry)) o r ⌝ }
 {
-    let w = object_word(objects, o, DESCRIPTOR);
+    let w = object_word(objects, o, layout::DESCRIPTOR);
     if w == 0 {
         return Link::Nothing;
     }
@@ -65,19 +46,19 @@ pub fn descriptor_of(objects: &[u16], o: u32) -> Link
 pub fn field_count(objects: &[u16], o: u32) -> u64
     ensures { λ r. ⌜ FieldCount (now (objects .entry)) o r ⌝ }
 {
-    object_word(objects, o, COUNT)
+    object_word(objects, o, layout::COUNT)
 }
 
 // What its field i holds.
 pub fn held_field(objects: &[u16], cells: &[u64], o: u32, i: u64) -> Held
     ensures { λ r. ⌜ HeldField (now (objects .entry)) (now (cells .entry)) o i r ⌝ }
 {
-    let count = object_word(objects, o, COUNT);
+    let count = object_word(objects, o, layout::COUNT);
     if count <= i {
         return Held::Absent;
     }
-    let first = object_word(objects, o, FIRST);
-    let place = 2 * (first + i);
+    let first = object_word(objects, o, layout::FIRST);
+    let place = sizes::VALUE * (first + i);
     let kind = run_values::word64(cells, place);
     let bits = run_values::word64(cells, place + 1);
     Held::Is(kind, bits)
@@ -87,35 +68,36 @@ pub fn held_field(objects: &[u16], cells: &[u64], o: u32, i: u64) -> Held
 pub fn set_field(objects: &[u16], cells: &mut [u64], o: u32, i: u32, kind: u64, bits: u64)
     ensures { λ r. ⌜ FieldSet (now (objects .entry)) (now (cells .entry)) (now (cells .exit)) o i kind bits ⌝ }
 {
-    let first = object_word(objects, o, FIRST);
-    let place = (first + i as u64) % NUMBERS;
+    let first = object_word(objects, o, layout::FIRST);
+    let place = (first + i as u64) % layout::NUMBER_LIMIT;
     run_values::put_value(cells, place as u32, kind, bits);
 }
 
-// Whether there is room for one more object with so many fields.
+// Whether there is room for one more object with so many fields: "45 exactly when 1,024 objects exist or fewer than the
+// needed cells are left of 4,096".
 pub fn room_for(n: u32, total: u32, need: u32) -> bool
     ensures { λ r. ⌜ RoomFor n total need r ⌝ }
 {
-    if OBJECTS <= n {
+    if sizes::MOST_OBJECTS <= n as u64 {
         return false;
     }
-    total as u64 + need as u64 <= CELLS
+    total as u64 + need as u64 <= sizes::MOST_CELLS
 }
 
 // Two words of object n, from word k on.
 fn put_words(objects: &mut [u16], n: u32, k: u8, a: u16, b: u16)
-    ensures { λ r. ⌜ now (objects .exit) ≡ set (set (now (objects .entry)) (4 * n + k) a) (4 * n + (k + 1)) b ⌝ }
+    ensures { λ r. ⌜ now (objects .exit) ≡ set (set (now (objects .entry)) (objectSpan * n + k) a) (objectSpan * n + (k + 1)) b ⌝ }
 {
-    lent_u16::put(objects, OBJECT * n as u64 + k as u64, a as u64);
-    lent_u16::put(objects, OBJECT * n as u64 + (k as u64 + 1), b as u64);
+    lent_u16::put(objects, sizes::OBJECT * n as u64 + k as u64, a as u64);
+    lent_u16::put(objects, sizes::OBJECT * n as u64 + (k as u64 + 1), b as u64);
 }
 
 // The words of object n.
 pub fn put_object(objects: &mut [u16], n: u32, x: u16, descriptor: u16, first: u16, count: u16)
     ensures { λ r. ⌜ now (objects .exit) ≡ withRow (now (objects .entry)) n x descriptor first count ⌝ }
 {
-    put_words(objects, n, TYPE, x, descriptor);
-    put_words(objects, n, FIRST, first, count);
+    put_words(objects, n, layout::TYPE, x, descriptor);
+    put_words(objects, n, layout::FIRST, first, count);
 }
 
 // k values of another memory, from its value `at` on, as cells from `total` on.
@@ -125,7 +107,7 @@ pub fn copy_cells(cells: &mut [u64], from: &[u64], at: u32, total: u32, k: u32)
 {
     let mut i: u32 = 0;
     while i < k {
-        let place = 2 * (at as u64 + i as u64);
+        let place = sizes::VALUE * (at as u64 + i as u64);
         let kind = run_values::word64(from, place);
         let bits = run_values::word64(from, place + 1);
         run_values::put_value(cells, total + i, kind, bits);
@@ -140,7 +122,7 @@ fn default_kind(code: u64) -> u64
     let val = type_table::val_of(code);
     match val {
         ValKind::Number(k) => k + 1,
-        ValKind::Ref(_, _) => NULL,
+        ValKind::Ref(_, _) => layout::NULL,
     }
 }
 

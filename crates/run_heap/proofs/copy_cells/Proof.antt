@@ -1,4 +1,4 @@
--- `store::copy_cells` meets its contract: each turn copies one more value.
+-- `run_heap::copy_cells` meets its contract: each turn copies one more value.
 use Prim.Native.Nat.{_-_}
 use borrow.Author.Needs.{needs}
 use Rattle.run_heap.proofs.Filling.{CopiedSoFar, copy-exits}

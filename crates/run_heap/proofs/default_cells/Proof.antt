@@ -1,4 +1,4 @@
--- `store::default_cells` meets its contract: each turn puts the default of one more field.
+-- `run_heap::default_cells` meets its contract: each turn puts the default of one more field.
 use Prim.Native.Nat.{_-_}
 use borrow.Author.Needs.{needs}
 use Rattle.run_heap.proofs.Filling.{DefaultSoFar, default-exits}

@@ -1,4 +1,4 @@
--- `store::default_kind` meets its contract.
+-- `run_heap::default_kind` meets its contract.
 use borrow.Author.Needs.{needs}
 use Rattle.run_heap.proofs.Filling.{kind-exits}
 use Rattle.run_heap.proofs.default_kind.Statement.{statement}

@@ -1,4 +1,4 @@
--- `store::descriptor_of` meets its contract.
+-- `run_heap::descriptor_of` meets its contract.
 use borrow.Author.Needs.{needs}
 use Rattle.run_heap.proofs.Asked.{ask-exits}
 use Rattle.run_heap.proofs.descriptor_of.Statement.{statement}

@@ -1,4 +1,4 @@
--- `store::field_count` meets its contract.
+-- `run_heap::field_count` meets its contract.
 use borrow.Author.Needs.{needs}
 use Rattle.run_heap.proofs.Asked.{ask-exits}
 use Rattle.run_heap.proofs.field_count.Statement.{statement}

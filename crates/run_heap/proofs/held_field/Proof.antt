@@ -1,4 +1,4 @@
--- `store::held_field` meets its contract.
+-- `run_heap::held_field` meets its contract.
 use borrow.Author.Needs.{needs}
 use Rattle.run_heap.proofs.Asked.{ask-exits}
 use Rattle.run_heap.proofs.held_field.Statement.{statement}

@@ -1,4 +1,4 @@
--- `store::put_object` meets its contract.
+-- `run_heap::put_object` meets its contract.
 use borrow.Author.Needs.{needs}
 use Rattle.run_heap.proofs.Made.{row-exits}
 use Rattle.run_heap.proofs.put_object.Statement.{statement}

@@ -1,4 +1,4 @@
--- `store::put_words` meets its contract.
+-- `run_heap::put_words` meets its contract.
 use borrow.Author.Needs.{needs}
 use Rattle.run_heap.proofs.Made.{row-exits}
 use Rattle.run_heap.proofs.put_words.Statement.{statement}

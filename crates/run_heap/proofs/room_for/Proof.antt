@@ -1,4 +1,4 @@
--- `store::room_for` meets its contract.
+-- `run_heap::room_for` meets its contract.
 use borrow.Author.Needs.{needs}
 use Rattle.run_heap.proofs.Asked.{ask-exits}
 use Rattle.run_heap.proofs.room_for.Statement.{statement}

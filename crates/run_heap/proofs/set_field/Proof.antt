@@ -1,4 +1,4 @@
--- `store::set_field` meets its contract.
+-- `run_heap::set_field` meets its contract.
 use borrow.Author.Needs.{needs}
 use Rattle.run_heap.proofs.Asked.{ask-exits}
 use Rattle.run_heap.proofs.set_field.Statement.{statement}

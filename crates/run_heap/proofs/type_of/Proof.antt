@@ -1,4 +1,4 @@
--- `store::type_of` meets its contract.
+-- `run_heap::type_of` meets its contract.
 use borrow.Author.Needs.{needs}
 use Rattle.run_heap.proofs.Asked.{ask-exits}
 use Rattle.run_heap.proofs.type_of.Statement.{statement}
