@@ -22,14 +22,14 @@ module _ (left : ℕ) (c : Context) (s : List ℕ) (at : ℕ) {i : Instr} {next 
   here : {rest : Code} → code ≡ (at, i) ∷ rest → rest ≡ codeAt s next → code ≡ codeAt s at
   here e f = e ∙ ap (λ (more : Code). (at, i) ∷ more) f ∙ sym (code-here s at read)
 
-  after : (o : Read Code) → ((rest : Code) → o ≡ got rest (length s) → rest ≡ codeAt s next) → then o (λ rest stop. got ((at, i) ∷ rest) stop) ≡ got code (length s) → code ≡ codeAt s at
-  after (got rest stop) later e =
+  by-rest : (o : Read Code) → ((rest : Code) → o ≡ got rest (length s) → rest ≡ codeAt s next) → then o (λ rest stop. got ((at, i) ∷ rest) stop) ≡ got code (length s) → code ≡ codeAt s at
+  by-rest (got rest stop) later e =
       let whole : stop ≡ length s = cc in
       here (let is : code ≡ (at, i) ∷ rest = cc in is) (later rest (ap (got rest) whole))
-  after (refused n p) later e = impossible cc
+  by-rest (refused n p) later e = impossible cc
 
   by-next : (n : Next) → ((st : State) (rest : Code) → judgeFrom left c st s next ≡ got rest (length s) → rest ≡ codeAt s next) → onNext n (λ later. then (judgeFrom left c later s next) (λ rest stop. got ((at, i) ∷ rest) stop)) (got ((at, i) ∷ []) next) ≡ got code (length s) → code ≡ codeAt s at
-  by-next (goesOn st) later e = after (judgeFrom left c st s next) (later st) e
+  by-next (goesOn st) later e = by-rest (judgeFrom left c st s next) (later st) e
   by-next finished later e =
       let whole : next ≡ length s = cc in
       here (let is : code ≡ (at, i) ∷ [] = cc in is) (rw whole (sym (code-none s (length s) (le-refl (length s)))))

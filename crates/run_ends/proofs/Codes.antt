@@ -11,7 +11,7 @@ use Rattle.scope.specs.Bodies.{Code}
 use Rattle.scope.specs.Machine.{endsLeft, past}
 use Rattle.scope.proofs.Forward.{never-back}
 use Rattle.scope.proofs.ForwardBodies.{instr-takes}
-use Rattle.run_ends.specs.Matching.{onRead, codeFrom, codeAt, Reached, here, after}
+use Rattle.run_ends.specs.Matching.{onRead, codeFrom, codeAt, Reached, here, further}
 
 -- what is left does not matter where it is enough
 
@@ -59,12 +59,12 @@ module _ (s : List ℕ) (at : ℕ) where
 -- one reading
 
 pub reached-next : {s : List ℕ} {first at next : ℕ} {i : Instr} → Reached s first at → instrAt s at ≡ got i next → Reached s first next
-reached-next here e = after e here
-reached-next (after f r) e = after f (reached-next r e)
+reached-next here e = further e here
+reached-next (further f r) e = further f (reached-next r e)
 
 pub reached-inside : {s : List ℕ} {first at : ℕ} → first ≤ length s → Reached s first at → at ≤ length s
 reached-inside h here = h
-reached-inside {s} h (after {first} f r) = reached-inside (never-back instr-takes s first f .1) r
+reached-inside {s} h (further {first} f r) = reached-inside (never-back instr-takes s first f .1) r
 
 pub one-next : {o : Read Instr} {i j : Instr} {m n : ℕ} → o ≡ got i m → o ≡ got j n → m ≡ n
 one-next e f = cc

@@ -9,6 +9,7 @@ use native.Mathlib.Omega.{arith}
 use lib.ListN.{length, getD, set}
 use lib.Dec.{eqb}
 use borrow.Author.Tests.{eqb-true, eqb-false}
+use Rattle.scope.specs.Sizes.{mostBytes}
 use Rattle.scope.specs.Reading.{Read, got, refused}
 use Rattle.scope.specs.Syntax.{Val}
 use Rattle.scope.specs.Instructions.{Op, Instr, block, loop, end, op, instrAt}
@@ -28,7 +29,7 @@ use Rattle.run_ends.specs.declared.Kind
 use Rattle.run_ends.specs.declared.Noted.{Noted}
 use Rattle.run_ends.specs.declared.Noted
 use Rattle.run_ends.specs.Noting.{kindOf, KindIs, NotedAt, noneThere}
-use Rattle.run_ends.specs.Matching.{codeAt, Balanced, last, closing, opening-block, opening-loop, inside, Reached, here, after, Opener, is-block, is-loop, Lands, EndsOf, Fillable, Filled}
+use Rattle.run_ends.specs.Matching.{codeAt, Balanced, last, closing, opening-block, opening-loop, inside, Reached, here, further, Opener, is-block, is-loop, Lands, EndsOf, Fillable, Filled}
 use Rattle.run_ends.proofs.Codes.{code-here, code-refused, code-none, reached-next, one-next, past-own-end}
 use Rattle.lent_u16.proofs.Stores.{Stored, stored}
 use Rattle.run_ends.proofs.Chain.{Open, none-open, one-open, open-from, open-later, word-small, open-in, Innermost, innermost-open, no-places, past-inside, past-block, past-loop, past-end}
@@ -55,7 +56,7 @@ not-refused (is-loop e) f = contradiction cc
 -- what a reached place is, where one instruction was read
 ahead-of : {s : List ℕ} {here₀ next at : ℕ} {i : Instr} → instrAt s here₀ ≡ got i next → Reached s here₀ at → (at ≡ here₀) ⊎ Reached s next at
 ahead-of read here = inl refl
-ahead-of {s} {at = at} read (after e r) = inr (subst (λ (n : ℕ). Reached s n at) (one-next e read) r)
+ahead-of {s} {at = at} read (further e r) = inr (subst (λ (n : ℕ). Reached s n at) (one-next e read) r)
 
 -- what is open, by one instruction
 
@@ -91,7 +92,7 @@ pub record Going (s ends₀ : List ℕ) (first : ℕ) (ends : List ℕ) (next in
   pub chain : Open s ends (codeAt s next) next 1 innermost places
   pub passed : (at onward : ℕ) → Reached s first at → Opener s at onward → Passed s first ends next places at onward
   pub reached : Reached s first next
-  pub within : next ≤ length s
+  pub inside : next ≤ length s
   pub counted : length s ≤ left + next
   pub balances : Balanced 0 (codeAt s first) → Balanced (length places) (codeAt s next)
   pub balanced : Balanced (length places) (codeAt s next) → Balanced 0 (codeAt s first)
@@ -104,7 +105,7 @@ going-first f =
       chain = none-open;
       passed = λ at onward r o. ahead r;
       reached = here;
-      within = f .inside;
+      inside = f .inside;
       counted = omega arith;
       balances = λ b. b;
       balanced = λ b. b;
@@ -143,7 +144,7 @@ module _ {s ends₀ : List ℕ} {first : ℕ} {ends : List ℕ} {next innermost 
           chain = chain;
           passed = passed;
           reached = reached-next (g .reached) read;
-          within = ends-inside;
+          inside = ends-inside;
           counted = omega (arith, g .counted);
           balances = λ b. to (subst (Balanced (length (g .places))) (code-here s next read) (g .balances b));
           balanced = λ b. g .balanced (subst (Balanced (length (g .places))) (sym (code-here s next read)) (from b));
@@ -234,12 +235,12 @@ module _ {s ends₀ : List ℕ} {first : ℕ} {ends : List ℕ} {next innermost 
     stored-open : {ends′ : List ℕ} {j : Instr} → instrAt s next ≡ got j onto → ends′ ≡ set ends next (innermost % 65_536) → Stored ends ends′ next innermost
     stored-open read e =
         let (forward, ends-inside) = never-back instr-takes s next read in
-        stored 65_536 e (omega (arith, word-small (g .chain), g .within, f .short)) (omega (arith, g .size, f .room))
+        stored 65_536 e (omega (arith, word-small (g .chain), g .inside, f .short)) (omega (arith, g .size, f .room))
 
     stored-close : {ends′ : List ℕ} {p : ℕ} → innermost ≡ suc p → instrAt s next ≡ got end onto → ends′ ≡ set ends p (onto % 65_536) → Stored ends ends′ p onto
     stored-close is read e =
         let (forward, ends-inside) = never-back instr-takes s next read in
-        stored 65_536 e (omega (arith, f .short)) (omega (arith, word-small (g .chain), g .within, g .size, f .room))
+        stored 65_536 e (omega (arith, f .short)) (omega (arith, word-small (g .chain), g .inside, g .size, f .room))
 
     -- what was noted, by what was read
     turn : {ends′ : List ℕ} {noted : Noted} {word : ℕ} (j : Instr) → instrAt s next ≡ got j onto → NotedAt ends ends′ innermost next onto (kindOf j) noted → noted ≡ Noted.the-variants.Open word → Going s ends₀ first ends′ onto word (left - 1)
@@ -282,7 +283,7 @@ module _ {s ends₀ : List ℕ} {first : ℕ} {ends : List ℕ} {next innermost 
           where
             later : (at onward : ℕ) → Opener s at onward → Reached s onto at → Lands s first onward (getD ends at 0)
             later at onward o here = let (n, place, no-more) = nothing e in absurd (not-refused o no-more)
-            later at onward o (after read-there r) = let (n, place, no-more) = nothing e in impossible cc
+            later at onward o (further read-there r) = let (n, place, no-more) = nothing e in impossible cc
 
             by : (at onward : ℕ) → Opener s at onward → Passed s first ends next (g .places) at onward → Lands s first onward (getD ends at 0)
             by at onward o (closed lands) = lands
@@ -320,7 +321,7 @@ module _ {s ends₀ : List ℕ} {first : ℕ} {ends : List ℕ} {next innermost 
     going-refused e = stopped (code-refused s next (instruction-refused (instrAt s next) a e))
 
     module _ {i : Instruction} {onto : ℕ} (e : r ≡ InstructionRead.the-variants.Is i onto) where
-      pub going-early : next < 32_768
+      pub going-early : next < mostBytes
       going-early =
           let (j, read, same) = instruction-got (instrAt s next) a e in
           let (forward, ends-inside) = never-back instr-takes s next read in

@@ -5,6 +5,7 @@ use mathlib.Core.Path.{_≡_}
 use mathlib.Core.Bool.{Bool, true}
 use mathlib.Core.List.{List, [], _∷_}
 use lib.ListN.{getD, length}
+use Rattle.scope.specs.Sizes.{mostBytes}
 use Rattle.scope.specs.Reading.{Read, got, refused}
 use Rattle.scope.specs.Syntax.{Val}
 use Rattle.scope.specs.Instructions.{Op, Instr, block, loop, end, op, instrAt}
@@ -37,7 +38,7 @@ pub data Balanced : ℕ → Code → Type 0 where
 -- the places that are reached from the first by reading
 pub data Reached (s : List ℕ) : ℕ → ℕ → Type 0 where
   here : {at : ℕ} → Reached s at at
-  after : {first next at : ℕ} {i : Instr} → instrAt s first ≡ got i next → Reached s next at → Reached s first at
+  further : {first next at : ℕ} {i : Instr} → instrAt s first ≡ got i next → Reached s next at → Reached s first at
 
 -- a block or a loop stands at the place `at`, and its code begins at `next`
 pub data Opener (s : List ℕ) (at next : ℕ) : Type 0 where
@@ -56,7 +57,7 @@ pub record EndsOf (s ends : List ℕ) (first : ℕ) : Type 0 where
 
 -- what is lent has a word for each byte, and a place fits a word
 pub record Fillable (s ends : List ℕ) (first : ℕ) : Type 0 where
-  pub short : length s ≤ 32_768
+  pub short : length s ≤ mostBytes
   pub room : length s ≤ length ends
   pub inside : first ≤ length s
 

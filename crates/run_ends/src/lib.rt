@@ -4,6 +4,7 @@ use body_immediates::Instruction;
 use body_immediates::InstructionRead;
 ghost use mathlib.Core.Path.{_≡_};
 ghost use Prim.Native.Nat.{_<_};
+ghost use Rattle.scope.specs.Sizes.{mostBytes};
 ghost use Rattle.scope.specs.Instructions.{instrAt};
 ghost use Rattle.run_ends.specs.Noting.{KindIs, noneThere, NotedAt};
 ghost use Rattle.run_ends.specs.Matching.{Fillable, Filled};
@@ -35,7 +36,7 @@ pub enum Noted {
 // An instruction of that kind at `at`, with `after` the place after it. At a block's place stands, while it is open,
 // the word of the one around it, and then the place after its end.
 fn note(ends: &mut [u16], innermost: u64, at: u64, after: u64, kind: Kind) -> Noted
-    requires { ⌜ at < 32_768 ⌝ }
+    requires { ⌜ at < mostBytes ⌝ }
     ensures { λ r. ⌜ NotedAt (now (ends .entry)) (now (ends .exit)) innermost at after kind r ⌝ }
 {
     match kind {

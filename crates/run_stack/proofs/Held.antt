@@ -13,8 +13,9 @@ use lib.Dec.{eqb}
 use borrow.Author.Tests.{eqb-true, eqb-false}
 use Rattle.scope.proofs.Truths.{decided}
 use Rattle.scope.proofs.Impossible.{impossible}
+use Rattle.run_values.specs.Layout.{kindPlace, bitsPlace}
 use Rattle.run_values.specs.Values.{Word64At, valueAt, heldAt, heldFrom, setValue, HeldCanon, entryIn}
-use Rattle.run_values.proofs.Numbered.{numbered-length, numbered-there, numbered-past, numbered-set}
+use Rattle.run_values.proofs.Numbered.{numbered-length, numbered-there, numbered-none, numbered-set}
 use Rattle.run_values.proofs.Laws.{canon-kind, held-none, held-some, held-canon-some, put-long, put-beside, put-kind, put-bits}
 use Rattle.run_stack.specs.declared.HeldLocal.{HeldLocal}
 use Rattle.run_stack.specs.declared.HeldLocal
@@ -22,30 +23,30 @@ use Rattle.run_stack.specs.Pile.{LocalRoom, LocalIs, LocalSet}
 
 -- read
 
-pub local-there : (locals : List ℕ) (count x : ℕ) → x < count → getElem? (heldFrom locals 0 count) x ≡ some (heldAt (getD locals (2 * x) 0) (getD locals (2 * x + 1) 0))
+pub local-there : (locals : List ℕ) (count x : ℕ) → x < count → getElem? (heldFrom locals 0 count) x ≡ some (heldAt (getD locals (kindPlace x) 0) (getD locals (bitsPlace x) 0))
 unfolding entryIn
 local-there locals count x h = numbered-there (entryIn heldAt locals) 0 count x h ∙ ap (λ (k : ℕ). some (entryIn heldAt locals k)) (zero-add x)
 
-pub local-past : (locals : List ℕ) (count x : ℕ) → count ≤ x → getElem? (heldFrom locals 0 count) x ≡ none
-local-past locals count x h = numbered-past (entryIn heldAt locals) 0 count x h
+pub local-none : (locals : List ℕ) (count x : ℕ) → count ≤ x → getElem? (heldFrom locals 0 count) x ≡ none
+local-none locals count x h = numbered-none (entryIn heldAt locals) 0 count x h
 
 pub locals-length : (locals : List ℕ) (count : ℕ) → length (heldFrom locals 0 count) ≡ count
 locals-length locals count = numbered-length (entryIn heldAt locals) 0 count
 
 pub local-absent : (locals : List ℕ) {count x : ℕ} → count ≤ x → LocalIs locals count x HeldLocal.the-variants.Absent
 local-absent locals {count} {x} h =
-    record { is = sym (local-past locals count x h); canon = λ k n z. impossible cc }
+    record { is = sym (local-none locals count x h); canon = λ k n z. impossible cc }
 
-module _ {locals : List ℕ} {count x k : ℕ} (h : x < count) (a : Word64At locals (2 * x) k) where
+module _ {locals : List ℕ} {count x k : ℕ} (h : x < count) (a : Word64At locals (kindPlace x) k) where
   pub local-unset : k ≡ 0 → LocalIs locals count x HeldLocal.the-variants.Unset
   local-unset e =
-      let kind : getD locals (2 * x) 0 ≡ 0 = sym (a .is) ∙ e in
+      let kind : getD locals (kindPlace x) 0 ≡ 0 = sym (a .is) ∙ e in
       record {
-        is = sym (local-there locals count x h ∙ ap some (held-none (getD locals (2 * x + 1) 0) kind));
+        is = sym (local-there locals count x h ∙ ap some (held-none (getD locals (bitsPlace x) 0) kind));
         canon = λ k′ n z. impossible cc;
       }
 
-  pub local-held : (k ≡ 0 → ⊥) → {n : ℕ} → Word64At locals (2 * x + 1) n → LocalIs locals count x (HeldLocal.the-variants.Is k n)
+  pub local-held : (k ≡ 0 → ⊥) → {n : ℕ} → Word64At locals (bitsPlace x) n → LocalIs locals count x (HeldLocal.the-variants.Is k n)
   local-held d {n} b =
       let held : heldAt k n ≡ some (valueAt k n) = held-some n d in
       record {
@@ -76,33 +77,33 @@ module _ (m : List ℕ) (j k n : ℕ) where
   unfolding entryIn
   held-beside i d =
       ap₂ heldAt
-      (put-beside m j k n (2 * i) (λ e. d (omega arith)) (λ e. omega arith))
-      (put-beside m j k n (2 * i + 1) (λ e. omega arith) (λ e. d (omega arith)))
+      (put-beside m j k n (kindPlace i) (λ e. d (omega arith)) (λ e. omega arith))
+      (put-beside m j k n (bitsPlace i) (λ e. omega arith) (λ e. d (omega arith)))
 
-  module _ (room : 2 * j + 1 < length m) where
+  module _ (room : bitsPlace j < length m) where
     pub held-here : entryIn heldAt (setValue m j k n) j ≡ heldAt k n
     unfolding entryIn
     held-here = ap₂ heldAt (put-kind m j k n room) (put-bits m j k n room)
 
-    pub held-canon-put : (i : ℕ) → ((i ≡ j → ⊥) → HeldCanon (getD m (2 * i) 0) (getD m (2 * i + 1) 0)) → HeldCanon k n → HeldCanon (getD (setValue m j k n) (2 * i) 0) (getD (setValue m j k n) (2 * i + 1) 0)
+    pub held-canon-put : (i : ℕ) → ((i ≡ j → ⊥) → HeldCanon (getD m (kindPlace i) 0) (getD m (bitsPlace i) 0)) → HeldCanon k n → HeldCanon (getD (setValue m j k n) (kindPlace i) 0) (getD (setValue m j k n) (bitsPlace i) 0)
     held-canon-put i before c = go (decided (eqb i j))
       where
-        go : (eqb i j ≡ true) ⊎ (eqb i j ≡ false) → HeldCanon (getD (setValue m j k n) (2 * i) 0) (getD (setValue m j k n) (2 * i + 1) 0)
+        go : (eqb i j ≡ true) ⊎ (eqb i j ≡ false) → HeldCanon (getD (setValue m j k n) (kindPlace i) 0) (getD (setValue m j k n) (bitsPlace i) 0)
         go (inl z) = let e : i ≡ j = eqb-true i j z in rw (e, put-kind m j k n room, put-bits m j k n room) c
         go (inr z) =
             let d : i ≡ j → ⊥ = eqb-false i j z in
-            rw (put-beside m j k n (2 * i) (λ e. d (omega arith)) (λ e. omega arith), put-beside m j k n (2 * i + 1) (λ e. omega arith) (λ e. d (omega arith))) (before d)
+            rw (put-beside m j k n (kindPlace i) (λ e. d (omega arith)) (λ e. omega arith), put-beside m j k n (bitsPlace i) (λ e. omega arith) (λ e. d (omega arith))) (before d)
 
 -- a local that is set
 
-pub local-set-past : (locals : List ℕ) {count x : ℕ} (k n : ℕ) → count ≤ x → LocalSet locals locals count x k n
-local-set-past locals {count} {x} k n h =
-    let past : length (heldFrom locals 0 count) ≤ x = rw (locals-length locals count) h in
-    record { is = λ c. sym (set-out (heldFrom locals 0 count) x (some (valueAt k n)) past); canon = λ c all. all; size = refl }
+pub local-set-none : (locals : List ℕ) {count x : ℕ} (k n : ℕ) → count ≤ x → LocalSet locals locals count x k n
+local-set-none locals {count} {x} k n h =
+    let beyond : length (heldFrom locals 0 count) ≤ x = rw (locals-length locals count) h in
+    record { is = λ c. sym (set-out (heldFrom locals 0 count) x (some (valueAt k n)) beyond); canon = λ c all. all; size = refl }
 
 pub local-set-there : {locals locals′ : List ℕ} {x k n : ℕ} → locals′ ≡ setValue locals x k n → {count : ℕ} → x < count → LocalRoom locals count → LocalSet locals locals′ count x k n
 local-set-there {locals} {locals′} {x} {k} {n} e {count} h room =
-    let inside : 2 * x + 1 < length locals = omega (arith, room .room, room .few) in
+    let inside : bitsPlace x < length locals = omega (arith, room .room, room .few) in
     let value : entryIn heldAt locals′ (0 + x) ≡ heldAt k n = rw (e, zero-add x) (held-here locals x k n inside) in
     let others : (i : ℕ) → (i ≡ 0 + x → ⊥) → entryIn heldAt locals′ i ≡ entryIn heldAt locals i = λ i d. rw e (held-beside locals x k n i (λ z. d (omega arith))) in
     record {
@@ -113,4 +114,4 @@ local-set-there {locals} {locals′} {x} {k} {n} e {count} h room =
       size = rw e (put-long locals x k n);
     }
 
-pub ruleset local-exits = (local-absent, local-unset, local-held, local-set-past, local-set-there)
+pub ruleset local-exits = (local-absent, local-unset, local-held, local-set-none, local-set-there)

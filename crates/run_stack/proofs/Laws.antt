@@ -7,10 +7,12 @@ use native.Mathlib.Omega.{arith}
 use native.Mathlib.Numerals.{add-one}
 use lib.ListN.{length, getD, take, drop, take-append-drop}
 use lib.Seq.{length-take-le, take-at}
+use Rattle.scope.specs.Layout.{valueSpan}
 use Rattle.scope.specs.Lists.{joined}
 use Rattle.scope.specs.Machine.{Value, splitTop}
 use Rattle.scope.specs.Memory.{valueWords}
 use Rattle.scope.proofs.Taking.{split-top}
+use Rattle.run_values.specs.Layout.{kindPlace, bitsPlace}
 use Rattle.run_values.specs.Values.{numbered, valuesFrom, AllCanon, entryIn, valueAt}
 use Rattle.run_values.proofs.Numbered.{numbered-more}
 use Rattle.run_values.proofs.Laws.{canon-words, entry-same}
@@ -40,9 +42,9 @@ pile-shift m m′ from to zero same = refl
 pile-shift m m′ from to (suc n) same = ap₂ _∷_ (same n (omega arith)) (pile-shift m m′ from to n (λ k h. same k (omega arith)))
 
 -- memories with the same words up to there say the same operands
-pub pile-same : (m m′ : List ℕ) (base h : ℕ) → ((i : ℕ) → i < 2 * (base + h) → getD m′ i 0 ≡ getD m i 0) → pile m′ base h ≡ pile m base h
+pub pile-same : (m m′ : List ℕ) (base h : ℕ) → ((i : ℕ) → i < valueSpan * (base + h) → getD m′ i 0 ≡ getD m i 0) → pile m′ base h ≡ pile m base h
 pile-same m m′ base h same =
-    pile-shift m m′ base base h (λ k l. entry-same valueAt m m′ (base + k) (same (2 * (base + k)) (omega arith)) (same (2 * (base + k) + 1) (omega arith)))
+    pile-shift m m′ base base h (λ k l. entry-same valueAt m m′ (base + k) (same (kindPlace (base + k)) (omega arith)) (same (bitsPlace (base + k)) (omega arith)))
 
 -- parts
 
@@ -106,5 +108,5 @@ values-above m base left n k =
     ap (λ (vs : List Value). reverse (take k vs)) rest ∙ ap reverse top ∙ pile-reverse m (base + left) k
 
 -- all operands, written: the words themselves
-pub pile-words : {m : List ℕ} {n : ℕ} → AllCanon m n → 2 * n ≤ length m → joined (map valueWords (reverse (pile m 0 n))) ≡ take (2 * n) m
+pub pile-words : {m : List ℕ} {n : ℕ} → AllCanon m n → valueSpan * n ≤ length m → joined (map valueWords (reverse (pile m 0 n))) ≡ take (valueSpan * n) m
 pile-words {m} {n} c room = ap (λ (vs : List Value). joined (map valueWords vs)) (pile-reverse m 0 n) ∙ canon-words c room

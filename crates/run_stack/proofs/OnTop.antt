@@ -7,6 +7,7 @@ use native.Mathlib.Omega.{arith}
 use lib.ListN.{length, getD}
 use mir.Syntax.{w32}
 use mir.Val.{Fits}
+use Rattle.scope.specs.Layout.{valueSpan}
 use Rattle.run_values.specs.Values.{Word64At, valueAt, setValue, entryIn}
 use Rattle.run_values.proofs.Laws.{put-long, put-beside, put-here, put-all-more}
 use Rattle.run_stack.specs.declared.Topmost.{Topmost}
@@ -14,6 +15,7 @@ use Rattle.run_stack.specs.declared.Topmost
 use Rattle.run_stack.specs.Pile.{Room, headOf, TopIs, Pushed}
 use Rattle.run_stack.proofs.Laws.{pile-none, pile-more, pile-some, pile-same}
 use Rattle.scope.proofs.Impossible.{impossible}
+use Rattle.run_values.specs.Layout.{bitsPlace}
 
 -- read
 
@@ -21,7 +23,7 @@ pub top-nothing : (m : List ℕ) (base : ℕ) {h : ℕ} → h ≡ 0 → TopIs m 
 top-nothing m base e =
     record { is = ap headOf (sym (pile-none m base e)); canon = λ k n z. impossible cc }
 
-pub top-there : {m : List ℕ} {base h k n : ℕ} → (h ≡ 0 → ⊥) → Word64At m (2 * (base + (h - 1))) k → Word64At m (2 * (base + (h - 1)) + 1) n → TopIs m base h (Topmost.the-variants.Is k n)
+pub top-there : {m : List ℕ} {base h k n : ℕ} → (h ≡ 0 → ⊥) → Word64At m (valueSpan * (base + (h - 1))) k → Word64At m (valueSpan * (base + (h - 1)) + 1) n → TopIs m base h (Topmost.the-variants.Is k n)
 unfolding entryIn
 top-there {m} {base} {h} {k} {n} d a b =
     record {
@@ -36,8 +38,8 @@ top-there {m} {base} {h} {k} {n} d a b =
 
 pub pushed-one : {m m′ : List ℕ} {base h : ℕ} (k n : ℕ) → m′ ≡ setValue m (base + h) k n → Room m base h 1 → Pushed m m′ base h k n
 pushed-one {m} {m′} {base} {h} k n e room =
-    let here : 2 * (base + h) + 1 < length m = omega (arith, room .room, room .few) in
-    let below : (i : ℕ) → i < 2 * (base + h) → getD m′ i 0 ≡ getD m i 0 = λ i l. rw e (put-beside m (base + h) k n i (λ q. omega arith) (λ q. omega arith)) in
+    let here : bitsPlace (base + h) < length m = omega (arith, room .room, room .few) in
+    let below : (i : ℕ) → i < valueSpan * (base + h) → getD m′ i 0 ≡ getD m i 0 = λ i l. rw e (put-beside m (base + h) k n i (λ q. omega arith) (λ q. omega arith)) in
     let value : entryIn valueAt m′ (base + h) ≡ valueAt k n = rw e (put-here m (base + h) k n here valueAt) in
     let next : base + (h + 1) ≡ base + h + 1 = omega arith in
     record {

@@ -12,6 +12,7 @@ use borrow.Author.Tests.{eqb-true, eqb-false, eq-eqb, ne-eqb}
 use Rattle.scope.specs.Syntax.{ref}
 use Rattle.scope.specs.Machine.{number, defaultOf}
 use Rattle.scope.proofs.Truths.{decided}
+use Rattle.run_values.specs.Layout.{bitsPlace, noValue, nullKind}
 use Rattle.type_table.specs.View.{numberAt, valAtCode, heapAtCode, codesAt}
 use Rattle.type_table.proofs.Codes.{val-number, val-ref}
 use Rattle.lent_u32.specs.Scratch.{Word32At}
@@ -34,7 +35,7 @@ start-number {code} h =
     }
 
 module _ {code : ℕ} (h : 4 ≤ code) where
-  pub start-null : code % 2 ≡ 1 → StartKind code 5
+  pub start-null : code % 2 ≡ 1 → StartKind code nullKind
   start-null e =
       let val : valAtCode code ≡ ref true (heapAtCode ((code - 4) / 2)) = rw (← eq-eqb (code % 2) 1 e) (val-ref h) in
       record {
@@ -42,7 +43,7 @@ module _ {code : ℕ} (h : 4 ≤ code) where
         canon = held-canon-some canon-null;
       }
 
-  pub start-none : (code % 2 ≡ 1 → ⊥) → StartKind code 0
+  pub start-none : (code % 2 ≡ 1 → ⊥) → StartKind code noValue
   start-none d =
       let val : valAtCode code ≡ ref false (heapAtCode ((code - 4) / 2)) = rw (← ne-eqb (code % 2) 1 d) (val-ref h) in
       record { is = held-none 0 refl ∙ ap defaultOf (sym val); canon = held-canon-none }
@@ -57,7 +58,7 @@ starts-are work locals at (suc n) same =
 
 pub record FirstStarted (work locals₀ locals : List ℕ) (count i : ℕ) : Type 0 where
   pub room : LocalRoom locals₀ count
-  pub within : i ≤ count
+  pub most : i ≤ count
   pub size : length locals ≡ length locals₀
   pub held : (j : ℕ) → j < i → entryIn heldAt locals j ≡ defaultOf (valAtWord (getD work j 0))
   pub canon : AllHeldCanon locals i
@@ -66,7 +67,7 @@ pub started-first : (work : List ℕ) {locals : List ℕ} {count : ℕ} → Loca
 started-first work room =
     record {
       room = room;
-      within = omega arith;
+      most = omega arith;
       size = refl;
       held = λ j h. absurd (omega arith);
       canon = record { each = λ j h. absurd (omega arith) };
@@ -89,13 +90,13 @@ module _ {work locals₀ locals : List ℕ} {count i : ℕ} (f : FirstStarted wo
   started-turn h {c} w {k} a {locals′} e =
       record {
         room = f .room;
-        within = omega arith;
+        most = omega arith;
         size = rw e (put-long locals i k 0) ∙ f .size;
         held = λ j l. each j l (decided (eqb j i));
         canon = rw e (record { each = λ j l. held-canon-put locals i k 0 inside j (λ d. f .canon .each j (omega (arith, d))) (a .canon) });
       }
     where
-      inside : 2 * i + 1 < length locals
+      inside : bitsPlace i < length locals
       inside = omega (arith, f .size, f .room .room, f .room .few)
 
       each : (j : ℕ) → j < i + 1 → (eqb j i ≡ true) ⊎ (eqb j i ≡ false) → entryIn heldAt locals′ j ≡ defaultOf (valAtWord (getD work j 0))

@@ -1,11 +1,14 @@
 -- What the words of a run's operands and locals say (scope's Machine.antt), and what reading, putting and moving them leaves.
--- Value j lies at words 2 j and 2 j + 1: operands the bottom first, at most 512 of them; locals by number, at most 256.
+-- Value j lies at `kindPlace j` and beside it: operands the bottom first, locals by number.
 use Prim.Native.Nat.{ℕ, zero, suc, _+_, _*_, _≤_, _<_}
 use mathlib.Core.Path.{_≡_}
 use mathlib.Core.Option.{Option, none, some}
 use mathlib.Core.List.{List, [], _∷_, map}
 use lib.ListN.{length, getD, getElem?, set}
+use Rattle.scope.specs.Layout.{valueSpan, localsSize, operandsSize}
+use Rattle.scope.specs.Sizes.{mostLocals, mostOperands}
 use Rattle.scope.specs.Machine.{Value, defaultOf}
+use Rattle.run_values.specs.Layout.{kindPlace, bitsPlace}
 use Rattle.type_table.specs.View.{valAtCode, codesAt}
 use Rattle.run_values.specs.Values.{valueAt, heldAt, heldFrom, setValue, Canon, HeldCanon, AllCanon, AllHeldCanon, entryIn}
 use Rattle.body_state.specs.Standing.{valAtWord}
@@ -23,8 +26,8 @@ pile m base (suc h) = entryIn valueAt m (base + h) ∷ pile m base h
 
 -- n more operands are within the sizes
 pub record Room (m : List ℕ) (base h n : ℕ) : Type 0 where
-  pub room : 1_024 ≤ length m
-  pub few : base + h + n ≤ 512
+  pub room : operandsSize ≤ length m
+  pub few : base + h + n ≤ mostOperands
 
 -- the operand on top
 
@@ -43,23 +46,23 @@ pub record TopIs (m : List ℕ) (base h : ℕ) (r : Topmost) : Type 0 where
 -- The value stands on top of the others, and no operand below is changed.
 pub record Pushed (m m′ : List ℕ) (base h k n : ℕ) : Type 0 where
   pub top : pile m′ base (h + 1) ≡ valueAt k n ∷ pile m base h
-  pub below : (i : ℕ) → i < 2 * (base + h) → getD m′ i 0 ≡ getD m i 0
+  pub below : (i : ℕ) → i < valueSpan * (base + h) → getD m′ i 0 ≡ getD m i 0
   pub canon : Canon k n → AllCanon m (base + h) → AllCanon m′ (base + (h + 1))
   pub size : length m′ ≡ length m
 
 -- memory in which value `to` is what value `from` was
 unfoldable pub copied : List ℕ → ℕ → ℕ → List ℕ
-copied m from to = setValue m to (getD m (2 * from) 0) (getD m (2 * from + 1) 0)
+copied m from to = setValue m to (getD m (kindPlace from) 0) (getD m (bitsPlace from) 0)
 
 -- n values from `from` on, within the sizes, go down to `to`
 pub record Lower (m : List ℕ) (from to n : ℕ) : Type 0 where
-  pub room : 1_024 ≤ length m
-  pub few : from + n ≤ 512
+  pub room : operandsSize ≤ length m
+  pub few : from + n ≤ mostOperands
   pub down : to ≤ from
 
 pub record Moved (m m′ : List ℕ) (from to n : ℕ) : Type 0 where
   pub top : pile m′ to n ≡ pile m from n
-  pub below : (i : ℕ) → i < 2 * to → getD m′ i 0 ≡ getD m i 0
+  pub below : (i : ℕ) → i < valueSpan * to → getD m′ i 0 ≡ getD m i 0
   pub canon : AllCanon m (from + n) → AllCanon m′ (to + n)
   pub size : length m′ ≡ length m
 
@@ -67,8 +70,8 @@ pub record Moved (m m′ : List ℕ) (from to n : ℕ) : Type 0 where
 
 -- so many locals are within the sizes
 pub record LocalRoom (locals : List ℕ) (count : ℕ) : Type 0 where
-  pub room : 512 ≤ length locals
-  pub few : count ≤ 256
+  pub room : localsSize ≤ length locals
+  pub few : count ≤ mostLocals
 
 -- the local, where there is one, and what it holds
 abbrev pub localOf : HeldLocal → Option (Option Value)

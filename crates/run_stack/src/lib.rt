@@ -1,13 +1,10 @@
 // The operands and locals of a trial run, in lent memory of 64-bit words: what is on top, putting a value there, moving
 // values down, and what a local holds. Each answer is what the words say (specs/Pile.antt); a value is given by its kind
 // and its bits (docs/LAYOUT.md).
+use run_values::layout;
+use scope::sizes;
 ghost use mathlib.Core.Path.{_≡_};
 ghost use Rattle.run_stack.specs.Pile.{Room, TopIs, Pushed, copied, Lower, Moved, LocalRoom, LocalIs, LocalSet, StartKind, Started};
-
-// The kinds of null and of no value; those of numbers begin at 1.
-const NULL: u64 = 5;
-
-const NO_VALUE: u64 = 0;
 
 // The codes of references begin here, after those of the four number types; the odd ones may be null.
 const REFERENCES: u64 = 4;
@@ -26,7 +23,7 @@ pub fn top(m: &[u64], base: u32, h: u32) -> Topmost
         return Topmost::Nothing;
     }
     let last = h - 1;
-    let at = 2 * (base as u64 + last as u64);
+    let at = sizes::VALUE * (base as u64 + last as u64);
     let kind = run_values::word64(m, at);
     let bits = run_values::word64(m, at + 1);
     Topmost::Is(kind, bits)
@@ -73,7 +70,7 @@ pub fn held_local(locals: &[u64], count: u16, x: u64) -> HeldLocal
 {
     if x < count as u64 {
         let kind = run_values::kind_of(locals, x as u32);
-        if kind == NO_VALUE {
+        if kind == layout::NO_VALUE {
             return HeldLocal::Unset;
         }
         let bits = run_values::bits_of(locals, x as u32);
@@ -97,12 +94,12 @@ fn start_kind(code: u64) -> u64
     ensures { λ r. ⌜ StartKind code r ⌝ }
 {
     if code < REFERENCES {
-        return code + 1;
+        return code + layout::I32;
     }
     if code % 2 == 1 {
-        return NULL;
+        return layout::NULL;
     }
-    NO_VALUE
+    layout::NO_VALUE
 }
 
 // What the locals hold at the start. The code of local i's type stands in the scratch at i.

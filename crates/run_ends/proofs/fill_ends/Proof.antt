@@ -1,4 +1,4 @@
--- `ends::fill_ends` meets its contract: each turn takes one instruction from what is still to be read.
+-- `run_ends::fill_ends` meets its contract: each turn takes one instruction from what is still to be read.
 use borrow.Author.Needs.{needs}
 use Rattle.run_ends.proofs.Filling.{Going, fill-exits}
 use Rattle.run_ends.proofs.fill_ends.Statement.{statement}

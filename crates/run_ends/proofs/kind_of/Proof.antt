@@ -1,4 +1,4 @@
--- `ends::kind_of` meets its contract. The last arm is told the codes that it is for.
+-- `run_ends::kind_of` meets its contract. The last arm is told the codes that it is for.
 use borrow.Author.Needs.{needs}
 use Rattle.run_ends.proofs.Notes.{kind-exits}
 use Rattle.run_ends.proofs.kind_of.Statement.{statement}

@@ -1,4 +1,4 @@
--- `ends::none_at` meets its contract.
+-- `run_ends::none_at` meets its contract.
 use borrow.Author.Needs.{needs}
 use Rattle.run_ends.proofs.Notes.{none-exits}
 use Rattle.run_ends.proofs.none_at.Statement.{statement}

@@ -1,4 +1,4 @@
--- `ends::note` meets its contract.
+-- `run_ends::note` meets its contract.
 use borrow.Author.Needs.{needs}
 use Rattle.run_ends.proofs.Notes.{note-exits}
 use Rattle.run_ends.proofs.note.Statement.{statement}

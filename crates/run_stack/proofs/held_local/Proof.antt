@@ -1,4 +1,4 @@
--- `pile::held_local` meets its contract.
+-- `run_stack::held_local` meets its contract.
 use borrow.Author.Needs.{needs}
 use Rattle.run_stack.proofs.Held.{local-exits}
 use Rattle.run_stack.proofs.held_local.Statement.{statement}

@@ -1,4 +1,4 @@
--- `pile::move_down` meets its contract: each turn one more value is moved.
+-- `run_stack::move_down` meets its contract: each turn one more value is moved.
 use Prim.Native.Nat.{_-_}
 use borrow.Author.Needs.{needs}
 use Rattle.run_stack.proofs.GoingDown.{Down, down-exits}

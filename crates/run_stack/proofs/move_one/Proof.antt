@@ -1,4 +1,4 @@
--- `pile::move_one` meets its contract.
+-- `run_stack::move_one` meets its contract.
 use borrow.Author.Needs.{needs}
 use Rattle.run_stack.proofs.GoingDown.{down-exits}
 use Rattle.run_stack.proofs.move_one.Statement.{statement}

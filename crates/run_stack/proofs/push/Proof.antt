@@ -1,4 +1,4 @@
--- `pile::push` meets its contract.
+-- `run_stack::push` meets its contract.
 use borrow.Author.Needs.{needs}
 use Rattle.run_stack.proofs.OnTop.{top-exits}
 use Rattle.run_stack.proofs.push.Statement.{statement}

@@ -1,4 +1,4 @@
--- `pile::set_local` meets its contract.
+-- `run_stack::set_local` meets its contract.
 use borrow.Author.Needs.{needs}
 use Rattle.run_stack.proofs.Held.{local-exits}
 use Rattle.run_stack.proofs.set_local.Statement.{statement}

@@ -1,4 +1,4 @@
--- `pile::start_kind` meets its contract.
+-- `run_stack::start_kind` meets its contract.
 use borrow.Author.Needs.{needs}
 use Rattle.run_stack.proofs.Starts.{start-exits}
 use Rattle.run_stack.proofs.start_kind.Statement.{statement}

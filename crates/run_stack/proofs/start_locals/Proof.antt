@@ -1,4 +1,4 @@
--- `pile::start_locals` meets its contract: each turn one more local has its start.
+-- `run_stack::start_locals` meets its contract: each turn one more local has its start.
 use Prim.Native.Nat.{_-_}
 use borrow.Author.Needs.{needs}
 use Rattle.run_stack.proofs.Starts.{FirstStarted, start-exits}

@@ -1,4 +1,4 @@
--- `pile::top` meets its contract.
+-- `run_stack::top` meets its contract.
 use borrow.Author.Needs.{needs}
 use Rattle.run_stack.proofs.OnTop.{top-exits}
 use Rattle.run_stack.proofs.top.Statement.{statement}
