@@ -1,7 +1,7 @@
 // The state of a run in lent memory, as docs/LAYOUT.md has it: zero before the run, and after it the counts, and zero beyond
 // what they count.
-use run_state::BLOCK;
 use run_state::Stage;
+use scope::sizes::BLOCK;
 ghost use mathlib.Core.Path.{_≡_};
 ghost use Prim.Native.Nat.{_+_};
 ghost use lib.ListN.{set};

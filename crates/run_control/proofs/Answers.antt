@@ -7,13 +7,13 @@ use Rattle.scope.proofs.Impossible.{contradiction, impossible}
 use Rattle.run_state.specs.declared.Stage.{Stage}
 use Rattle.run_state.specs.declared.Stepped.{Stepped}
 use Rattle.run_state.specs.declared.Stepped
-use Rattle.run_state.specs.Machines.{Framed, Closed}
+use Rattle.run_state.specs.Machines.{Framed, Over}
 use Rattle.run_state.specs.Moved.{Astray, is-stuck}
 use Rattle.run_state.specs.Controlled.{Piled, controlled, SameHeap, ControlIs}
 
 -- a later stage of the same heap
-abbrev pub after : Stage → ℕ → ℕ → ℕ → ℕ → Stage
-after st place base height depth =
+abbrev pub restaged : Stage → ℕ → ℕ → ℕ → ℕ → Stage
+restaged st place base height depth =
     record { place = place; objects = st .objects; cells = st .cells; base = base; height = height; depth = depth }
 
 module _ {s ends operands blocks : List ℕ} {st : Stage} {m : Machine} {want : Outcome} where
@@ -30,7 +30,7 @@ module _ {s ends operands blocks : List ℕ} {st : Stage} {m : Machine} {want : 
         framed = λ l e. impossible cc;
         heap = λ l e. impossible cc;
         results = λ l e. impossible cc;
-        closed = λ l e. impossible cc;
+        over = λ l e. impossible cc;
         lastHeap = λ l e. impossible cc;
         traps-not = λ n e. contradiction cc;
       }
@@ -49,15 +49,15 @@ module _ {s ends operands blocks : List ℕ} {st : Stage} {m : Machine} {want : 
         framed = λ l e. let same : later ≡ l = cc in rw (← same) framed;
         heap = λ l e. let same : later ≡ l = cc in rw (← same) heap;
         results = λ l e. impossible cc;
-        closed = λ l e. impossible cc;
+        over = λ l e. impossible cc;
         lastHeap = λ l e. impossible cc;
         traps-not = λ n e. contradiction cc;
       }
 
   pub control-ends :
-      (later : Stage) → controlled s operands blocks m (Stepped.the-variants.Ends later) ≡ want → Piled operands later → Closed s later → SameHeap st later
+      (later : Stage) → controlled s operands blocks m (Stepped.the-variants.Ends later) ≡ want → Piled operands later → Over s later → SameHeap st later
       → ControlIs s ends operands blocks st m want (Stepped.the-variants.Ends later)
-  control-ends later is piled closed heap =
+  control-ends later is piled over heap =
       record {
         is = λ n. is;
         astray = λ e. impossible cc;
@@ -65,7 +65,7 @@ module _ {s ends operands blocks : List ℕ} {st : Stage} {m : Machine} {want : 
         framed = λ l e. impossible cc;
         heap = λ l e. impossible cc;
         results = λ l e. let same : later ≡ l = cc in rw (← same) piled;
-        closed = λ l e. let same : later ≡ l = cc in rw (← same) closed;
+        over = λ l e. let same : later ≡ l = cc in rw (← same) over;
         lastHeap = λ l e. let same : later ≡ l = cc in rw (← same) heap;
         traps-not = λ n e. contradiction cc;
       }

@@ -10,6 +10,7 @@ use mir.Val.{Fits}
 use Rattle.scope.specs.Instructions.{end}
 use Rattle.scope.specs.Bodies.{Code}
 use Rattle.scope.specs.Machine.{Value, Block, Machine, Program, goes, ends, withControl, finish, close, doInstr}
+use Rattle.run_values.specs.Layout.{kindWord, placeWord, belowWord}
 use Rattle.run_stack.specs.Pile.{pile, Lower, Moved}
 use Rattle.run_stack.proofs.Laws.{pile-join, split-some, split-none}
 use Rattle.run_ends.proofs.Codes.{code-none}
@@ -20,7 +21,7 @@ use Rattle.run_state.specs.Machines.{blockWord, lower, blockOf, blocksAt, atHei
 use Rattle.run_state.specs.Controlled.{Piled, controlled}
 use Rattle.run_state.proofs.Open.{either-block, lower-more, charted-next, nested-end}
 use Rattle.run_control.specs.Control.{Finishes, Closable, Closes}
-use Rattle.run_control.proofs.Answers.{after, control-for, control-stuck, control-goes, control-ends}
+use Rattle.run_control.proofs.Answers.{restaged, control-for, control-stuck, control-goes, control-ends}
 
 -- the run is done
 
@@ -37,7 +38,7 @@ module _ {operands : List ℕ} (st : Stage) {left results : ℕ} (piled : Piled 
 
   pub finish-done :
       {operands′ : List ℕ} {bytes : ℕ} → Moved operands operands′ (st .base + (left - results)) 0 results
-      → Finishes operands operands′ st left results bytes (Stepped.the-variants.Ends (after st bytes 0 results 0))
+      → Finishes operands operands′ st left results bytes (Stepped.the-variants.Ends (restaged st bytes 0 results 0))
   unfolding controlled blocksAt
   finish-done {operands′} {bytes} d =
       let all : st .base + (left - results) + results ≡ st .base + left = omega arith in
@@ -84,24 +85,24 @@ module _ {operands blocks : List ℕ} {st : Stage} (c : Closable operands blocks
 
   pub close-goes :
       (next results bytes : ℕ)
-      → Closes operands operands blocks st next results bytes (Stepped.the-variants.Goes (after st next lowest (st .base - lowest + st .height) (st .depth - 1)))
+      → Closes operands operands blocks st next results bytes (Stepped.the-variants.Goes (restaged st next lowest (st .base - lowest + st .height) (st .depth - 1)))
   unfolding doInstr blocksAt controlled
   close-goes next results bytes =
       record {
         is = λ s ends p m f read r b k.
             let one : st .depth ≡ suc (st .depth - 1) = omega (arith, n) in
             let low : lowest ≤ st .base = omega (arith, c .low) in
-            let base : st .base ≡ blockWord blocks (st .depth - 1) 2 = f .base ∙ ap (lower blocks) one ∙ lower-more blocks (st .depth - 1) in
+            let base : st .base ≡ blockWord blocks (st .depth - 1) belowWord = f .base ∙ ap (lower blocks) one ∙ lower-more blocks (st .depth - 1) in
             let all : lowest + (st .base - lowest + st .height) ≡ st .base + st .height = omega arith in
             let from : lowest + (st .base - lowest) ≡ st .base = omega arith in
-            let opened : m .blocks ≡ blockOf s (blockWord blocks (st .depth - 1) 0) (blockWord blocks (st .depth - 1) 1) (pile operands lowest (st .base - lowest)) ∷ blocksAt s blocks operands (st .depth - 1) =
+            let opened : m .blocks ≡ blockOf s (blockWord blocks (st .depth - 1) kindWord) (blockWord blocks (st .depth - 1) placeWord) (pile operands lowest (st .base - lowest)) ∷ blocksAt s blocks operands (st .depth - 1) =
             k .opened ∙ ap (blocksAt s blocks operands) one ∙ (rw (l, base) refl) in
             let values : m .operands ++ pile operands lowest (st .base - lowest) ≡ pile operands lowest (st .base - lowest + st .height) =
             ap (λ (vs : List Value). vs ++ pile operands lowest (st .base - lowest)) (k .values ∙ ap (λ (x : ℕ). pile operands x (st .height)) (sym from)) ∙ pile-join operands lowest (st .base - lowest) (st .height) in
             control-goes _
             (sym
             (ap (close p m) opened
-            ∙ close-block s p m (blockWord blocks (st .depth - 1) 0) (blockWord blocks (st .depth - 1) 1) (pile operands lowest (st .base - lowest)) (blocksAt s blocks operands (st .depth - 1))
+            ∙ close-block s p m (blockWord blocks (st .depth - 1) kindWord) (blockWord blocks (st .depth - 1) placeWord) (pile operands lowest (st .base - lowest)) (blocksAt s blocks operands (st .depth - 1))
             ∙ ap₂ (λ (vs : List Value) (code : Code). goes (withControl m vs (blocksAt s blocks operands (st .depth - 1)) code)) values (k .code)))
             (record { room = c .piled .room; canon = rw all (c .piled .canon); high = rw all (c .piled .high) })
             (record {

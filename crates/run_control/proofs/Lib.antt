@@ -1,4 +1,7 @@
 pub mod Answers
 pub mod Opening
 pub mod Ending
-pub mod Leaving
+pub mod Jumping
+pub mod Outward
+pub mod Labels
+pub mod Branching

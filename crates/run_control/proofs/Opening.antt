@@ -6,11 +6,14 @@ use native.Mathlib.Omega.{arith}
 use lib.ListN.{length, getD, set}
 use mir.Syntax.{w32}
 use mir.Val.{Fits}
+use Rattle.scope.specs.Layout.{blockSpan, blocksSize}
+use Rattle.scope.specs.Sizes.{mostBlocks}
 use Rattle.scope.specs.Reading.{got}
 use Rattle.scope.specs.Instructions.{Instr, block, instrAt}
 use Rattle.scope.specs.Machine.{Value, Machine, Program, goes, withControl, Block, doInstr}
 use Rattle.scope.proofs.Forward.{never-back}
 use Rattle.scope.proofs.ForwardBodies.{instr-takes}
+use Rattle.run_values.specs.Layout.{kindWord, placeWord, belowWord}
 use Rattle.lent_u16.proofs.Stores.{Stored, stored}
 use Rattle.run_stack.specs.Pile.{pile}
 use Rattle.run_ends.specs.Matching.{codeAt}
@@ -22,19 +25,19 @@ use Rattle.run_state.specs.Moved.{Astray, too-deep}
 use Rattle.run_state.specs.Controlled.{Controls, controlled}
 use Rattle.run_state.proofs.Open.{blocks-length, blocks-same, lower-same, lower-more, charted-next, opener-of, nested-same, nested-first, nested-opener}
 use Rattle.run_control.specs.Control.{OpensAs, as-block, as-loop, Low, Opens}
-use Rattle.run_control.proofs.Answers.{after, control-astray, control-goes}
+use Rattle.run_control.proofs.Answers.{restaged, control-astray, control-goes}
 
 -- too many are open
 
-one-more : {m : Machine} {b : Block} {vs : List Value} → 63 ≤ length (m .blocks) → Astray m (goes (withControl m vs (b ∷ m .blocks) (m .code)))
-one-more {m} {b} h = let many : 63 < length (b ∷ m .blocks) = omega arith in too-deep many
+one-more : {m : Machine} {b : Block} {vs : List Value} → mostBlocks ≤ length (m .blocks) → Astray m (goes (withControl m vs (b ∷ m .blocks) (m .code)))
+one-more {m} {b} h = let many : mostBlocks < length (b ∷ m .blocks) = omega arith in too-deep many
 
-opens-one : (p : Program) (m : Machine) (at : ℕ) {kind : ℕ} {i : Instr} → OpensAs kind i → 63 ≤ length (m .blocks) → Astray m (doInstr p m at i)
+opens-one : (p : Program) (m : Machine) (at : ℕ) {kind : ℕ} {i : Instr} → OpensAs kind i → mostBlocks ≤ length (m .blocks) → Astray m (doInstr p m at i)
 unfolding doInstr
 opens-one p m at as-block h = one-more h
 opens-one p m at as-loop h = one-more h
 
-pub open-deep : {st : Stage} (blocks : List ℕ) {next kind : ℕ} → 63 ≤ st .depth → Opens blocks blocks st next kind Stepped.the-variants.Astray
+pub open-deep : {st : Stage} (blocks : List ℕ) {next kind : ℕ} → mostBlocks ≤ st .depth → Opens blocks blocks st next kind Stepped.the-variants.Astray
 open-deep {st} blocks h =
     record {
       is = λ s ends operands i p m f piled read o c.
@@ -65,22 +68,22 @@ block-of s p m at (as-loop {rs}) e c = rw (e, c)
 
 -- the words of block d, and those of the blocks below
 record Written (blocks blocks′ : List ℕ) (d kind at below : ℕ) : Type 0 where
-  kind-word : blockWord blocks′ d 0 ≡ kind
-  place-word : blockWord blocks′ d 1 ≡ at
-  below-word : blockWord blocks′ d 2 ≡ below
-  others : (i : ℕ) → i < 3 * d → getD blocks′ i 0 ≡ getD blocks i 0
+  kind-word : blockWord blocks′ d kindWord ≡ kind
+  place-word : blockWord blocks′ d placeWord ≡ at
+  below-word : blockWord blocks′ d belowWord ≡ below
+  others : (i : ℕ) → i < blockSpan * d → getD blocks′ i 0 ≡ getD blocks i 0
   size : length blocks′ ≡ length blocks
 
-module _ {blocks blocks₁ blocks₂ blocks₃ : List ℕ} {d kind at below : ℕ} (first : blocks₁ ≡ set blocks (3 * d) (kind % 65_536)) (second : blocks₂ ≡ set blocks₁ (3 * d + 1) (at % 65_536)) (third : blocks₃ ≡ set blocks₂ (3 * d + 2) (below % 65_536)) where
-  written : 189 ≤ length blocks → d < 63 → kind < 65_536 → at < 65_536 → below < 65_536 → Written blocks blocks₃ d kind at below
+module _ {blocks blocks₁ blocks₂ blocks₃ : List ℕ} {d kind at below : ℕ} (first : blocks₁ ≡ set blocks (blockSpan * d) (kind % 65_536)) (second : blocks₂ ≡ set blocks₁ (blockSpan * d + placeWord) (at % 65_536)) (third : blocks₃ ≡ set blocks₂ (blockSpan * d + belowWord) (below % 65_536)) where
+  written : blocksSize ≤ length blocks → d < mostBlocks → kind < 65_536 → at < 65_536 → below < 65_536 → Written blocks blocks₃ d kind at below
   written room deep k a b =
-      let one : Stored blocks blocks₁ (3 * d) kind = stored 65_536 first k (omega arith) in
-      let two : Stored blocks₁ blocks₂ (3 * d + 1) at = stored 65_536 second a (omega (arith, one .size)) in
-      let three : Stored blocks₂ blocks₃ (3 * d + 2) below = stored 65_536 third b (omega (arith, one .size, two .size)) in
-      let here : 3 * d + 0 ≡ 3 * d = omega arith in
+      let one : Stored blocks blocks₁ (blockSpan * d) kind = stored 65_536 first k (omega arith) in
+      let two : Stored blocks₁ blocks₂ (blockSpan * d + placeWord) at = stored 65_536 second a (omega (arith, one .size)) in
+      let three : Stored blocks₂ blocks₃ (blockSpan * d + belowWord) below = stored 65_536 third b (omega (arith, one .size, two .size)) in
+      let here : blockSpan * d + kindWord ≡ blockSpan * d = omega arith in
       record {
-        kind-word = rw here (three .others (3 * d) (λ e. omega arith) ∙ two .others (3 * d) (λ e. omega arith) ∙ one .here);
-        place-word = three .others (3 * d + 1) (λ e. omega arith) ∙ two .here;
+        kind-word = rw here (three .others (blockSpan * d) (λ e. omega arith) ∙ two .others (blockSpan * d) (λ e. omega arith) ∙ one .here);
+        place-word = three .others (blockSpan * d + placeWord) (λ e. omega arith) ∙ two .here;
         below-word = three .here;
         others = λ i h. three .others i (λ e. omega arith) ∙ two .others i (λ e. omega arith) ∙ one .others i (λ e. omega arith);
         size = three .size ∙ two .size ∙ one .size;
@@ -88,20 +91,20 @@ module _ {blocks blocks₁ blocks₂ blocks₃ : List ℕ} {d kind at below : �
 
 module _ (s ends operands : List ℕ) {blocks blocks′ : List ℕ} (st : Stage) {kind next : ℕ} {i : Instr} (w : Written blocks blocks′ (st .depth) kind (st .place) (st .base + st .height)) (f : Framed s ends blocks st) (read : instrAt s (st .place) ≡ got i next) (o : OpensAs kind i) where
   abbrev later : Stage
-  later = after st next (st .base + st .height) 0 (st .depth + 1)
+  later = restaged st next (st .base + st .height) 0 (st .depth + 1)
 
   low : lower blocks′ (st .depth) ≡ st .base
   low = lower-same blocks blocks′ (st .depth) (w .others) ∙ sym (f .base)
 
-  now-framed : st .depth < 63 → Framed s ends blocks′ later
+  now-framed : st .depth < mostBlocks → Framed s ends blocks′ later
   now-framed deep =
       let more : st .depth + 1 ≡ suc (st .depth) = omega arith in
       let opened : Opened s kind (st .place) next = opened-as o read in
       let around : Nested s ends blocks′ (st .depth) (codeAt s (getD ends (st .place) 0)) = nested-same (st .depth) (w .others) (nested-opener (f .charted) (opener-of opened) (f .nested)) in
-      let charted′ : Charted s ends (blockWord blocks′ (st .depth) 1) = rw (w .place-word) (f .charted) in
-      let opened′ : Opened s (blockWord blocks′ (st .depth) 0) (blockWord blocks′ (st .depth) 1) next = rw (w .kind-word, w .place-word) opened in
-      let low′ : lower blocks′ (st .depth) ≤ blockWord blocks′ (st .depth) 2 = rw (low, w .below-word) (omega arith) in
-      let around′ : Nested s ends blocks′ (st .depth) (codeAt s (getD ends (blockWord blocks′ (st .depth) 1) 0)) = rw (w .place-word) around in
+      let charted′ : Charted s ends (blockWord blocks′ (st .depth) placeWord) = rw (w .place-word) (f .charted) in
+      let opened′ : Opened s (blockWord blocks′ (st .depth) kindWord) (blockWord blocks′ (st .depth) placeWord) next = rw (w .kind-word, w .place-word) opened in
+      let low′ : lower blocks′ (st .depth) ≤ blockWord blocks′ (st .depth) belowWord = rw (low, w .below-word) (omega arith) in
+      let around′ : Nested s ends blocks′ (st .depth) (codeAt s (getD ends (blockWord blocks′ (st .depth) placeWord) 0)) = rw (w .place-word) around in
       record {
         short = f .short;
         room = omega (arith, f .room, w .size);
@@ -124,11 +127,11 @@ module _ (s ends operands : List ℕ) {blocks blocks′ : List ℕ} (st : Stage)
       rw (new-blocks, ← c .values, ← c .opened) (block-of s p m (st .place) o read (c .code))
 
 pub open-goes :
-    {st : Stage} → Low st → st .depth < 63 → {blocks blocks₁ blocks₂ blocks₃ : List ℕ} {next kind : ℕ}
-    → blocks₁ ≡ set blocks (3 * st .depth) (kind % 65_536)
-    → blocks₂ ≡ set blocks₁ (3 * st .depth + 1) (st .place % 65_536)
-    → blocks₃ ≡ set blocks₂ (3 * st .depth + 2) ((st .base + st .height) % 65_536)
-    → Opens blocks blocks₃ st next kind (Stepped.the-variants.Goes (after st next (st .base + st .height) 0 (st .depth + 1)))
+    {st : Stage} → Low st → st .depth < mostBlocks → {blocks blocks₁ blocks₂ blocks₃ : List ℕ} {next kind : ℕ}
+    → blocks₁ ≡ set blocks (blockSpan * st .depth) (kind % 65_536)
+    → blocks₂ ≡ set blocks₁ (blockSpan * st .depth + placeWord) (st .place % 65_536)
+    → blocks₃ ≡ set blocks₂ (blockSpan * st .depth + belowWord) ((st .base + st .height) % 65_536)
+    → Opens blocks blocks₃ st next kind (Stepped.the-variants.Goes (restaged st next (st .base + st .height) 0 (st .depth + 1)))
 open-goes {st} low deep {blocks} {blocks₁} {blocks₂} {blocks₃} {next} {kind} e₁ e₂ e₃ =
     record {
       is = λ s ends operands i p m f piled read o c.

@@ -2,18 +2,23 @@
 // without a search: the open block's words say where its instruction stands, and the matching end was kept for that place.
 use body_immediates::Instruction;
 use body_immediates::InstructionRead;
-use run_state::BELOW;
-use run_state::BLOCK;
-use run_state::MOST_BLOCKS;
-use run_state::PLACE;
 use run_state::Stage;
 use run_state::Stepped;
+use run_values::layout;
+use scope::sizes;
 ghost use mathlib.Core.Path.{_≡_};
 ghost use lib.ListN.{length};
 ghost use Rattle.body_decoded.specs.Decoded.{blockResults};
 ghost use Rattle.run_state.specs.Machines.{atHeight};
 ghost use Rattle.run_state.specs.Controlled.{Piled};
-ghost use Rattle.run_control.specs.Control.{Low, Opens, Finishes, Closable, Closes, Branchable, Leavable, LeavesTo, Descends, LeavesBlock, Branches};
+ghost use Rattle.run_control.specs.Control.{Low, Opens, Finishes, Closable, Closes, Branchable, BranchableTo, BranchesTo, Descends, BranchesOut, Branches};
+
+// The sizes and offsets as this crate needs them: a number of blocks has 32 bits, a place in memory 64.
+const MOST_BLOCKS: u32 = sizes::MOST_BLOCKS as u32;
+
+const PLACE: u64 = layout::PLACE as u64;
+
+const BELOW: u64 = layout::BELOW as u64;
 
 // The instruction at the stage's place opens a block of that kind, and its code begins at `next`.
 pub fn open(blocks: &mut [u16], stage: Stage, next: usize, kind: u16) -> Stepped
@@ -25,13 +30,13 @@ pub fn open(blocks: &mut [u16], stage: Stage, next: usize, kind: u16) -> Stepped
     if MOST_BLOCKS <= depth {
         return Stepped::Astray;
     }
-    let word = BLOCK * depth as u64;
+    let word = sizes::BLOCK * depth as u64;
     let base = stage.base;
     let height = stage.height;
     let below = base as u64 + height as u64;
     lent_u16::put(blocks, word, kind as u64);
-    lent_u16::put(blocks, word + 1, at as u64);
-    lent_u16::put(blocks, word + 2, below);
+    lent_u16::put(blocks, word + PLACE, at as u64);
+    lent_u16::put(blocks, word + BELOW, below);
     Stepped::Goes(Stage {
         place: next,
         objects: stage.objects,
@@ -100,7 +105,7 @@ fn takes_of(w: u64) -> u32
 }
 
 // Out of open block d, which is no loop: its values go down onto the operands below it, and the code goes on past its end.
-fn leave_block(
+fn branch_out(
     ends: &[u16],
     operands: &mut [u64],
     blocks: &[u16],
@@ -110,13 +115,16 @@ fn leave_block(
     takes: u32,
 ) -> Stepped
     requires { ⌜ Descends (now operands) (now blocks) stage left d ⌝ }
-    ensures { λ r. ⌜ LeavesBlock (now (ends .entry)) (now (operands .entry)) (now (operands .exit)) (now (blocks .entry)) stage left d takes r ⌝ }
+    ensures { λ r.
+        let before = now (operands .entry) in
+        let after = now (operands .exit) in
+        ⌜ BranchesOut (now (ends .entry)) before after (now (blocks .entry)) stage left d takes r ⌝ }
 {
     if left < takes {
         return Stepped::Astray;
     }
-    let place = run_state::block_word(blocks, d, PLACE);
-    let below = run_state::block_word(blocks, d, BELOW);
+    let place = run_state::block_word(blocks, d, layout::PLACE);
+    let below = run_state::block_word(blocks, d, layout::BELOW);
     let lower = run_state::lower_of(blocks, d);
     let to = lent_u16::word(ends, place);
     let base = stage.base;
@@ -133,7 +141,7 @@ fn leave_block(
 }
 
 // To the label of open block d: out of a block, or to the instruction after its `loop`, the loop kept open.
-fn leave(
+fn branch_to(
     s: &[u8],
     ends: &[u16],
     operands: &mut [u64],
@@ -142,16 +150,19 @@ fn leave(
     left: u32,
     d: u32,
 ) -> Stepped
-    requires { ⌜ Leavable (now s) (now ends) (now operands) (now blocks) stage left d ⌝ }
-    ensures { λ r. ⌜ LeavesTo (now (s .entry)) (now (ends .entry)) (now (operands .entry)) (now (operands .exit)) (now (blocks .entry)) stage left d r ⌝ }
+    requires { ⌜ BranchableTo (now s) (now ends) (now operands) (now blocks) stage left d ⌝ }
+    ensures { λ r.
+        let before = now (operands .entry) in
+        let after = now (operands .exit) in
+        ⌜ BranchesTo (now (s .entry)) (now (ends .entry)) before after (now (blocks .entry)) stage left d r ⌝ }
 {
-    let place = run_state::block_word(blocks, d, PLACE);
+    let place = run_state::block_word(blocks, d, layout::PLACE);
     let read = body_instruction::instruction_at(s, place as usize);
     match read {
         InstructionRead::Refused(_, _) => Stepped::Astray,
         InstructionRead::Is(i, next) => match i {
             Instruction::Loop(_) => {
-                let below = run_state::block_word(blocks, d, BELOW);
+                let below = run_state::block_word(blocks, d, layout::BELOW);
                 Stepped::Goes(Stage {
                     place: next,
                     objects: stage.objects,
@@ -163,7 +174,7 @@ fn leave(
             }
             Instruction::Block(w) => {
                 let takes = takes_of(w);
-                leave_block(ends, operands, blocks, stage, left, d, takes)
+                branch_out(ends, operands, blocks, stage, left, d, takes)
             }
             _ => Stepped::Astray,
         },
@@ -182,7 +193,10 @@ pub fn branch(
     results: u32,
 ) -> Stepped
     requires { ⌜ Branchable (now s) (now ends) (now operands) (now blocks) stage left ⌝ }
-    ensures { λ r. ⌜ Branches (now (s .entry)) (now (ends .entry)) (now (operands .entry)) (now (operands .exit)) (now (blocks .entry)) stage left label results r ⌝ }
+    ensures { λ r.
+        let before = now (operands .entry) in
+        let after = now (operands .exit) in
+        ⌜ Branches (now (s .entry)) (now (ends .entry)) before after (now (blocks .entry)) stage left label results r ⌝ }
 {
     let depth = stage.depth;
     if (depth as u64) < label {
@@ -192,5 +206,5 @@ pub fn branch(
         return finish(operands, stage, left, results, s.len());
     }
     let d = depth - 1 - label as u32;
-    leave(s, ends, operands, blocks, stage, left, d)
+    branch_to(s, ends, operands, blocks, stage, left, d)
 }

@@ -3,6 +3,7 @@ use Prim.Native.Nat.{ℕ, _≤_}
 use mathlib.Core.Path.{_≡_}
 use mathlib.Core.List.{List}
 use lib.ListN.{length}
+use Rattle.scope.specs.Sizes.{mostTypes}
 use Rattle.scope.specs.Bodies.{Body}
 use Rattle.scope.specs.Machine.{Machine, Program}
 use Rattle.scope.specs.Running.{startOf, programOf}
@@ -13,7 +14,7 @@ use Rattle.run_sound.proofs.Bounds.{machine-bounded}
 use Rattle.run_sound.proofs.Astraying.{not-astray, code-there}
 use Rattle.run_sound.proofs.Back.{read-back}
 
-module _ {section s : List ℕ} {x : ℕ} {b : Body} (runs : Runs section s x b) (few : length (b .types) ≤ 256) where
+module _ {section s : List ℕ} {x : ℕ} {b : Body} (runs : Runs section s x b) (few : length (b .types) ≤ mostTypes) where
   sound-body : Sound s (programOf b) (startOf b)
   sound-body =
       record {

@@ -5,6 +5,7 @@ use native.Mathlib.Omega.{arith}
 use mathlib.Core.Path.{_≡_, refl, ap}
 use mathlib.Core.List.{List, [], _∷_, map, append-nil}
 use lib.ListN.{length}
+use Rattle.scope.specs.Sizes.{mostTypes}
 use Rattle.scope.specs.Refusals.{outOfReach}
 use Rattle.scope.specs.Reading.{got}
 use Rattle.scope.specs.Lists.{joined}
@@ -28,7 +29,7 @@ use Rattle.run_sound.proofs.Astraying.{accepted-here}
 anyhow : {A P : Type 0} {r : Ruled A} → P → Allows (λ x. P) r
 anyhow p = record { tells = λ x e. p }
 
-module _ (c : Context) (few : c .count ≤ 256) where
+module _ (c : Context) (few : c .count ≤ mostTypes) where
   bound : c .count ≤ 4_095
   bound = omega arith
 
@@ -89,6 +90,6 @@ module _ (c : Context) (few : c .count ≤ 256) where
   accepted-back {st} (next e more) short = instr-back st short .tells _ e
 
 pub read-back :
-    {section s : List ℕ} {x : ℕ} {b : Body} {m : Machine} {at stop : ℕ} {i : Instr} {code : Code} → Runs section s x b → length (b .types) ≤ 256
+    {section s : List ℕ} {x : ℕ} {b : Body} {m : Machine} {at stop : ℕ} {i : Instr} {code : Code} → Runs section s x b → length (b .types) ≤ mostTypes
     → TypedHere b m → m .code ≡ (at, i) ∷ code → instrAt s at ≡ got i stop → instrOf (instructionOf i) ≡ i
 read-back {s} {b} {at} runs few here e read = accepted-back (contextFor b) few (accepted-here runs here e) (read-short s at read)

@@ -8,7 +8,7 @@ use mathlib.Core.List.{List, [], _∷_, map}
 use lib.ListN.{length, length-append}
 use lib.Dec.{ltb, leb}
 use borrow.Author.Tests.{ltb-true, leb-true}
-use Rattle.scope.specs.Sizes.{mostOperands, mostFrames}
+use Rattle.scope.specs.Sizes.{mostOperands, mostFrames, mostBlocks}
 use Rattle.scope.specs.Refusals.{oversize, outOfReach}
 use Rattle.scope.specs.Lists.{every, joined, sum}
 use Rattle.scope.specs.Syntax.{Val}
@@ -27,8 +27,8 @@ use Rattle.run_sound.specs.Sound.{Fitting}
 -- the checker's states
 
 pub record Sized (st : State) : Type 0 where
-  pub operands : operandsIn st ≤ 512
-  pub frames : length (st .frames) ≤ 63
+  pub operands : operandsIn st ≤ mostOperands
+  pub frames : length (st .frames) ≤ mostBlocks
 
 data Remains : Next → Type 0 where
   remains : {st : State} → Sized st → Remains (goesOn st)
@@ -37,17 +37,17 @@ data Remains : Next → Type 0 where
 sized-then : {st : State} → Remains (goesOn st) → Sized st
 sized-then (remains h) = h
 
-tested : (later : State) → length (later .frames) ≤ 63 → Allows Remains (within later)
+tested : (later : State) → length (later .frames) ≤ mostBlocks → Allows Remains (within later)
 tested later h =
     after-test (leb (operandsIn later) mostOperands) oversize (λ fits.
-    this (remains (record { operands = leb-true (operandsIn later) 512 fits; frames = h })))
+    this (remains (record { operands = leb-true (operandsIn later) mostOperands fits; frames = h })))
 
 module _ (c : Context) (st : State) where
   ended-with : (rs : List Val) {more : Ruled Next} → Allows Remains more → Allows Remains (ending c st rs more)
   ended-with rs more =
       after-and (takeAll (c .types) (st .dead) (fromTop rs) (st .operands)) whatever (λ t u. after-none-left (t .left) (λ none-left. more))
 
-  closed : (fs : List Frame) → length fs ≤ 63 → Allows Remains (close c st fs)
+  closed : (fs : List Frame) → length fs ≤ mostBlocks → Allows Remains (close c st fs)
   unfolding close
   closed [] h = ended-with (c .results) (this over)
   closed (ofBlock rs os dead set ∷ fs) h = ended-with rs (tested (leftOf (ofBlock rs os dead set) fs) (omega arith))
@@ -58,7 +58,7 @@ module _ (c : Context) (st : State) where
     entering names f e =
         after-test (every (λ x. ltb x (c .count)) names) outOfReach (λ named.
         after-test (ltb (length (st .frames) + 1) mostFrames) oversize (λ fits.
-        let few = ltb-true (length (st .frames) + 1) 64 fits in
+        let few = ltb-true (length (st .frames) + 1) mostFrames fits in
         this (remains (record { operands = rw e (omega (arith, h .operands)); frames = omega arith }))))
 
     judged : (i : Instr) → Allows Remains (judgeInstr c st i)

@@ -5,6 +5,7 @@ use native.Mathlib.Omega.{arith}
 use mathlib.Core.Path.{_≡_, refl}
 use mathlib.Core.List.{List, [], _∷_}
 use lib.ListN.{length, drop}
+use Rattle.scope.specs.Sizes.{mostTypes}
 use Rattle.scope.specs.Judging.{Judged, accepted, rejected}
 use Rattle.scope.specs.Instructions.{op, struct-new-default}
 use Rattle.scope.specs.Bodies.{Body, judgeBody}
@@ -34,7 +35,7 @@ maker-runs : Runs types bytes 6 maker
 unfolding computes
 maker-runs = record { isAccepted = refl; defaults = refl }
 
-maker-few : length (maker .types) ≤ 256
+maker-few : length (maker .types) ≤ mostTypes
 unfolding computes
 maker-few = omega arith
 

@@ -5,6 +5,7 @@ use Prim.Native.Nat.{ℕ, _≤_}
 use mathlib.Core.Path.{_≡_}
 use mathlib.Core.List.{List, [], _∷_}
 use lib.ListN.{length}
+use Rattle.scope.specs.Sizes.{mostOperands, mostBlocks}
 use Rattle.scope.specs.Reading.{got}
 use Rattle.scope.specs.Instructions.{Instr, instrAt}
 use Rattle.scope.specs.Bodies.{Code}
@@ -17,8 +18,8 @@ use Rattle.run_state.specs.Moved.{Astray}
 
 -- of a machine: 512 operands in all frames; 64 frames, the function's own counted
 pub record Fitting (m : Machine) : Type 0 where
-  pub operands : length (allOperands m) ≤ 512
-  pub blocks : length (m .blocks) ≤ 63
+  pub operands : length (allOperands m) ≤ mostOperands
+  pub blocks : length (m .blocks) ≤ mostBlocks
 
 -- of the run of the program p from the machine m₀, whose body has the bytes s
 pub record Sound (s : List ℕ) (p : Program) (m₀ : Machine) : Type 0 where

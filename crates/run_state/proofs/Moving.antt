@@ -10,6 +10,7 @@ use lib.ListN.{length, getElem?, set, take, drop}
 use Rattle.scope.specs.Syntax.{i32}
 use Rattle.scope.specs.Machine.{Value, number, null, object, Object, Machine, Program, Outcome, goes, traps, stuck, withOperands, withHeap, withLocals, withField, hasRoom, finish, branch}
 use Rattle.scope.proofs.Impossible.{contradiction}
+use Rattle.run_values.specs.Layout.{i32Kind, nullKind, objectKind}
 use Rattle.type_table.specs.View.{linkAt}
 use Rattle.run_values.specs.Values.{valueAt, Canon}
 use Rattle.run_values.proofs.Laws.{value-of-code, value-null, value-object, canon-number, canon-null, canon-object}
@@ -90,14 +91,14 @@ module _ {p : Program} {codes : List ℕ} {m : Machine} {want : Outcome} where
         → want ≡ goes (withOperands m (v ∷ drop n (m .operands))) → n ≤ length (m .operands) → MoveIs p codes m want (Move.the-variants.Gives n k b)
     giving-as k b same canon e low = giving n k b (e ∙ ap (λ (v : Value). goes (withOperands m (v ∷ drop n (m .operands)))) same) low canon
 
-    pub giving-i32 : (b : ℕ) → want ≡ goes (withOperands m (number i32 b ∷ drop n (m .operands))) → n ≤ length (m .operands) → MoveIs p codes m want (Move.the-variants.Gives n 1 b)
+    pub giving-i32 : (b : ℕ) → want ≡ goes (withOperands m (number i32 b ∷ drop n (m .operands))) → n ≤ length (m .operands) → MoveIs p codes m want (Move.the-variants.Gives n i32Kind b)
     giving-i32 b = giving-as 1 b (sym (value-of-code i32 b)) (canon-number b (omega arith) (omega arith))
 
-    pub giving-null : want ≡ goes (withOperands m (null ∷ drop n (m .operands))) → n ≤ length (m .operands) → MoveIs p codes m want (Move.the-variants.Gives n 5 0)
-    giving-null = giving-as 5 0 (sym (value-null 0 refl)) canon-null
+    pub giving-null : want ≡ goes (withOperands m (null ∷ drop n (m .operands))) → n ≤ length (m .operands) → MoveIs p codes m want (Move.the-variants.Gives n nullKind 0)
+    giving-null = giving-as nullKind 0 (sym (value-null 0 refl)) canon-null
 
-    pub giving-object : (o : ℕ) → want ≡ goes (withOperands m (object o ∷ drop n (m .operands))) → n ≤ length (m .operands) → MoveIs p codes m want (Move.the-variants.Gives n 6 o)
-    giving-object o = giving-as 6 o (sym (value-object o refl)) (canon-object o)
+    pub giving-object : (o : ℕ) → want ≡ goes (withOperands m (object o ∷ drop n (m .operands))) → n ≤ length (m .operands) → MoveIs p codes m want (Move.the-variants.Gives n objectKind o)
+    giving-object o = giving-as objectKind o (sym (value-object o refl)) (canon-object o)
 
 -- the same outcome, said otherwise
 pub same-want : {p : Program} {codes : List ℕ} {m : Machine} {want want′ : Outcome} {r : Move} → want′ ≡ want → MoveIs p codes m want r → MoveIs p codes m want′ r

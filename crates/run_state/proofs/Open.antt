@@ -6,12 +6,14 @@ use mathlib.Core.List.{List, _++_, map}
 use native.Mathlib.Omega.{arith}
 use lib.ListN.{getD, length}
 use lib.Dec.{eqb}
+use Rattle.scope.specs.Layout.{valueSpan, blockSpan}
 use Rattle.scope.specs.Reading.{got}
 use Rattle.scope.specs.Lists.{joined}
 use Rattle.scope.specs.Instructions.{Op, Instr, block, end, op, instrAt}
 use Rattle.scope.specs.Bodies.{Code}
 use Rattle.scope.specs.Machine.{Value, Block, openBlock, openLoop, past}
 use Rattle.scope.specs.Memory.{belowOf, allOperands}
+use Rattle.run_values.specs.Layout.{kindWord, placeWord, belowWord, openedLoop}
 use Rattle.run_stack.specs.Pile.{pile}
 use Rattle.run_stack.proofs.Laws.{pile-same, pile-join}
 use Rattle.run_ends.specs.Matching.{onRead, codeAt, Opener, is-block, is-loop, Lands}
@@ -46,41 +48,41 @@ module _ {s ends : List ℕ} {at next : ℕ} (c : Charted s ends at) (o : Opener
 
 -- the words that open blocks are read from
 
-pub lower-more : (blocks : List ℕ) (d : ℕ) → lower blocks (suc d) ≡ blockWord blocks d 2
+pub lower-more : (blocks : List ℕ) (d : ℕ) → lower blocks (suc d) ≡ blockWord blocks d belowWord
 unfolding lower
 lower-more blocks d = refl
 
 module _ (blocks blocks′ : List ℕ) where
-  pub lower-same : (d : ℕ) → ((i : ℕ) → i < 3 * d → getD blocks′ i 0 ≡ getD blocks i 0) → lower blocks′ d ≡ lower blocks d
+  pub lower-same : (d : ℕ) → ((i : ℕ) → i < blockSpan * d → getD blocks′ i 0 ≡ getD blocks i 0) → lower blocks′ d ≡ lower blocks d
   unfolding lower
   lower-same zero same = refl
-  lower-same (suc d) same = same (3 * d + 2) (omega arith)
+  lower-same (suc d) same = same (blockSpan * d + belowWord) (omega arith)
 
-  pub blocks-same : (s operands : List ℕ) (d : ℕ) → ((i : ℕ) → i < 3 * d → getD blocks′ i 0 ≡ getD blocks i 0) → blocksAt s blocks′ operands d ≡ blocksAt s blocks operands d
+  pub blocks-same : (s operands : List ℕ) (d : ℕ) → ((i : ℕ) → i < blockSpan * d → getD blocks′ i 0 ≡ getD blocks i 0) → blocksAt s blocks′ operands d ≡ blocksAt s blocks operands d
   unfolding blocksAt
   blocks-same s operands zero same = refl
   blocks-same s operands (suc d) same =
-      let less : (i : ℕ) → i < 3 * d → getD blocks′ i 0 ≡ getD blocks i 0 = λ i h. same i (omega arith) in
-      rw (same (3 * d + 0) (omega arith), same (3 * d + 1) (omega arith), same (3 * d + 2) (omega arith), lower-same d less, blocks-same s operands d less)
+      let less : (i : ℕ) → i < blockSpan * d → getD blocks′ i 0 ≡ getD blocks i 0 = λ i h. same i (omega arith) in
+      rw (same (blockSpan * d + kindWord) (omega arith), same (blockSpan * d + placeWord) (omega arith), same (blockSpan * d + belowWord) (omega arith), lower-same d less, blocks-same s operands d less)
 
 -- how they stand to the code
 
 -- Block d, out of which l more blocks lead: what comes after its end is the code at the place that is kept for it.
 pub record Around (s ends blocks : List ℕ) (d l : ℕ) (code : Code) : Type 0 where
   pub next : ℕ
-  pub charted : Charted s ends (blockWord blocks d 1)
-  pub opened : Opened s (blockWord blocks d 0) (blockWord blocks d 1) next
-  pub low : lower blocks d ≤ blockWord blocks d 2
-  pub landing : past (suc l) code ≡ codeAt s (getD ends (blockWord blocks d 1) 0)
-  pub nested : Nested s ends blocks d (codeAt s (getD ends (blockWord blocks d 1) 0))
-  pub high : blockWord blocks d 2 ≤ lower blocks (d + 1 + l)
+  pub charted : Charted s ends (blockWord blocks d placeWord)
+  pub opened : Opened s (blockWord blocks d kindWord) (blockWord blocks d placeWord) next
+  pub low : lower blocks d ≤ blockWord blocks d belowWord
+  pub landing : past (suc l) code ≡ codeAt s (getD ends (blockWord blocks d placeWord) 0)
+  pub nested : Nested s ends blocks d (codeAt s (getD ends (blockWord blocks d placeWord) 0))
+  pub high : blockWord blocks d belowWord ≤ lower blocks (d + 1 + l)
 
 -- a block that is read from its words is a block or a loop
 pub either-block :
     (P : Block → Type 0) (s : List ℕ) (kind at : ℕ) (vs : List Value) → ((again : Code) → P (openLoop at vs again)) → ((n : ℕ) → P (openBlock at n vs))
     → P (blockOf s kind at vs)
 unfolding blockOf
-either-block P s kind at vs as-loop as-block = go (eqb kind 2)
+either-block P s kind at vs as-loop as-block = go (eqb kind openedLoop)
   where
     go : (b : Bool) → P (cond b (openLoop at vs (codeAfter s at)) (openBlock at (onRead (instrAt s at) 0 (λ i next. labelTakes i)) vs))
     go true = as-loop (codeAfter s at)
@@ -103,14 +105,14 @@ module _ {s ends blocks : List ℕ} where
       let a = innermost d n in
       inside (a .charted) (a .opened) (a .low) (sym e ∙ a .landing) (a .nested)
 
-  pub nested-same : {blocks′ : List ℕ} (d : ℕ) {code : Code} → ((i : ℕ) → i < 3 * d → getD blocks′ i 0 ≡ getD blocks i 0) → Nested s ends blocks d code → Nested s ends blocks′ d code
+  pub nested-same : {blocks′ : List ℕ} (d : ℕ) {code : Code} → ((i : ℕ) → i < blockSpan * d → getD blocks′ i 0 ≡ getD blocks i 0) → Nested s ends blocks d code → Nested s ends blocks′ d code
   nested-same zero same n = outermost
   nested-same {blocks′} (suc d) {code} same n =
       let a = innermost d n in
-      let less : (i : ℕ) → i < 3 * d → getD blocks′ i 0 ≡ getD blocks i 0 = λ i h. same i (omega arith) in
-      let kind : blockWord blocks′ d 0 ≡ blockWord blocks d 0 = same (3 * d + 0) (omega arith) in
-      let place : blockWord blocks′ d 1 ≡ blockWord blocks d 1 = same (3 * d + 1) (omega arith) in
-      let below : blockWord blocks′ d 2 ≡ blockWord blocks d 2 = same (3 * d + 2) (omega arith) in
+      let less : (i : ℕ) → i < blockSpan * d → getD blocks′ i 0 ≡ getD blocks i 0 = λ i h. same i (omega arith) in
+      let kind : blockWord blocks′ d kindWord ≡ blockWord blocks d kindWord = same (blockSpan * d + kindWord) (omega arith) in
+      let place : blockWord blocks′ d placeWord ≡ blockWord blocks d placeWord = same (blockSpan * d + placeWord) (omega arith) in
+      let below : blockWord blocks′ d belowWord ≡ blockWord blocks d belowWord = same (blockSpan * d + belowWord) (omega arith) in
       inside {d = d} {next = a .next} {code = code}
       (rw place (a .charted))
       (rw (kind, place) (a .opened))
@@ -139,8 +141,8 @@ module _ {s ends blocks : List ℕ} where
 
   -- where the code of block d begins
   pub nested-first :
-      {d next : ℕ} → Charted s ends (blockWord blocks d 1) → Opened s (blockWord blocks d 0) (blockWord blocks d 1) next → lower blocks d ≤ blockWord blocks d 2
-      → Nested s ends blocks d (codeAt s (getD ends (blockWord blocks d 1) 0)) → Nested s ends blocks (suc d) (codeAt s next)
+      {d next : ℕ} → Charted s ends (blockWord blocks d placeWord) → Opened s (blockWord blocks d kindWord) (blockWord blocks d placeWord) next → lower blocks d ≤ blockWord blocks d belowWord
+      → Nested s ends blocks d (codeAt s (getD ends (blockWord blocks d placeWord) 0)) → Nested s ends blocks (suc d) (codeAt s next)
   nested-first c o low n = inside c o low (sym (charted-lands c (opener-of o))) n
 
   -- an instruction that neither opens nor closes a block
@@ -150,7 +152,7 @@ module _ {s ends blocks : List ℕ} where
   pub nested-end : (at : ℕ) {d next : ℕ} → instrAt s at ≡ got end next → Nested s ends blocks (suc d) (codeAt s at) → Nested s ends blocks d (codeAt s next)
   nested-end at {d} {next} e n =
       let a = innermost d n in
-      let same : codeAt s (getD ends (blockWord blocks d 1) 0) ≡ codeAt s next = sym (a .landing) ∙ ap (past 1) (code-here s at e) ∙ past-own-end at (codeAt s next) in
+      let same : codeAt s (getD ends (blockWord blocks d placeWord) 0) ≡ codeAt s next = sym (a .landing) ∙ ap (past 1) (code-here s at e) ∙ past-own-end at (codeAt s next) in
       rw same at (a .nested)
 
   -- after the end of the block that is opened here
@@ -163,15 +165,15 @@ module _ {s ends blocks : List ℕ} where
 
   -- words of operands that lie below all of them
   pub operands-same :
-      (operands operands′ : List ℕ) (d : ℕ) {code : Code} → Nested s ends blocks d code → ((i : ℕ) → i < 2 * lower blocks d → getD operands′ i 0 ≡ getD operands i 0)
+      (operands operands′ : List ℕ) (d : ℕ) {code : Code} → Nested s ends blocks d code → ((i : ℕ) → i < valueSpan * lower blocks d → getD operands′ i 0 ≡ getD operands i 0)
       → blocksAt s blocks operands′ d ≡ blocksAt s blocks operands d
   unfolding blocksAt lower
   operands-same operands operands′ zero n same = refl
   operands-same operands operands′ (suc d) n same =
       let a = innermost d n in
-      let low : lower blocks d ≤ blockWord blocks d 2 = a .low in
-      let values : pile operands′ (lower blocks d) (blockWord blocks d 2 - lower blocks d) ≡ pile operands (lower blocks d) (blockWord blocks d 2 - lower blocks d) =
-      pile-same operands operands′ (lower blocks d) (blockWord blocks d 2 - lower blocks d) (λ i h. same i (omega arith)) in
+      let low : lower blocks d ≤ blockWord blocks d belowWord = a .low in
+      let values : pile operands′ (lower blocks d) (blockWord blocks d belowWord - lower blocks d) ≡ pile operands (lower blocks d) (blockWord blocks d belowWord - lower blocks d) =
+      pile-same operands operands′ (lower blocks d) (blockWord blocks d belowWord - lower blocks d) (λ i h. same i (omega arith)) in
       rw (values, operands-same operands operands′ d (a .nested) (λ i h. same i (omega arith)))
 
   -- all operands
@@ -181,11 +183,11 @@ module _ {s ends blocks : List ℕ} where
   belows operands zero n = refl
   belows operands (suc d) n =
       let a = innermost d n in
-      let low : lower blocks d ≤ blockWord blocks d 2 = a .low in
-      let more = blockWord blocks d 2 - lower blocks d in
+      let low : lower blocks d ≤ blockWord blocks d belowWord = a .low in
+      let more = blockWord blocks d belowWord - lower blocks d in
       let start : 0 + lower blocks d ≡ lower blocks d = omega arith in
-      let whole : lower blocks d + (blockWord blocks d 2 - lower blocks d) ≡ blockWord blocks d 2 = omega arith in
-      ap₂ _++_ (below-of s (blockWord blocks d 0) (blockWord blocks d 1) (pile operands (lower blocks d) more)) (belows operands d (a .nested))
+      let whole : lower blocks d + (blockWord blocks d belowWord - lower blocks d) ≡ blockWord blocks d belowWord = omega arith in
+      ap₂ _++_ (below-of s (blockWord blocks d kindWord) (blockWord blocks d placeWord) (pile operands (lower blocks d) more)) (belows operands d (a .nested))
       ∙ ap (λ (b : ℕ). pile operands b more ++ pile operands 0 (lower blocks d)) (sym start)
       ∙ pile-join operands 0 (lower blocks d) more
       ∙ ap (pile operands 0) whole

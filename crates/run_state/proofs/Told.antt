@@ -6,6 +6,7 @@ use mathlib.Core.List.{List, [], _∷_, _++_, map, reverse}
 use native.Mathlib.Omega.{arith}
 use lib.ListN.{length, take, drop, length-append}
 use lib.Seq.{drop-cons, take-add}
+use Rattle.scope.specs.Layout.{blockSpan}
 use Rattle.scope.specs.Reading.{Read, got, refused}
 use Rattle.scope.specs.Lists.{joined}
 use Rattle.scope.specs.Instructions.{Instr, instrAt}
@@ -13,6 +14,7 @@ use Rattle.scope.specs.Bodies.{Code}
 use Rattle.scope.specs.Machine.{Value, Block}
 use Rattle.scope.specs.Running.{placeOf}
 use Rattle.scope.specs.Memory.{valueWords, belowOf, blockKind, blockPlace, heightOf, blockWords, StateWords, stateWords}
+use Rattle.run_values.specs.Layout.{kindWord, placeWord, belowWord}
 use Rattle.run_values.specs.Values.{valueAt, entryIn}
 use Rattle.run_values.proofs.Numbered.{numbered-length}
 use Rattle.run_values.proofs.Laws.{held-canon-words}
@@ -23,7 +25,7 @@ use Rattle.run_stack.proofs.Held.{locals-length}
 use Rattle.run_ends.specs.Matching.{codeAt}
 use Rattle.run_ends.proofs.Codes.{code-here, code-refused, code-none}
 use Rattle.run_state.specs.declared.Stage.{Stage}
-use Rattle.run_state.specs.Machines.{Words, blockWord, lower, blockOf, blocksAt, machineAt, Valued, Opened, a-block, a-loop, Nested, outermost, Orderly, Closed}
+use Rattle.run_state.specs.Machines.{Words, blockWord, lower, blockOf, blocksAt, machineAt, Valued, Opened, a-block, a-loop, Nested, outermost, Orderly, Over}
 use Rattle.run_state.specs.Written.{StateTold}
 use Rattle.run_state.proofs.Open.{either-block, innermost, belows, all-operands, blocks-length}
 
@@ -53,37 +55,37 @@ heights (b ∷ bs) = ap (λ (n : ℕ). length (belowOf b) + n) (heights bs) ∙ 
 
 -- the words of block d come after those of the blocks around it
 block-front :
-    (blocks : List ℕ) (d : ℕ) → 3 * suc d ≤ length blocks
-    → take (3 * suc d) blocks ≡ take (3 * d) blocks ++ (blockWord blocks d 0 ∷ blockWord blocks d 1 ∷ blockWord blocks d 2 ∷ [])
+    (blocks : List ℕ) (d : ℕ) → blockSpan * suc d ≤ length blocks
+    → take (blockSpan * suc d) blocks ≡ take (blockSpan * d) blocks ++ (blockWord blocks d kindWord ∷ blockWord blocks d placeWord ∷ blockWord blocks d belowWord ∷ [])
 block-front blocks d room =
-    let three : 3 * suc d ≡ 3 * d + 3 = omega arith in
-    let first : 3 * d ≡ 3 * d + 0 = omega arith in
-    let second : suc (3 * d + 0) ≡ 3 * d + 1 = omega arith in
-    let third : suc (3 * d + 1) ≡ 3 * d + 2 = omega arith in
-    let a : drop (3 * d + 0) blocks ≡ blockWord blocks d 0 ∷ drop (suc (3 * d + 0)) blocks = drop-cons blocks (3 * d + 0) 0 (omega arith) in
-    let b : drop (3 * d + 1) blocks ≡ blockWord blocks d 1 ∷ drop (suc (3 * d + 1)) blocks = drop-cons blocks (3 * d + 1) 0 (omega arith) in
-    let c : drop (3 * d + 2) blocks ≡ blockWord blocks d 2 ∷ drop (suc (3 * d + 2)) blocks = drop-cons blocks (3 * d + 2) 0 (omega arith) in
-    let front : drop (3 * d) blocks ≡ blockWord blocks d 0 ∷ blockWord blocks d 1 ∷ blockWord blocks d 2 ∷ drop (suc (3 * d + 2)) blocks =
+    let three : blockSpan * suc d ≡ blockSpan * d + blockSpan = omega arith in
+    let first : blockSpan * d ≡ blockSpan * d + kindWord = omega arith in
+    let second : suc (blockSpan * d + kindWord) ≡ blockSpan * d + placeWord = omega arith in
+    let third : suc (blockSpan * d + placeWord) ≡ blockSpan * d + belowWord = omega arith in
+    let a : drop (blockSpan * d + kindWord) blocks ≡ blockWord blocks d kindWord ∷ drop (suc (blockSpan * d + kindWord)) blocks = drop-cons blocks (blockSpan * d + kindWord) 0 (omega arith) in
+    let b : drop (blockSpan * d + placeWord) blocks ≡ blockWord blocks d placeWord ∷ drop (suc (blockSpan * d + placeWord)) blocks = drop-cons blocks (blockSpan * d + placeWord) 0 (omega arith) in
+    let c : drop (blockSpan * d + belowWord) blocks ≡ blockWord blocks d belowWord ∷ drop (suc (blockSpan * d + belowWord)) blocks = drop-cons blocks (blockSpan * d + belowWord) 0 (omega arith) in
+    let front : drop (blockSpan * d) blocks ≡ blockWord blocks d kindWord ∷ blockWord blocks d placeWord ∷ blockWord blocks d belowWord ∷ drop (suc (blockSpan * d + belowWord)) blocks =
     ap (λ (k : ℕ). drop k blocks) first
     ∙ a
-    ∙ ap (λ (l : List ℕ). blockWord blocks d 0 ∷ l)
-    (ap (λ (k : ℕ). drop k blocks) second ∙ b ∙ ap (λ (l : List ℕ). blockWord blocks d 1 ∷ l) (ap (λ (k : ℕ). drop k blocks) third ∙ c)) in
+    ∙ ap (λ (l : List ℕ). blockWord blocks d kindWord ∷ l)
+    (ap (λ (k : ℕ). drop k blocks) second ∙ b ∙ ap (λ (l : List ℕ). blockWord blocks d placeWord ∷ l) (ap (λ (k : ℕ). drop k blocks) third ∙ c)) in
     ap (λ (k : ℕ). take k blocks) three
-    ∙ take-add (3 * d) 3 blocks
-    ∙ ap (λ (l : List ℕ). take (3 * d) blocks ++ take 3 l) front
+    ∙ take-add (blockSpan * d) blockSpan blocks
+    ∙ ap (λ (l : List ℕ). take (blockSpan * d) blocks ++ take blockSpan l) front
 
 module _ {s ends blocks : List ℕ} (operands : List ℕ) where
   height-told : (d : ℕ) {code : Code} → Nested s ends blocks d code → heightOf (blocksAt s blocks operands d) ≡ lower blocks d
   height-told d n = heights (blocksAt s blocks operands d) ∙ ap length (belows operands d n) ∙ pile-length operands 0 (lower blocks d)
 
-  pub block-words : (d : ℕ) {code : Code} → Nested s ends blocks d code → 3 * d ≤ length blocks → blockWords (blocksAt s blocks operands d) ≡ take (3 * d) blocks
+  pub block-words : (d : ℕ) {code : Code} → Nested s ends blocks d code → blockSpan * d ≤ length blocks → blockWords (blocksAt s blocks operands d) ≡ take (blockSpan * d) blocks
   unfolding blocksAt blockWords lower
   block-words zero n room = refl
   block-words (suc d) n room =
       let a = innermost d n in
-      let kind = kind-told s (blockWord blocks d 0) (blockWord blocks d 1) (pile operands (lower blocks d) (blockWord blocks d 2 - lower blocks d)) (a .opened) in
-      let place = place-told s (blockWord blocks d 0) (blockWord blocks d 1) (pile operands (lower blocks d) (blockWord blocks d 2 - lower blocks d)) in
-      rw (kind, place, height-told (suc d) n) (ap (λ (l : List ℕ). l ++ (blockWord blocks d 0 ∷ blockWord blocks d 1 ∷ blockWord blocks d 2 ∷ [])) (block-words d (a .nested) (omega arith)) ∙ sym (block-front blocks d room))
+      let kind = kind-told s (blockWord blocks d kindWord) (blockWord blocks d placeWord) (pile operands (lower blocks d) (blockWord blocks d belowWord - lower blocks d)) (a .opened) in
+      let place = place-told s (blockWord blocks d kindWord) (blockWord blocks d placeWord) (pile operands (lower blocks d) (blockWord blocks d belowWord - lower blocks d)) in
+      rw (kind, place, height-told (suc d) n) (ap (λ (l : List ℕ). l ++ (blockWord blocks d kindWord ∷ blockWord blocks d placeWord ∷ blockWord blocks d belowWord ∷ [])) (block-words d (a .nested) (omega arith)) ∙ sym (block-front blocks d room))
 
 -- all of it
 
@@ -92,7 +94,7 @@ six p q r s t u = cc
 
 module _ {s ends : List ℕ} {count : ℕ} {w : Words} {st : Stage} (v : Valued count w st) where
   told-by :
-      {code : Code} → placeOf s (codeAt s (st .place)) ≡ st .place → Nested s ends (w .blocks) (st .depth) code → st .base ≡ lower (w .blocks) (st .depth) → 3 * st .depth ≤ length (w .blocks)
+      {code : Code} → placeOf s (codeAt s (st .place)) ≡ st .place → Nested s ends (w .blocks) (st .depth) code → st .base ≡ lower (w .blocks) (st .depth) → blockSpan * st .depth ≤ length (w .blocks)
       → StateTold count w st (stateWords s (machineAt s count w st))
   unfolding stateWords machineAt
   told-by place n base room =
@@ -119,7 +121,7 @@ state-words {s} {st = st} o some =
     told-by (o .valued) (place-there s (st .place) some) (o .framed .nested) (o .framed .base) (omega (arith, o .framed .room, o .framed .deep))
 
 -- when the run is done
-pub last-state-words : {s : List ℕ} {count : ℕ} {w : Words} {st : Stage} → Valued count w st → Closed s st → StateTold count w st (stateWords s (machineAt s count w st))
+pub last-state-words : {s : List ℕ} {count : ℕ} {w : Words} {st : Stage} → Valued count w st → Over s st → StateTold count w st (stateWords s (machineAt s count w st))
 unfolding lower
 last-state-words {s} {w = w} {st} v c =
     let none : codeAt s (st .place) ≡ [] = code-none s (st .place) (omega (arith, c .place)) in

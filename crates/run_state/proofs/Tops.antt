@@ -12,6 +12,7 @@ use borrow.Author.Tests.{eqb-true, eqb-false, eq-eqb, ne-eqb}
 use Rattle.scope.specs.Machine.{Value, number, null, object, Outcome, stuck, onTaken, onReference}
 use Rattle.scope.proofs.Truths.{decided}
 use Rattle.scope.proofs.Impossible.{impossible}
+use Rattle.run_values.specs.Layout.{nullKind, objectKind}
 use Rattle.run_values.specs.Values.{valueAt}
 use Rattle.run_values.proofs.Laws.{value-null, value-object, value-number}
 use Rattle.run_stack.specs.declared.Topmost.{Topmost}
@@ -77,21 +78,21 @@ unfolding referenceAt
 reference-nothing e = rw e refl
 
 module _ {t : Topmost} {k n : ℕ} (e : t ≡ Topmost.the-variants.Is k n) where
-  pub reference-null : k ≡ 5 → Reference.the-variants.Null ≡ referenceAt t
+  pub reference-null : k ≡ nullKind → Reference.the-variants.Null ≡ referenceAt t
   unfolding referenceAt
-  reference-null h = rw (e, eq-eqb k 5 h) refl
+  reference-null h = rw (e, eq-eqb k nullKind h) refl
 
-  pub reference-object : (k ≡ 5 → ⊥) → k ≡ 6 → Reference.the-variants.To n ≡ referenceAt t
+  pub reference-object : (k ≡ nullKind → ⊥) → k ≡ objectKind → Reference.the-variants.To n ≡ referenceAt t
   unfolding referenceAt
-  reference-object g h = rw (e, ne-eqb k 5 g, eq-eqb k 6 h) refl
+  reference-object g h = rw (e, ne-eqb k nullKind g, eq-eqb k objectKind h) refl
 
-  pub reference-number : (k ≡ 5 → ⊥) → (k ≡ 6 → ⊥) → Reference.the-variants.Wrong ≡ referenceAt t
+  pub reference-number : (k ≡ nullKind → ⊥) → (k ≡ objectKind → ⊥) → Reference.the-variants.Wrong ≡ referenceAt t
   unfolding referenceAt
-  reference-number g h = rw (e, ne-eqb k 5 g, ne-eqb k 6 h) refl
+  reference-number g h = rw (e, ne-eqb k nullKind g, ne-eqb k objectKind h) refl
 
 pub ruleset reference-exits = (reference-nothing, reference-null, reference-object, reference-number)
 
-number-stuck : (k n : ℕ) → (k ≡ 5 → ⊥) → (k ≡ 6 → ⊥) → (f : Option ℕ → Outcome) → onReference (valueAt k n) f ≡ stuck
+number-stuck : (k n : ℕ) → (k ≡ nullKind → ⊥) → (k ≡ objectKind → ⊥) → (f : Option ℕ → Outcome) → onReference (valueAt k n) f ≡ stuck
 number-stuck k n g h f = rw (value-number n g h) refl
 
 -- what the topmost operand is, by what it is as a reference: the value; or none, and the machine is stuck on it
@@ -103,12 +104,12 @@ Refers vs (Reference.the-variants.To o) = headOf vs ≡ some (object o)
 
 refers-by : (vs : List Value) (k n : ℕ) → headOf vs ≡ some (valueAt k n) → Refers vs (referenceAt (Topmost.the-variants.Is k n))
 unfolding Refers referenceAt
-refers-by vs k n e = go (decided (eqb k 5)) (decided (eqb k 6))
+refers-by vs k n e = go (decided (eqb k nullKind)) (decided (eqb k objectKind))
   where
-    go : (eqb k 5 ≡ true) ⊎ (eqb k 5 ≡ false) → (eqb k 6 ≡ true) ⊎ (eqb k 6 ≡ false) → Refers vs (referenceAt (Topmost.the-variants.Is k n))
-    go (inl a) b = rw a (e ∙ ap some (value-null n (eqb-true k 5 a)))
-    go (inr a) (inl b) = rw (a, b) (e ∙ ap some (value-object n (eqb-true k 6 b)))
-    go (inr a) (inr b) = rw (a, b) (λ f. on-top vs e _ ∙ number-stuck k n (eqb-false k 5 a) (eqb-false k 6 b) _)
+    go : (eqb k nullKind ≡ true) ⊎ (eqb k nullKind ≡ false) → (eqb k objectKind ≡ true) ⊎ (eqb k objectKind ≡ false) → Refers vs (referenceAt (Topmost.the-variants.Is k n))
+    go (inl a) b = rw a (e ∙ ap some (value-null n (eqb-true k nullKind a)))
+    go (inr a) (inl b) = rw (a, b) (e ∙ ap some (value-object n (eqb-true k objectKind b)))
+    go (inr a) (inr b) = rw (a, b) (λ f. on-top vs e _ ∙ number-stuck k n (eqb-false k nullKind a) (eqb-false k objectKind b) _)
 
 refers : {vs : List Value} (t : Topmost) → Seen vs t → Refers vs (referenceAt t)
 unfolding Refers referenceAt

@@ -3,6 +3,8 @@ use Prim.Native.Nat.{ℕ, _+_, _≤_}
 use mathlib.Core.Path.{_≡_}
 use mathlib.Core.List.{List}
 use lib.ListN.{length}
+use Rattle.scope.specs.Layout.{operandsSize}
+use Rattle.scope.specs.Sizes.{mostOperands}
 use Rattle.scope.specs.Machine.{Machine, Outcome, goes, ends, traps, stuck, withControl}
 use Rattle.run_values.specs.Values.{AllCanon}
 use Rattle.run_stack.specs.Pile.{pile}
@@ -10,7 +12,7 @@ use Rattle.run_ends.specs.Matching.{codeAt}
 use Rattle.run_state.specs.declared.Stage.{Stage}
 use Rattle.run_state.specs.declared.Stepped.{Stepped}
 use Rattle.run_state.specs.declared.Stepped
-use Rattle.run_state.specs.Machines.{blocksAt, Framed, Closed}
+use Rattle.run_state.specs.Machines.{blocksAt, Framed, Over}
 use Rattle.run_state.specs.Moved.{Astray}
 
 -- a machine's operands, open blocks and code are those that the words say
@@ -21,9 +23,9 @@ pub record Controls (s operands blocks : List ℕ) (st : Stage) (m : Machine) : 
 
 -- the operands lie within the sizes, and each word is that of the value which it says
 pub record Piled (operands : List ℕ) (st : Stage) : Type 0 where
-  pub room : 1_024 ≤ length operands
+  pub room : operandsSize ≤ length operands
   pub canon : AllCanon operands (st .base + st .height)
-  pub high : st .base + st .height ≤ 512
+  pub high : st .base + st .height ≤ mostOperands
 
 -- the machine with other operands, open blocks and code
 unfoldable pub controlled : List ℕ → List ℕ → List ℕ → Machine → Stepped → Outcome
@@ -46,6 +48,6 @@ pub record ControlIs (s ends operands blocks : List ℕ) (st : Stage) (m : Machi
   pub framed : (later : Stage) → r ≡ Stepped.the-variants.Goes later → Framed s ends blocks later
   pub heap : (later : Stage) → r ≡ Stepped.the-variants.Goes later → SameHeap st later
   pub results : (later : Stage) → r ≡ Stepped.the-variants.Ends later → Piled operands later
-  pub closed : (later : Stage) → r ≡ Stepped.the-variants.Ends later → Closed s later
+  pub over : (later : Stage) → r ≡ Stepped.the-variants.Ends later → Over s later
   pub lastHeap : (later : Stage) → r ≡ Stepped.the-variants.Ends later → SameHeap st later
   pub traps-not : (number : ℕ) → r ≡ Stepped.the-variants.Traps number → ⊥

@@ -6,11 +6,14 @@ use mathlib.Core.Bool.{cond}
 use mathlib.Core.List.{List, [], _∷_}
 use lib.ListN.{getD, length}
 use lib.Dec.{eqb}
+use Rattle.scope.specs.Layout.{blockSpan, operandsSize, blocksSize}
+use Rattle.scope.specs.Sizes.{mostBytes, mostOperands, mostBlocks}
 use Rattle.scope.specs.Reading.{got}
 use Rattle.scope.specs.Syntax.{Val}
 use Rattle.scope.specs.Instructions.{Instr, block, loop, end, op, instrAt}
 use Rattle.scope.specs.Bodies.{Code}
 use Rattle.scope.specs.Machine.{Value, Block, openBlock, openLoop, Machine, Program, past}
+use Rattle.run_values.specs.Layout.{kindWord, placeWord, belowWord, openedBlock, openedLoop}
 use Rattle.type_table.specs.View.{view}
 use Rattle.run_values.specs.Values.{heldFrom, AllCanon, AllHeldCanon}
 use Rattle.run_heap.specs.Heap.{storeAt, Kept}
@@ -34,12 +37,12 @@ words objects cells locals operands blocks =
 
 -- word k of open block d; the outermost is 0
 abbrev pub blockWord : List ℕ → ℕ → ℕ → ℕ
-blockWord blocks d k = getD blocks (3 * d + k) 0
+blockWord blocks d k = getD blocks (blockSpan * d + k) 0
 
 -- how many operands lie below the frame in which so many blocks are open
 unfoldable pub lower : List ℕ → ℕ → ℕ
 lower blocks zero = 0
-lower blocks (suc d) = blockWord blocks d 2
+lower blocks (suc d) = blockWord blocks d belowWord
 
 -- how many values a block's label takes
 abbrev pub labelTakes : Instr → ℕ
@@ -55,13 +58,13 @@ codeAfter s at = onRead (instrAt s at) [] (λ i next. codeAt s next)
 -- a block whose instruction stands at a place, by its kind and the operands below it
 unfoldable pub blockOf : List ℕ → ℕ → ℕ → List Value → Block
 blockOf s kind at below =
-    cond (eqb kind 2) (openLoop at below (codeAfter s at)) (openBlock at (onRead (instrAt s at) 0 (λ i next. labelTakes i)) below)
+    cond (eqb kind openedLoop) (openLoop at below (codeAfter s at)) (openBlock at (onRead (instrAt s at) 0 (λ i next. labelTakes i)) below)
 
 -- so many open blocks, innermost first
 unfoldable pub blocksAt : List ℕ → List ℕ → List ℕ → ℕ → List Block
 blocksAt s blocks operands zero = []
 blocksAt s blocks operands (suc d) =
-    blockOf s (blockWord blocks d 0) (blockWord blocks d 1) (pile operands (lower blocks d) (blockWord blocks d 2 - lower blocks d))
+    blockOf s (blockWord blocks d kindWord) (blockWord blocks d placeWord) (pile operands (lower blocks d) (blockWord blocks d belowWord - lower blocks d))
     ∷ blocksAt s blocks operands d
 
 -- the machine
@@ -78,6 +81,10 @@ machineAt s count w st =
 
 abbrev pub programAt : List ℕ → List ℕ → ℕ → Program
 programAt rows codes results = record { types = view rows codes; results = results }
+
+-- at the first instruction, with an empty heap and no operand
+abbrev pub startStage : ℕ → Stage
+startStage first = record { place = first; objects = 0; cells = 0; base = 0; height = 0; depth = 0 }
 
 -- the same stage at another place
 abbrev pub atPlace : Stage → ℕ → Stage
@@ -96,14 +103,14 @@ pub record Valued (count : ℕ) (w : Words) (st : Stage) : Type 0 where
   pub heap : Kept (w .objects) (w .cells) (st .objects) (st .cells)
   pub localRoom : LocalRoom (w .locals) count
   pub localCanon : AllHeldCanon (w .locals) count
-  pub room : 1_024 ≤ length (w .operands)
+  pub room : operandsSize ≤ length (w .operands)
   pub canon : AllCanon (w .operands) (st .base + st .height)
-  pub high : st .base + st .height ≤ 512
+  pub high : st .base + st .height ≤ mostOperands
 
 -- an instruction that opens a block of that kind
 pub data Opened (s : List ℕ) (kind at next : ℕ) : Type 0 where
-  a-block : {rs : List Val} → kind ≡ 1 → instrAt s at ≡ got (block rs) next → Opened s kind at next
-  a-loop : {rs : List Val} → kind ≡ 2 → instrAt s at ≡ got (loop rs) next → Opened s kind at next
+  a-block : {rs : List Val} → kind ≡ openedBlock → instrAt s at ≡ got (block rs) next → Opened s kind at next
+  a-loop : {rs : List Val} → kind ≡ openedLoop → instrAt s at ≡ got (loop rs) next → Opened s kind at next
 
 -- a place that is reached from a first one by reading, from where on the matching ends are kept
 pub record Charted (s ends : List ℕ) (at : ℕ) : Type 0 where
@@ -117,18 +124,18 @@ pub record Charted (s ends : List ℕ) (at : ℕ) : Type 0 where
 pub data Nested (s ends blocks : List ℕ) : ℕ → Code → Type 0 where
   outermost : {code : Code} → Nested s ends blocks 0 code
   inside : {d next : ℕ} {code : Code}
-      → Charted s ends (blockWord blocks d 1)
-      → Opened s (blockWord blocks d 0) (blockWord blocks d 1) next
-      → lower blocks d ≤ blockWord blocks d 2
-      → past 1 code ≡ codeAt s (getD ends (blockWord blocks d 1) 0)
-      → Nested s ends blocks d (codeAt s (getD ends (blockWord blocks d 1) 0))
+      → Charted s ends (blockWord blocks d placeWord)
+      → Opened s (blockWord blocks d kindWord) (blockWord blocks d placeWord) next
+      → lower blocks d ≤ blockWord blocks d belowWord
+      → past 1 code ≡ codeAt s (getD ends (blockWord blocks d placeWord) 0)
+      → Nested s ends blocks d (codeAt s (getD ends (blockWord blocks d placeWord) 0))
       → Nested s ends blocks (suc d) code
 
 -- the open blocks at a place
 pub record Framed (s ends blocks : List ℕ) (st : Stage) : Type 0 where
-  pub short : length s ≤ 32_768
-  pub room : 189 ≤ length blocks
-  pub deep : st .depth ≤ 63
+  pub short : length s ≤ mostBytes
+  pub room : blocksSize ≤ length blocks
+  pub deep : st .depth ≤ mostBlocks
   pub base : st .base ≡ lower blocks (st .depth)
   pub charted : Charted s ends (st .place)
   pub nested : Nested s ends blocks (st .depth) (codeAt s (st .place))
@@ -137,8 +144,8 @@ pub record Orderly (s ends : List ℕ) (count : ℕ) (w : Words) (st : Stage) : 
   pub valued : Valued count w st
   pub framed : Framed s ends (w .blocks) st
 
--- when the run is done: no block is open, and the operands are the results
-pub record Closed (s : List ℕ) (st : Stage) : Type 0 where
+-- when the run is over: no block is open, and the operands are the results
+pub record Over (s : List ℕ) (st : Stage) : Type 0 where
   pub place : st .place ≡ length s
   pub base : st .base ≡ 0
   pub depth : st .depth ≡ 0

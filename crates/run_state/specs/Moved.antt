@@ -5,6 +5,7 @@ use mathlib.Core.Bool.{true}
 use mathlib.Core.Option.{Option, some}
 use mathlib.Core.List.{List, [], _∷_, _++_, map, reverse}
 use lib.ListN.{length, getElem?, set, take, drop}
+use Rattle.scope.specs.Sizes.{mostOperands, mostBlocks}
 use Rattle.scope.specs.Reading.{given}
 use Rattle.scope.specs.BodyRules.{holdsOf}
 use Rattle.scope.specs.Machine.{Value, object, Object, Machine, Program, Outcome, goes, ends, traps, stuck, withOperands, withHeap, withLocals, withField, hasRoom, finish, branch}
@@ -17,7 +18,7 @@ use Rattle.run_state.specs.declared.Move.{Move}
 use Rattle.run_state.specs.declared.Move
 use Rattle.run_state.specs.declared.Stepped.{Stepped}
 use Rattle.run_state.specs.declared.Stepped
-use Rattle.run_state.specs.Machines.{Words, machineAt, Valued, Orderly, Closed}
+use Rattle.run_state.specs.Machines.{Words, machineAt, Valued, Orderly, Over}
 
 -- one more object, and a reference to it on those operands
 abbrev pub withObject : Machine → ℕ → Option ℕ → List Value → List Value → Machine
@@ -50,8 +51,8 @@ moved p codes m Move.the-variants.Returns = finish p m (m .operands)
 -- an operand names an object that is not there.
 pub data Astray (m : Machine) : Outcome → Type 0 where
   is-stuck : Astray m stuck
-  too-high : {later : Machine} → 512 < length (allOperands later) → Astray m (goes later)
-  too-deep : {later : Machine} → 63 < length (later .blocks) → Astray m (goes later)
+  too-high : {later : Machine} → mostOperands < length (allOperands later) → Astray m (goes later)
+  too-deep : {later : Machine} → mostBlocks < length (later .blocks) → Astray m (goes later)
   dangling : {want : Outcome} (i o : ℕ) → getElem? (m .operands) i ≡ some (object o) → length (m .heap) ≤ o → Astray m want
 
 -- what a move can be carried out with
@@ -112,5 +113,5 @@ pub record StepIs (s ends : List ℕ) (count : ℕ) (w w′ : Words) (m : Machin
   pub astray : r ≡ Stepped.the-variants.Astray → Astray m want
   pub orderly : (st : Stage) → r ≡ Stepped.the-variants.Goes st → Orderly s ends count w′ st
   pub valued : (st : Stage) → r ≡ Stepped.the-variants.Ends st → Valued count w′ st
-  pub closed : (st : Stage) → r ≡ Stepped.the-variants.Ends st → Closed s st
+  pub over : (st : Stage) → r ≡ Stepped.the-variants.Ends st → Over s st
   pub same : (number : ℕ) → r ≡ Stepped.the-variants.Traps number → w′ ≡ w

@@ -7,6 +7,7 @@ use lib.ListN.{length, drop}
 use lib.Dec.{eqb}
 use Rattle.scope.specs.Instructions.{Op}
 use Rattle.scope.specs.Machine.{Value, Machine, Program, doOp}
+use Rattle.run_values.specs.Layout.{nullKind, objectKind}
 use Rattle.type_table.specs.View.{view}
 use Rattle.run_values.specs.Values.{heldFrom, Canon, AllCanon, AllHeldCanon}
 use Rattle.run_heap.specs.Heap.{storeAt, Kept}
@@ -19,11 +20,11 @@ use Rattle.run_state.specs.declared.Reference.{Reference}
 use Rattle.run_state.specs.declared.Reference
 use Rattle.run_state.specs.Moved.{MoveIs}
 
--- 5 null, 6 an object; a number is no reference
+-- null or an object; a number is no reference
 unfoldable pub referenceAt : Topmost → Reference
 referenceAt Topmost.the-variants.Nothing = Reference.the-variants.Wrong
 referenceAt (Topmost.the-variants.Is k n) =
-    cond (eqb k 5) Reference.the-variants.Null (cond (eqb k 6) (Reference.the-variants.To n) Reference.the-variants.Wrong)
+    cond (eqb k nullKind) Reference.the-variants.Null (cond (eqb k objectKind) (Reference.the-variants.To n) Reference.the-variants.Wrong)
 
 -- the topmost of these operands
 pub record Seen (vs : List Value) (t : Topmost) : Type 0 where

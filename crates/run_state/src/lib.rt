@@ -1,25 +1,16 @@
 // Where a trial run stands: a few numbers by value, and the words of its memory. Each answer is what the words say
 // (specs/Machines.antt), for any words. What an instruction comes to is told as a move (specs/Moved.antt).
 use run_stack::Topmost;
+use run_values::layout;
+use scope::sizes;
 ghost use mathlib.Core.Path.{_≡_};
 ghost use Prim.Native.Nat.{_+_, _*_};
+ghost use lib.Dec.{leb};
+ghost use Rattle.scope.specs.Sizes.{mostOperands};
+ghost use Rattle.scope.specs.Layout.{blockSpan};
 ghost use Rattle.lent_u16.specs.Words.{WordAt};
-ghost use Rattle.run_state.specs.Machines.{lower};
+ghost use Rattle.run_state.specs.Machines.{lower, startStage, atHeight};
 ghost use Rattle.run_state.specs.Planned.{referenceAt};
-
-// The words of an open block: 1 a block, 2 a loop; the place of its instruction; how many operands lie below it.
-pub const BLOCK: u64 = 3;
-
-pub const KIND: u8 = 0;
-
-pub const PLACE: u8 = 1;
-
-pub const BELOW: u8 = 2;
-
-// "512 operands in all frames", "64 frames, the function's own counted".
-pub const MOST_OPERANDS: u64 = 512;
-
-pub const MOST_BLOCKS: u32 = 63;
 
 // The place of the next instruction; how many objects and cells there are; how many operands lie below the innermost frame,
 // and how many in it; how many blocks are open.
@@ -30,6 +21,42 @@ pub struct Stage {
     pub base: u32,
     pub height: u32,
     pub depth: u32,
+}
+
+// Before the first step, at the place of the first instruction: no object, no operand, no open block.
+pub fn start(first: usize) -> Stage
+    ensures { λ r. ⌜ r ≡ startStage first ⌝ }
+{
+    Stage {
+        place: first,
+        objects: 0,
+        cells: 0,
+        base: 0,
+        height: 0,
+        depth: 0,
+    }
+}
+
+// The stage with so many operands in the innermost frame.
+pub fn at_height(stage: Stage, left: u32) -> Stage
+    ensures { λ r. ⌜ r ≡ atHeight stage left ⌝ }
+{
+    Stage {
+        place: stage.place,
+        objects: stage.objects,
+        cells: stage.cells,
+        base: stage.base,
+        height: left,
+        depth: stage.depth,
+    }
+}
+
+// Whether there is no room for one more operand on so many of the innermost frame.
+pub fn is_full(stage: Stage, left: u32) -> bool
+    ensures { λ r. ⌜ r ≡ leb mostOperands (stage .base + left) ⌝ }
+{
+    let base = stage.base;
+    sizes::MOST_OPERANDS <= base as u64 + left as u64
 }
 
 // What an instruction inside its block comes to. The first number says how many operands it takes from the top; a value is
@@ -58,13 +85,6 @@ pub enum Stepped {
     Astray,
 }
 
-// The kinds of values that moves are told by: i32, null and an object.
-pub const I32: u64 = 1;
-
-pub const NULL: u64 = 5;
-
-pub const OBJECT: u64 = 6;
-
 // What an operand is as a reference: missing or a number; null; an object by its number.
 pub enum Reference {
     Wrong,
@@ -78,10 +98,10 @@ pub fn reference_of(top: Topmost) -> Reference
     match top {
         Topmost::Nothing => Reference::Wrong,
         Topmost::Is(kind, bits) => {
-            if kind == NULL {
+            if kind == layout::NULL {
                 return Reference::Null;
             }
-            if kind == OBJECT {
+            if kind == layout::OBJECT {
                 return Reference::To(bits);
             }
             Reference::Wrong
@@ -91,9 +111,9 @@ pub fn reference_of(top: Topmost) -> Reference
 
 // A word of an open block; the outermost is 0.
 pub fn block_word(blocks: &[u16], d: u32, k: u8) -> u64
-    ensures { λ r. ⌜ WordAt (now (blocks .entry)) (3 * d + k) r ⌝ }
+    ensures { λ r. ⌜ WordAt (now (blocks .entry)) (blockSpan * d + k) r ⌝ }
 {
-    lent_u16::word(blocks, BLOCK * d as u64 + k as u64)
+    lent_u16::word(blocks, sizes::BLOCK * d as u64 + k as u64)
 }
 
 // How many operands lie below the frame in which so many blocks are open.
@@ -103,6 +123,6 @@ pub fn lower_of(blocks: &[u16], depth: u32) -> u32
     if depth == 0 {
         return 0;
     }
-    let below = block_word(blocks, depth - 1, BELOW);
+    let below = block_word(blocks, depth - 1, layout::BELOW);
     below as u32
 }

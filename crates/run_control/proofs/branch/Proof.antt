@@ -1,6 +1,6 @@
--- `control::branch` meets its contract.
+-- `run_control::branch` meets its contract.
 use borrow.Author.Needs.{needs}
-use Rattle.run_control.proofs.Leaving.{branch-exits}
+use Rattle.run_control.proofs.Branching.{branch-exits}
 use Rattle.run_control.proofs.branch.Statement.{statement}
 use Rattle.run_control.proofs.branch.Tie as tie
 
@@ -31,8 +31,8 @@ cast-d c = search (branch-exits, needs)
 sub-d-2 : tie.Need-sub-d-2
 sub-d-2 c = search (branch-exits, needs)
 
-leave-requires : tie.Need-leave-requires
-leave-requires c κs = search (branch-exits, needs)
+branch-to-requires : tie.Need-branch-to-requires
+branch-to-requires c κs = search (branch-exits, needs)
 
 same-length-2 : tie.Need-same-length-2
 same-length-2 c = search (branch-exits, needs)
@@ -53,6 +53,6 @@ branch-spec =
     sub-d
     cast-d
     sub-d-2
-    leave-requires
+    branch-to-requires
     same-length-2
     returns-3)

@@ -1,4 +1,4 @@
--- `control::close` meets its contract.
+-- `run_control::close` meets its contract.
 use borrow.Author.Needs.{needs}
 use Rattle.run_control.proofs.Ending.{close-exits}
 use Rattle.run_control.proofs.close.Statement.{statement}

@@ -1,4 +1,4 @@
--- `control::finish` meets its contract.
+-- `run_control::finish` meets its contract.
 use borrow.Author.Needs.{needs}
 use Rattle.run_control.proofs.Ending.{finish-exits}
 use Rattle.run_control.proofs.finish.Statement.{statement}

@@ -1,4 +1,4 @@
--- `control::open` meets its contract.
+-- `run_control::open` meets its contract.
 use borrow.Author.Needs.{needs}
 use Rattle.run_control.proofs.Opening.{open-exits}
 use Rattle.run_control.proofs.open.Statement.{statement}

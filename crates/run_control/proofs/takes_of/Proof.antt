@@ -1,6 +1,6 @@
--- `control::takes_of` meets its contract.
+-- `run_control::takes_of` meets its contract.
 use borrow.Author.Needs.{needs}
-use Rattle.run_control.proofs.Leaving.{takes-exits}
+use Rattle.run_control.proofs.Outward.{takes-exits}
 use Rattle.run_control.proofs.takes_of.Statement.{statement}
 use Rattle.run_control.proofs.takes_of.Tie as tie
 

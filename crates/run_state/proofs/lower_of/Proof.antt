@@ -1,4 +1,4 @@
--- `stage::lower_of` meets its contract.
+-- `run_state::lower_of` meets its contract.
 use borrow.Author.Needs.{needs}
 use Rattle.run_state.proofs.Lowest.{lower-exits}
 use Rattle.run_state.proofs.lower_of.Statement.{statement}

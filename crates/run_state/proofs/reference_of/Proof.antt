@@ -1,4 +1,4 @@
--- `stage::reference_of` meets its contract.
+-- `run_state::reference_of` meets its contract.
 use borrow.Author.Needs.{needs}
 use Rattle.run_state.proofs.Tops.{reference-exits}
 use Rattle.run_state.proofs.reference_of.Statement.{statement}
