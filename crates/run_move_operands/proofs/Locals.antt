@@ -14,7 +14,7 @@ use Rattle.run_stack.specs.declared.Topmost
 use Rattle.run_stack.specs.declared.HeldLocal.{HeldLocal}
 use Rattle.run_stack.specs.declared.HeldLocal
 use Rattle.run_stack.specs.Pile.{LocalIs}
-use Rattle.run_stack.proofs.Held.{local-there, local-past, locals-length, local-missed, local-empty, local-got}
+use Rattle.run_stack.proofs.Held.{local-there, local-none, locals-length, local-missed, local-empty, local-got}
 use Rattle.run_state.specs.declared.Move
 use Rattle.run_state.specs.Planned.{LocalPlans}
 use Rattle.run_state.proofs.Tops.{on-top, on-none, top-low, value-top, no-top}
@@ -45,13 +45,13 @@ module _ {locals : List ℕ} {count x : ℕ} {first : Topmost} {r : HeldLocal} (
 
 module _ (locals : List ℕ) {count x : ℕ} (m : Machine) (same : m .locals ≡ heldFrom locals 0 count) (v : Value) (f : Machine → Outcome) where
   set-past : count ≤ x → onSet m x v f ≡ stuck
-  set-past h = let past : getElem? (m .locals) x ≡ none = rw same (local-past locals count x h) in rw past
+  set-past h = let past : getElem? (m .locals) x ≡ none = rw same (local-none locals count x h) in rw past
 
   set-there : x < count → onSet m x v f ≡ f (withLocals m (set (m .locals) x (some v)))
   set-there h = let there = ap (λ (l : List (Option Value)). getElem? l x) same ∙ local-there locals count x h in rw there
 
-local-within : (locals : List ℕ) {count x : ℕ} (m : Machine) → m .locals ≡ heldFrom locals 0 count → x < count → x < length (m .locals)
-local-within locals {count} m same h = rw (same, locals-length locals count) h
+local-inside : (locals : List ℕ) {count x : ℕ} (m : Machine) → m .locals ≡ heldFrom locals 0 count → x < count → x < length (m .locals)
+local-inside locals {count} m same h = rw (same, locals-length locals count) h
 
 module _ {locals : List ℕ} {count : ℕ} {first : Topmost} (x : ℕ) where
   pub set-nothing : first ≡ Topmost.the-variants.Nothing → LocalPlans locals count first (local-set x) Move.the-variants.Astray
@@ -81,7 +81,7 @@ module _ {locals : List ℕ} {count : ℕ} {first : Topmost} (x : ℕ) where
               setting-local 1 x k b
               (on-top (m .operands) (value-top top e) _ ∙ set-there locals m same (valueAt k b) (λ after. goes (withOperands after (drop 1 (m .operands)))) h)
               (top-low (m .operands) (value-top top e))
-              (local-within locals m same h)
+              (local-inside locals m same h)
               (top .canon k b e);
         }
 
@@ -93,7 +93,7 @@ module _ {locals : List ℕ} {count : ℕ} {first : Topmost} (x : ℕ) where
               setting-local 0 x k b
               (on-top (m .operands) (value-top top e) _ ∙ set-there locals m same (valueAt k b) goes h)
               (omega arith)
-              (local-within locals m same h)
+              (local-inside locals m same h)
               (top .canon k b e);
         }
 

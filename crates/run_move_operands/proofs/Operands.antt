@@ -10,10 +10,12 @@ use lib.ListN.{drop}
 use lib.Seq.{drop-drop}
 use lib.Dec.{eqb}
 use borrow.Author.Tests.{eqb-true, eqb-false, eq-eqb, ne-eqb}
+use Rattle.scope.specs.Refusals.{trapNull}
 use Rattle.scope.specs.Syntax.{i32, i64, f32, f64}
 use Rattle.scope.specs.Instructions.{drop-value, br-if, ref-is-null, ref-eq, ref-as-non-null}
 use Rattle.scope.specs.Machine.{Value, number, null, object, Machine, Program, Outcome, goes, stuck, onI32, onTaken, onReference, truth, sameReference, withOperands, doOp}
 use Rattle.scope.proofs.Truths.{decided}
+use Rattle.run_values.specs.Layout.{i32Kind, nullKind, objectKind}
 use Rattle.run_values.specs.Values.{valueAt, Canon}
 use Rattle.run_values.proofs.Laws.{value-null, value-object, value-number, value-of-code, canon-kind}
 use Rattle.run_stack.specs.declared.Topmost.{Topmost}
@@ -51,15 +53,15 @@ other-number false false b f = refl
 
 -- kind 0, which would be read as i32 too, is no value's
 no-i32 : (k b : ℕ) → Canon k b → (k ≡ 1 → ⊥) → (f : ℕ → Outcome) → onI32 (valueAt k b) f ≡ stuck
-no-i32 k b c n f = go (decided (eqb k 5)) (decided (eqb k 6))
+no-i32 k b c n f = go (decided (eqb k nullKind)) (decided (eqb k objectKind))
   where
-    go : (eqb k 5 ≡ true) ⊎ (eqb k 5 ≡ false) → (eqb k 6 ≡ true) ⊎ (eqb k 6 ≡ false) → onI32 (valueAt k b) f ≡ stuck
-    go (inl h) l = rw (value-null {k = k} b (eqb-true k 5 h)) refl
-    go (inr h) (inl l) = rw (value-object {k = k} b (eqb-true k 6 l)) refl
+    go : (eqb k nullKind ≡ true) ⊎ (eqb k nullKind ≡ false) → (eqb k objectKind ≡ true) ⊎ (eqb k objectKind ≡ false) → onI32 (valueAt k b) f ≡ stuck
+    go (inl h) l = rw (value-null {k = k} b (eqb-true k nullKind h)) refl
+    go (inr h) (inl l) = rw (value-object {k = k} b (eqb-true k objectKind l)) refl
     go (inr h) (inr l) =
         let kind = canon-kind c in
         let more : k - 1 ≡ 0 → ⊥ = λ e. omega (arith, n, kind) in
-        rw (value-number {k = k} b (eqb-false k 5 h) (eqb-false k 6 l), ne-eqb (k - 1) 0 more) (other-number (eqb (k - 1) 1) (eqb (k - 1) 2) b f)
+        rw (value-number {k = k} b (eqb-false k nullKind h) (eqb-false k objectKind l), ne-eqb (k - 1) 0 more) (other-number (eqb (k - 1) 1) (eqb (k - 1) 2) b f)
 
 module _ {first second : Topmost} (label : ℕ) where
   pub branch-nothing : first ≡ Topmost.the-variants.Nothing → TopPlans first second (br-if label) Move.the-variants.Astray
@@ -98,7 +100,7 @@ module _ {first second : Topmost} {r : Reference} (is : r ≡ referenceAt first)
   unfolding doOp
   is-null-wrong e = record { is = λ p codes m top next. strays (wrong-top top is e _) }
 
-  pub is-null-null : r ≡ Reference.the-variants.Null → TopPlans first second ref-is-null (Move.the-variants.Gives 1 1 1)
+  pub is-null-null : r ≡ Reference.the-variants.Null → TopPlans first second ref-is-null (Move.the-variants.Gives 1 i32Kind 1)
   unfolding doOp
   is-null-null e =
       record {
@@ -106,7 +108,7 @@ module _ {first second : Topmost} {r : Reference} (is : r ≡ referenceAt first)
             let head = null-top top is e in giving-i32 1 1 (on-top (m .operands) head _) (top-low (m .operands) head);
       }
 
-  pub is-null-object : {o : ℕ} → r ≡ Reference.the-variants.To o → TopPlans first second ref-is-null (Move.the-variants.Gives 1 1 0)
+  pub is-null-object : {o : ℕ} → r ≡ Reference.the-variants.To o → TopPlans first second ref-is-null (Move.the-variants.Gives 1 i32Kind 0)
   unfolding doOp
   is-null-object e =
       record {
@@ -118,11 +120,11 @@ module _ {first second : Topmost} {r : Reference} (is : r ≡ referenceAt first)
   unfolding doOp
   as-non-null-wrong e = record { is = λ p codes m top next. strays (wrong-top top is e _) }
 
-  pub as-non-null-null : r ≡ Reference.the-variants.Null → TopPlans first second ref-as-non-null (Move.the-variants.Traps 42)
+  pub as-non-null-null : r ≡ Reference.the-variants.Null → TopPlans first second ref-as-non-null (Move.the-variants.Traps trapNull)
   unfolding doOp
   as-non-null-null e = record { is = λ p codes m top next. trapping (on-top (m .operands) (null-top top is e) _) }
 
-  pub as-non-null-object : {o : ℕ} → r ≡ Reference.the-variants.To o → TopPlans first second ref-as-non-null (Move.the-variants.Gives 1 6 o)
+  pub as-non-null-object : {o : ℕ} → r ≡ Reference.the-variants.To o → TopPlans first second ref-as-non-null (Move.the-variants.Gives 1 objectKind o)
   unfolding doOp
   as-non-null-object {o} e =
       record {
@@ -153,7 +155,7 @@ module _ (p : Program) (codes : List ℕ) (m : Machine) (x : Option ℕ) (top : 
 
   eq-told :
       (y : Option ℕ) {b : ℕ} → headOf (drop 1 (m .operands)) ≡ some (refer y) → cond (sameReference x y) 1 0 ≡ b
-      → MoveIs p codes m (doOp p m (m .operands) ref-eq) (Move.the-variants.Gives 2 1 b)
+      → MoveIs p codes m (doOp p m (m .operands) ref-eq) (Move.the-variants.Gives 2 i32Kind b)
   eq-told y {b} next e =
       giving-i32 2 b
       (eq-next
@@ -171,25 +173,25 @@ module _ {first second : Topmost} {one other : Reference} (a : one ≡ reference
     pub eq-null-wrong : other ≡ Reference.the-variants.Wrong → TopPlans first second ref-eq Move.the-variants.Astray
     eq-null-wrong f = record { is = λ p codes m top next. eq-missing p codes m none (null-top top a e) next b f }
 
-    pub eq-null-null : other ≡ Reference.the-variants.Null → TopPlans first second ref-eq (Move.the-variants.Gives 2 1 1)
+    pub eq-null-null : other ≡ Reference.the-variants.Null → TopPlans first second ref-eq (Move.the-variants.Gives 2 i32Kind 1)
     eq-null-null f = record { is = λ p codes m top next. eq-told p codes m none (null-top top a e) none (null-top next b f) refl }
 
-    pub eq-null-object : {q : ℕ} → other ≡ Reference.the-variants.To q → TopPlans first second ref-eq (Move.the-variants.Gives 2 1 0)
+    pub eq-null-object : {q : ℕ} → other ≡ Reference.the-variants.To q → TopPlans first second ref-eq (Move.the-variants.Gives 2 i32Kind 0)
     eq-null-object {q} f = record { is = λ p codes m top next. eq-told p codes m none (null-top top a e) (some q) (object-top next b f) refl }
 
   module _ {o : ℕ} (e : one ≡ Reference.the-variants.To o) where
     pub eq-object-wrong : other ≡ Reference.the-variants.Wrong → TopPlans first second ref-eq Move.the-variants.Astray
     eq-object-wrong f = record { is = λ p codes m top next. eq-missing p codes m (some o) (object-top top a e) next b f }
 
-    pub eq-object-null : other ≡ Reference.the-variants.Null → TopPlans first second ref-eq (Move.the-variants.Gives 2 1 0)
+    pub eq-object-null : other ≡ Reference.the-variants.Null → TopPlans first second ref-eq (Move.the-variants.Gives 2 i32Kind 0)
     eq-object-null f = record { is = λ p codes m top next. eq-told p codes m (some o) (object-top top a e) none (null-top next b f) refl }
 
     module _ {q : ℕ} (f : other ≡ Reference.the-variants.To q) where
-      pub eq-same : o ≡ q → TopPlans first second ref-eq (Move.the-variants.Gives 2 1 1)
+      pub eq-same : o ≡ q → TopPlans first second ref-eq (Move.the-variants.Gives 2 i32Kind 1)
       eq-same h =
           record { is = λ p codes m top next. eq-told p codes m (some o) (object-top top a e) (some q) (object-top next b f) (rw (eq-eqb o q h)) }
 
-      pub eq-other : (o ≡ q → ⊥) → TopPlans first second ref-eq (Move.the-variants.Gives 2 1 0)
+      pub eq-other : (o ≡ q → ⊥) → TopPlans first second ref-eq (Move.the-variants.Gives 2 i32Kind 0)
       eq-other h =
           record { is = λ p codes m top next. eq-told p codes m (some o) (object-top top a e) (some q) (object-top next b f) (rw (ne-eqb o q h)) }
 

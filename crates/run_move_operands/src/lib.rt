@@ -1,15 +1,13 @@
 // The moves of the instructions that look only at operands and locals.
 use run_stack::HeldLocal;
 use run_stack::Topmost;
-use run_state::I32;
 use run_state::Move;
-use run_state::OBJECT;
 use run_state::Reference;
+use run_values::layout::I32;
+use run_values::layout::OBJECT;
+use scope::traps;
 ghost use Rattle.scope.specs.Instructions.{drop-value, br-if, local-get, local-set, local-tee, ref-is-null, ref-eq, ref-as-non-null};
 ghost use Rattle.run_state.specs.Planned.{TopPlans, LocalPlans};
-
-// The trap of ref.as_non_null.
-const TRAP_NULL: u64 = 42;
 
 // drop
 pub fn drop_move(first: Topmost, second: Topmost) -> Move
@@ -126,7 +124,7 @@ pub fn as_non_null_move(first: Topmost, second: Topmost) -> Move
     let reference = run_state::reference_of(first);
     match reference {
         Reference::Wrong => Move::Astray,
-        Reference::Null => Move::Traps(TRAP_NULL),
+        Reference::Null => Move::Traps(traps::NULL),
         Reference::To(o) => Move::Gives(1, OBJECT, o),
     }
 }

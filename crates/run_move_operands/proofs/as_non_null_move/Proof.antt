@@ -1,4 +1,4 @@
--- `top_moves::as_non_null_move` meets its contract.
+-- `run_move_operands::as_non_null_move` meets its contract.
 use borrow.Author.Needs.{needs}
 use Rattle.run_move_operands.proofs.Operands.{operand-exits}
 use Rattle.run_move_operands.proofs.as_non_null_move.Statement.{statement}

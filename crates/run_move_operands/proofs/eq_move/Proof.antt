@@ -1,4 +1,4 @@
--- `top_moves::eq_move` meets its contract.
+-- `run_move_operands::eq_move` meets its contract.
 use borrow.Author.Needs.{needs}
 use Rattle.run_move_operands.proofs.Operands.{eq-exits}
 use Rattle.run_move_operands.proofs.eq_move.Statement.{statement}

@@ -1,4 +1,4 @@
--- `top_moves::set_move` meets its contract.
+-- `run_move_operands::set_move` meets its contract.
 use borrow.Author.Needs.{needs}
 use Rattle.run_move_operands.proofs.Locals.{local-exits}
 use Rattle.run_move_operands.proofs.set_move.Statement.{statement}

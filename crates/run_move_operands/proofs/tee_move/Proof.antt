@@ -1,4 +1,4 @@
--- `top_moves::tee_move` meets its contract.
+-- `run_move_operands::tee_move` meets its contract.
 use borrow.Author.Needs.{needs}
 use Rattle.run_move_operands.proofs.Locals.{local-exits}
 use Rattle.run_move_operands.proofs.tee_move.Statement.{statement}
