@@ -1,0 +1,2 @@
+// What a refusal says: its number, its place, and that it is the first fault. No code: specs/ has the statements, proofs/
+// proves them.
