@@ -1,2 +1,5 @@
 pub mod Reading
 pub mod Sections
+pub mod Judged
+pub mod Asked
+pub mod Faulty

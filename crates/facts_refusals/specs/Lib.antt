@@ -1,2 +1,4 @@
 pub mod Numbers
 pub mod Sections
+pub mod Instructions
+pub mod Bodies
