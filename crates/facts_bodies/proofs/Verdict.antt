@@ -53,7 +53,7 @@ form-function : (form : Form) {f : Function} → functionOf form ≡ some f → 
 form-function (struct fs) e = absurd (none-is-not-some e)
 form-function (func ps rs) e = ap (λ (g : Function). func (g .parameters) (g .results)) (same-some e)
 
-found-function : (ds : List Definition) (x : ℕ) {f : Function} → functionOf (typesOf ds x .form) ≡ some f → FunctionType ds x f
+pub found-function : (ds : List Definition) (x : ℕ) {f : Function} → functionOf (typesOf ds x .form) ≡ some f → FunctionType ds x f
 found-function [] x e = absurd (none-is-not-some e)
 found-function (d ∷ ds) zero e = record { definition = d; present = refl; form = form-function (d .form) e }
 found-function (d ∷ ds) (suc x) e =
@@ -65,7 +65,7 @@ present-type [] x e = absurd (none-is-not-some e)
 present-type (d ∷ ds) zero e = same-some e
 present-type (d ∷ ds) (suc x) e = present-type ds x e
 
-function-found : (ds : List Definition) (x : ℕ) {f : Function} → FunctionType ds x f → functionOf (typesOf ds x .form) ≡ some f
+pub function-found : (ds : List Definition) (x : ℕ) {f : Function} → FunctionType ds x f → functionOf (typesOf ds x .form) ≡ some f
 function-found ds x t = rw (present-type ds x (t .present), t .form)
 
 -- bodies

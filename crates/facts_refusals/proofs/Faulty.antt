@@ -219,14 +219,14 @@ module _ (c : Context) (st : State) (ordered : Ordered (c .types)) where
 
 -- the walk
 
-refused-one : {A : Type 0} {n p k q : ℕ} → _≡_ {A = Read A} (refused n p) (refused k q) → (n ≡ k) × (p ≡ q)
+pub refused-one : {A : Type 0} {n p k q : ℕ} → _≡_ {A = Read A} (refused n p) (refused k q) → (n ≡ k) × (p ≡ q)
 refused-one e = (cc, cc)
 
 -- a refusal is the same whatever was to be read
-as-refused : {A B : Type 0} {n p k q : ℕ} → _≡_ {A = Read A} (refused n p) (refused k q) → _≡_ {A = Read B} (refused n p) (refused k q)
+pub as-refused : {A B : Type 0} {n p k q : ℕ} → _≡_ {A = Read A} (refused n p) (refused k q) → _≡_ {A = Read B} (refused n p) (refused k q)
 as-refused e = let (a, b) = refused-one e in rw (a, b)
 
-got-is-not-refused : {A : Type 0} {x : A} {next n p : ℕ} → got x next ≡ refused n p → ⊥
+pub got-is-not-refused : {A : Type 0} {x : A} {next n p : ℕ} → got x next ≡ refused n p → ⊥
 got-is-not-refused e = contradiction cc
 
 module _ (c : Context) (ordered : Ordered (c .types)) (s : List ℕ) where

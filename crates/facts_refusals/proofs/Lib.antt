@@ -3,3 +3,5 @@ pub mod Sections
 pub mod Judged
 pub mod Asked
 pub mod Faulty
+pub mod Bodies
+pub mod Places

@@ -36,7 +36,7 @@ unwritten-refused s no-list = go (readSection s) refl
     go (refused n p) e = (n, p, e)
     go (got gs end) e = let found = section-found s e in absurd (no-list gs (found .writes) (found .sizes))
 
-heeded : {A : Type 0} {hi n p : ℕ} {r : Read A} → Heeds hi r → r ≡ refused n p → ByteFault n × (p ≤ hi)
+pub heeded : {A : Type 0} {hi n p : ℕ} {r : Read A} → Heeds hi r → r ≡ refused n p → ByteFault n × (p ≤ hi)
 heeded {n = n} {p} (refuses {n = k} {p = q} fault inside) e =
     let same : k ≡ n = cc in
     let there : q ≡ p = cc in

@@ -3,25 +3,29 @@
 -- premises of the rules of facts_bodies; an instruction that keeps all of its own is derivable.
 use Prim.Native.Nat.{ℕ, suc, _+_, _≤_, _<_}
 use mathlib.Core.Path.{_≡_}
+use mathlib.Core.Logic.{_↔_}
 use mathlib.Core.Bool.{Bool, true, false}
-use mathlib.Core.List.{List, [], _∷_, _++_}
+use mathlib.Core.List.{List, [], _∷_, _++_, map}
 use lib.ListN.{length}
 use Rattle.scope.specs.Sizes.{mostBytes, mostFrames, mostLocals}
 use Rattle.scope.specs.Refusals.{badOperand, valuesLeft, oversize, outOfReach, notAFunction, leftOver}
 use Rattle.scope.specs.Reading.{got, refused}
 use Rattle.scope.specs.Numbers.{u32}
-use Rattle.scope.specs.Syntax.{Val, Definition}
+use Rattle.scope.specs.Syntax.{Val, Definition, Types}
+use Rattle.scope.specs.Order.{ValOrder, valBelow}
 use Rattle.scope.specs.Sections.{valAt}
 use Rattle.scope.specs.Judging.{accepted, rejected, judgeSection}
 use Rattle.scope.specs.Instructions.{Op, Instr, block, loop, end, op, instrAt}
-use Rattle.scope.specs.BodyRules.{Context, Plan, fromTop}
-use Rattle.scope.specs.Bodies.{Operand, Frame, ofBlock, ofLoop, State, scopeOf, goesOn, Function, startState, contextOf}
+use Rattle.scope.specs.BodyRules.{Context, Plan, fault, fromTop}
+use Rattle.scope.specs.Bodies.{Operand, Frame, ofBlock, ofLoop, State, scopeOf, goesOn, judgeInstr, Function, startState, contextOf, judgeBody}
 use Rattle.facts_sections.specs.FirstFault.{FirstBroken}
 use Rattle.facts_sections.specs.FirstFault as rules
 use Rattle.facts_bodies.specs.Premises.{Each, ValReached, Takes, Puts}
 use Rattle.facts_bodies.specs.Rules.{Rule}
 use Rattle.facts_bodies.specs.Typing.{passed, stopped, past, Roomy, Results, TypedInstr, TypedBody, Entry, Locals, EntriesAt, InstrsAt, FunctionType}
-use Rattle.facts_refusals.specs.Instructions.{askedRules}
+use Rattle.facts_refusals.specs.Numbers.{ByteFault, InstructionFault, EntryNumber}
+use Rattle.facts_refusals.specs.Sections.{SaysNo}
+use Rattle.facts_refusals.specs.Instructions.{numberOf, asks, rising, askedRules}
 
 -- 20: operand missing or wrong. What is wanted, the top first, can be taken.
 pub data CanTake (c : Context) (st : State) (vs : List Val) : Type 0 where
@@ -101,3 +105,85 @@ pub record FirstFaulty (c : Context) (start : State) (s : List ℕ) (first numbe
   pub reads : InstrsAt s first before at
   pub derivable : TypedUpTo c start before state
   pub faulty : FaultAt c state s at number place
+
+-- the first faulty locals entry
+
+-- An entry that begins at this place, where so many locals stand before: "the locals entry by entry (bytes, 6, 4)", the last
+-- two at its first byte.
+pub data EntryFault (count : ℕ) (s : List ℕ) (at before : ℕ) : ℕ → ℕ → Type 0 where
+  count-bytes : {number place : ℕ} → u32 s at ≡ refused number place → EntryFault count s at before number place
+  type-bytes : {number place many type : ℕ} → u32 s at ≡ got many type → valAt s type ≡ refused number place → EntryFault count s at before number place
+  type-unreached : {many type next : ℕ} {v : Val} → u32 s at ≡ got many type → valAt s type ≡ got v next
+      → ¬ ValReached count v → EntryFault count s at before outOfReach at
+  too-many : {many type next : ℕ} {v : Val} → u32 s at ≡ got many type → valAt s type ≡ got v next
+      → ValReached count v → mostLocals < before + many → EntryFault count s at before oversize at
+
+-- of n entries from the place `from` on, where so many locals stand before: those before it stand for locals, this one is at
+-- fault
+pub data FaultyEntry (count : ℕ) (s : List ℕ) : ℕ → ℕ → ℕ → ℕ → ℕ → Type 0 where
+  this-entry : {n from before number place : ℕ} → EntryFault count s from before number place → FaultyEntry count s (suc n) from before number place
+  later-entry : {n from before type next number place : ℕ} {e : Entry} → u32 s from ≡ got (e .many) type → valAt s type ≡ got (e .type) next
+      → ValReached count (e .type) → before + e .many ≤ mostLocals → FaultyEntry count s n next (before + e .many) number place
+      → FaultyEntry count s (suc n) from before number place
+
+-- the whole body
+
+-- the section is allowed, the body's size too, and x is the number of a function type
+pub record Begins (section s : List ℕ) (x : ℕ) (ds : List Definition) (f : Function) : Type 0 where
+  pub judged : judgeSection section ≡ accepted ds
+  pub small : length s ≤ mostBytes
+  pub isFunction : FunctionType ds x f
+
+-- and the locals are there: the instructions begin at this place
+pub record LocalsStand (s : List ℕ) (ds : List Definition) (f : Function) (ls : List Val) (first : ℕ) : Type 0 where
+  pub entries : List Entry
+  pub from : ℕ
+  pub counted : u32 s 0 ≡ got (length entries) from
+  pub reads : EntriesAt s from entries first
+  pub locals : Locals (length ds) (length (f .parameters)) entries ls
+
+pub data BodySaysNo (section s : List ℕ) (x : ℕ) : ℕ → ℕ → Type 1 where
+  -- "section,
+  by-section : {number place : ℕ} → judgeSection section ≡ rejected number place → BodySaysNo section s x number place
+  -- body size,
+  by-size : {ds : List Definition} → judgeSection section ≡ accepted ds → mostBytes < length s → BodySaysNo section s x oversize 0
+  -- 27,
+  by-type : {ds : List Definition} → judgeSection section ≡ accepted ds → length s ≤ mostBytes → ((f : Function) → ¬ FunctionType ds x f)
+      → BodySaysNo section s x notAFunction 0
+  -- the locals entry by entry (bytes, 6, 4),
+  by-count : {ds : List Definition} {f : Function} {number place : ℕ} → Begins section s x ds f → u32 s 0 ≡ refused number place
+      → BodySaysNo section s x number place
+  by-locals : {ds : List Definition} {f : Function} {n from number place : ℕ} → Begins section s x ds f → u32 s 0 ≡ got n from
+      → FaultyEntry (length ds) s n from (length (f .parameters)) number place → BodySaysNo section s x number place
+  -- then the first faulty instruction;
+  by-instruction : {ds : List Definition} {f : Function} {ls : List Val} {first number place : ℕ} → Begins section s x ds f
+      → LocalsStand s ds f ls first → FirstFaulty (contextOf ds f ls) (startState f ls) s first number place → BodySaysNo section s x number place
+  -- last, 5"
+  by-rest : {ds : List Definition} {f : Function} {ls : List Val} {is : List Instr} {first stop : ℕ} → Begins section s x ds f
+      → LocalsStand s ds f ls first → InstrsAt s first is stop → TypedBody (contextOf ds f ls) (startState f ls) is → ¬ (stop ≡ length s)
+      → BodySaysNo section s x leftOver stop
+
+-- the order's relation and its test say the same of these types, as they do of an accepted section's
+pub record Ordered (ts : Types) : Type 0 where
+  pub tested : (v w : Val) → ValOrder ts v w → valBelow ts v w ≡ true
+
+-- numbers and places
+
+-- Which numbers, and at which places: those of the section; 4 and 27 at 0; byte faults inside the body or at its length; 6 and 4
+-- at a locals entry's first byte; an instruction's at the first byte of an instruction of the body.
+pub data BodyPlace (section s : List ℕ) (x : ℕ) : ℕ → ℕ → Type 1 where
+  of-section : {number place : ℕ} → SaysNo section number place → BodyPlace section s x number place
+  of-whole-size : BodyPlace section s x oversize 0
+  of-type-number : BodyPlace section s x notAFunction 0
+  of-bytes : {number place : ℕ} → ByteFault number → place ≤ length s → BodyPlace section s x number place
+  of-entry : {number place : ℕ} → EntryNumber number → place ≤ length s → BodyPlace section s x number place
+  of-instruction : {number place next : ℕ} {i : Instr} → InstructionFault number → instrAt s place ≡ got i next → BodyPlace section s x number place
+
+pub record BodyRefusals : Type 1 where
+  -- the no to a body, both ways
+  pub exactly : (section s : List ℕ) (x number place : ℕ) → (judgeBody section s x ≡ rejected number place) ↔ BodySaysNo section s x number place
+  -- "within the instruction the number is the first whose condition fails", over any types whose order is decided by its test
+  pub first : (c : Context) (st : State) → Ordered (c .types) → (i : Instr) (number : ℕ) → (judgeInstr c st i ≡ fault number) ↔ FirstBroken (conditions c st i) number
+  -- the questions of each instruction stand in document 01's order
+  pub inOrder : (o : Op) → rising (map numberOf (asks o)) ≡ true
+  pub places : (section s : List ℕ) (x number place : ℕ) → judgeBody section s x ≡ rejected number place → BodyPlace section s x number place

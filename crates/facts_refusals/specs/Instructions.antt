@@ -1,12 +1,14 @@
 -- What an instruction is asked before its operands, and the number that is said where the answer is no: a row for each
 -- instruction, in document 01's order: "immediates, 6, 21, 23, 24, 25, 29, 22". Each question is a relation, over the same
 -- relations as the rules of facts_bodies; what is carried to a label and what falls through is named as there.
-use Prim.Native.Nat.{ℕ, _<_}
+use Prim.Native.Nat.{ℕ, _+_, _<_}
 use mathlib.Core.Path.{_≡_}
-use mathlib.Core.Bool.{true}
+use mathlib.Core.Bool.{Bool, true, cond, _&&_}
 use mathlib.Core.Option.{Option, none, some}
 use mathlib.Core.List.{List, [], _∷_, _++_, map}
 use lib.ListN.{getElem?}
+use lib.Dec.{eqb, leb}
+use Rattle.scope.specs.Lists.{every}
 use Rattle.scope.specs.Refusals.{outOfReach, absent, badStruct, fieldFixed, badBranch, noDefault, notSet}
 use Rattle.scope.specs.Syntax.{Heap, Val, Field, Form, struct, Types}
 use Rattle.scope.specs.Order.{ValOrder}
@@ -149,3 +151,16 @@ asks (br-on-cast-desc-eq-fail k) = castAsks k (castDescribed (k .target) ∷ [])
 -- the rules of an instruction before its operands
 abbrev pub askedRules : Context → Scope → Op → List Rule
 askedRules c here o = map (ruleOf c here) (asks o)
+
+-- "6, 21, 23, 24, 25, 29, 22": a number's rank in that order
+abbrev pub order : List ℕ
+order = 6 ∷ 21 ∷ 23 ∷ 24 ∷ 25 ∷ 29 ∷ 22 ∷ []
+
+abbrev pub rankIn : List ℕ → ℕ → ℕ
+rankIn [] n = 0
+rankIn (m ∷ ms) n = cond (eqb n m) 0 (rankIn ms n + 1)
+
+-- no number stands before one of a lower rank
+abbrev pub rising : List ℕ → Bool
+rising [] = true
+rising (n ∷ ns) = every (λ m. leb (rankIn order n) (rankIn order m)) ns && rising ns

@@ -34,3 +34,8 @@ pub data InstructionFault : ℕ → Type 0 where
   is-bad-operand : InstructionFault badOperand
   is-values-left : InstructionFault valuesLeft
   is-too-many : InstructionFault oversize
+
+-- of a locals entry: "(bytes, 6, 4)"
+pub data EntryNumber : ℕ → Type 0 where
+  entry-out-of-reach : EntryNumber outOfReach
+  entry-too-many : EntryNumber oversize

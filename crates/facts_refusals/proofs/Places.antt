@@ -1,0 +1,171 @@
+-- The numbers and places of a body's refusals: each case of `BodySaysNo` has its own; readers refuse with byte faults inside
+-- the input or at its length, and an instruction's fault stands at the first byte of an instruction.
+use Prim.Native.Nat.{ℕ, _≤_, _<_}
+use native.Mathlib.Omega.{arith}
+use mathlib.Core.Path.{_≡_, refl}
+use mathlib.Core.Logic.{_↔_}
+use mathlib.Core.Bool.{true}
+use mathlib.Core.List.{List, [], _∷_, _++_, map}
+use lib.ListN.{length}
+use Rattle.scope.specs.Refusals.{badOperand, badStruct, oversize}
+use Rattle.scope.specs.Reading.{Read, got, refused}
+use Rattle.scope.specs.Numbers.{u32}
+use Rattle.scope.specs.Syntax.{Val, Definition}
+use Rattle.scope.specs.Sections.{valAt}
+use Rattle.scope.specs.Instructions.{Op, Instr, block, loop, end, op, unreachable, nop, return, drop-value, br, br-if, local-get, local-set, local-tee, i32-const, ref-null, ref-is-null, ref-eq, ref-as-non-null, struct-new, struct-new-default, struct-get, struct-set, ref-test, ref-cast, br-on-cast, br-on-cast-fail, struct-new-desc, struct-new-default-desc, ref-get-desc, ref-cast-desc-eq, br-on-cast-desc-eq, br-on-cast-desc-eq-fail, instrAt}
+use Rattle.scope.specs.BodyRules.{Context, Scope, fault}
+use Rattle.scope.specs.Bodies.{State, scopeOf, Function, judgeInstr, judgeBody}
+use Rattle.scope.specs.Judging.{rejected}
+use Rattle.scope.proofs.Computes.{computes}
+use Rattle.scope.proofs.Forward.{Takes, never-back, unsigned-takes, val-takes}
+use Rattle.scope.proofs.ForwardBodies.{instr-takes}
+use Rattle.facts_sections.specs.FirstFault as rules
+use Rattle.facts_sections.specs.FirstFault.{FirstBroken, broken, kept-then}
+use Rattle.facts_bodies.specs.Typing.{Entry, EntriesAt, no-entry, next-entry, InstrsAt, no-instr, next-instr}
+use Rattle.facts_bodies.proofs.Premises as premises
+use Rattle.facts_refusals.specs.Numbers.{ByteFault, is-left-over, InstructionFault, type-out-of-reach, is-absent, is-bad-struct, is-field-fixed, is-bad-branch, is-no-default, is-not-set, is-bad-operand, is-values-left, is-too-many, EntryNumber, entry-out-of-reach, entry-too-many}
+use Rattle.facts_refusals.specs.Instructions.{Question, heapsReached, typeReached, labelThere, localThere, isStruct, hasField, noDescriptor, hasDescriptor, castDescribed, fieldMutable, targetMatches, labelHasTypes, labelTakes, allDefaults, localSet, numberOf, ruleOf, asks, rising}
+use Rattle.facts_refusals.specs.Bodies.{conditions, FaultAt, in-bytes, in-instruction, FirstFaulty, EntryFault, count-bytes, type-bytes, type-unreached, too-many, FaultyEntry, this-entry, later-entry, LocalsStand, BodySaysNo, by-section, by-size, by-type, by-count, by-locals, by-instruction, by-rest, Ordered, BodyPlace, of-section, of-whole-size, of-type-number, of-bytes, of-entry, of-instruction, BodyRefusals}
+use Rattle.facts_refusals.proofs.Reading.{Heeds, refuses, goes-on, Heedful, unsigned-heeds, val-heeds, instr-heeds}
+use Rattle.facts_refusals.proofs.Sections.{heeded, says-no}
+use Rattle.facts_refusals.proofs.Faulty.{instruction-fault}
+use Rattle.facts_refusals.proofs.Bodies.{body-no, body-no-exactly}
+
+-- an instruction's numbers
+
+question-number : (q : Question) → InstructionFault (numberOf q)
+question-number (heapsReached hs) = type-out-of-reach
+question-number (typeReached x) = type-out-of-reach
+question-number (labelThere l) = is-absent
+question-number (localThere x) = is-absent
+question-number (isStruct x) = is-bad-struct
+question-number (hasField x i) = is-bad-struct
+question-number (noDescriptor x) = is-bad-struct
+question-number (hasDescriptor x) = is-bad-struct
+question-number (castDescribed h) = is-bad-struct
+question-number (fieldMutable x i) = is-field-fixed
+question-number (targetMatches k) = is-bad-branch
+question-number (labelHasTypes l) = is-bad-branch
+question-number (labelTakes l v) = is-bad-branch
+question-number (allDefaults x) = is-no-default
+question-number (localSet x) = is-not-set
+
+asked-number : (c : Context) (here : Scope) (qs : List Question) {later : List rules.Rule} {n : ℕ}
+    → ((m : ℕ) → FirstBroken later m → InstructionFault m) → FirstBroken (map (ruleOf c here) qs ++ later) n → InstructionFault n
+asked-number c here [] more b = more _ b
+asked-number c here (q ∷ qs) more (broken wrong) = question-number q
+asked-number c here (q ∷ qs) more (kept-then p b) = asked-number c here qs more b
+
+last-number : {P Q : Type 0} {n : ℕ} → FirstBroken (record { says = P; number = badOperand } ∷ record { says = Q; number = oversize } ∷ []) n → InstructionFault n
+last-number (broken wrong) = is-bad-operand
+last-number (kept-then p (broken wrong)) = is-too-many
+
+condition-number : (c : Context) (st : State) (i : Instr) {n : ℕ} → FirstBroken (conditions c st i) n → InstructionFault n
+condition-number c st (block rs) (broken wrong) = type-out-of-reach
+condition-number c st (block rs) (kept-then p (broken wrong)) = is-too-many
+condition-number c st (loop rs) (broken wrong) = type-out-of-reach
+condition-number c st (loop rs) (kept-then p (broken wrong)) = is-too-many
+condition-number c st end (broken wrong) = is-bad-operand
+condition-number c st end (kept-then p (broken wrong)) = is-values-left
+condition-number c st end (kept-then p (kept-then q (broken wrong))) = is-too-many
+condition-number c st (op o) b = asked-number c (scopeOf c st) (asks o) (λ m. last-number) b
+
+in-order : (o : Op) → rising (map numberOf (asks o)) ≡ true
+in-order unreachable = refl
+in-order nop = refl
+in-order return = refl
+in-order drop-value = refl
+in-order (br l) = refl
+in-order (br-if l) = refl
+in-order (local-get x) = refl
+in-order (local-set x) = refl
+in-order (local-tee x) = refl
+in-order (i32-const n) = refl
+in-order (ref-null h) = refl
+in-order ref-is-null = refl
+in-order ref-eq = refl
+in-order ref-as-non-null = refl
+in-order (struct-new x) = refl
+in-order (struct-new-default x) = refl
+in-order (struct-get x i) = refl
+in-order (struct-set x i) = refl
+in-order (ref-test n h) = refl
+in-order (ref-cast n h) = refl
+in-order (br-on-cast k) = refl
+in-order (br-on-cast-fail k) = refl
+in-order (struct-new-desc x) = refl
+in-order (struct-new-default-desc x) = refl
+in-order (ref-get-desc x) = refl
+in-order (ref-cast-desc-eq n h) = refl
+in-order (br-on-cast-desc-eq k) = refl
+in-order (br-on-cast-desc-eq-fail k) = refl
+
+-- places
+
+module _ (section s : List ℕ) (x : ℕ) where
+  bytes-place : {A : Type 0} {r : Read A} {number place : ℕ} → Heeds (length s) r → r ≡ refused number place → BodyPlace section s x number place
+  bytes-place h e = let (number-is, inside) = heeded h e in of-bytes number-is inside
+
+  -- a number that was read ends inside the body or at its length
+  number-end : (at : ℕ) {n next : ℕ} → u32 s at ≡ got n next → next ≤ length s
+  number-end at e = never-back (unsigned-takes 32) s at e .1
+
+  value-end : (at : ℕ) {next : ℕ} {v : Val} → valAt s at ≡ got v next → next ≤ length s
+  value-end at e = never-back val-takes s at e .1
+
+  entry-place : {count at before number place : ℕ} → at ≤ length s → EntryFault count s at before number place → BodyPlace section s x number place
+  entry-place {at = at} h (count-bytes a) = bytes-place (unsigned-heeds 32 .heeds s at h) a
+  entry-place {at = at} h (type-bytes {type = type} a b) = bytes-place (val-heeds .heeds s type (number-end at a)) b
+  entry-place h (type-unreached a b unreached) = of-entry entry-out-of-reach h
+  entry-place h (too-many a b reach many) = of-entry entry-too-many h
+
+  entries-place : {count n from before number place : ℕ} → from ≤ length s → FaultyEntry count s n from before number place → BodyPlace section s x number place
+  entries-place h (this-entry f) = entry-place h f
+  entries-place h (later-entry {type = type} a b reach few more) = entries-place (value-end type b) more
+
+  entries-end : {from first : ℕ} {es : List Entry} → from ≤ length s → EntriesAt s from es first → first ≤ length s
+  entries-end h no-entry = h
+  entries-end h (next-entry {type = type} a b more) = entries-end (value-end type b) more
+
+  instrs-end : {first at : ℕ} {is : List Instr} → first ≤ length s → InstrsAt s first is at → at ≤ length s
+  instrs-end h no-instr = h
+  instrs-end {first} h (next-instr read more) = instrs-end (never-back instr-takes s first read .1) more
+
+  fault-place : {c : Context} {st : State} {at number place : ℕ} → at ≤ length s → FaultAt c st s at number place → BodyPlace section s x number place
+  fault-place {at = at} h (in-bytes e) = bytes-place (instr-heeds .heeds s at h) e
+  fault-place {c} {st} h (in-instruction {i = i} read b) = of-instruction (condition-number c st i b) read
+
+  stand-end : {ds : List Definition} {f : Function} {ls : List Val} {first : ℕ} → LocalsStand s ds f ls first → first ≤ length s
+  stand-end stand = entries-end (number-end 0 (stand .counted)) (stand .reads)
+
+  said-place : {number place : ℕ} → BodySaysNo section s x number place → BodyPlace section s x number place
+  said-place (by-section {number = n} {place = p} judged) = of-section (says-no section n p judged)
+  said-place (by-size judged large) = of-whole-size
+  said-place (by-type judged small no-type) = of-type-number
+  said-place (by-count begins e) = bytes-place (unsigned-heeds 32 .heeds s 0 (omega arith)) e
+  said-place (by-locals begins counted faulty) = entries-place (number-end 0 counted) faulty
+  said-place (by-instruction begins stand faulty) = fault-place (instrs-end (stand-end stand) (faulty .reads)) (faulty .faulty)
+  said-place (by-rest begins stand reads typed left) = of-bytes is-left-over (instrs-end (stand-end stand) reads)
+
+pub body-refusals : BodyRefusals
+body-refusals =
+    record {
+      exactly = body-no-exactly;
+      first = λ c st ordered i number. instruction-fault c st (record { tested = ordered .tested }) i;
+      inOrder = in-order;
+      places = λ section s x number place e. said-place section s x (body-no section s x e);
+    }
+
+-- Examples: document 01's two refused bodies of F1. struct.new of a type with a descriptor: 23 at the instruction at 1. The
+-- descriptor of struct.new_desc comes from a local of type (ref 1): 20 at the instruction at 11.
+
+abbrev F1 : List ℕ
+F1 = 0x02 ∷ 0x4E ∷ 0x02 ∷ 0x4D ∷ 0x01 ∷ 0x5F ∷ 0x00 ∷ 0x4C ∷ 0x00 ∷ 0x5F ∷ 0x00 ∷ 0x60 ∷ 0x00 ∷ 0x01 ∷ 0x64 ∷ 0x62 ∷ 0x00 ∷ []
+
+pub unwanted-descriptor : BodySaysNo F1 (0x00 ∷ 0xFB ∷ 0x00 ∷ 0x00 ∷ 0x0B ∷ []) 2 badStruct 1
+unfolding computes
+unwanted-descriptor = body-no _ _ 2 refl
+
+pub inexact-descriptor : BodySaysNo F1 (0x01 ∷ 0x01 ∷ 0x64 ∷ 0x01 ∷ 0xFB ∷ 0x00 ∷ 0x01 ∷ 0x21 ∷ 0x00 ∷ 0x20 ∷ 0x00 ∷ 0xFB ∷ 0x20 ∷ 0x00 ∷ 0x0B ∷ []) 2 badOperand 11
+unfolding computes
+inexact-descriptor = body-no _ _ 2 refl
