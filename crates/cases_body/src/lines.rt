@@ -4,16 +4,14 @@
 // and anything else a case: its name, and the bytes of its body.
 use crate::judging::Lent;
 use crate::judging::judged;
+use cases_text::LINE_END;
+use cases_text::REMARK;
+use cases_text::SPACE;
 use cases_text::bytes;
 use cases_text::decimal;
 use cases_text::find;
 use cases_text::part;
-
-const SPACE: u8 = b' ';
-
-const LINE_END: u8 = b'\n';
-
-const REMARK: u8 = b'#';
+use cases_text::sign;
 
 const SECTION: u8 = b':';
 
@@ -28,11 +26,6 @@ pub struct Setting {
     length: usize,
     number: u64,
     lent: Lent,
-}
-
-// A line's sign at a place, and past the end a line's end.
-fn sign(line: &[u8], at: usize) -> u8 {
-    if at < line.len() { line[at] } else { LINE_END }
 }
 
 // A line that begins with `:`.

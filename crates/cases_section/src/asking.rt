@@ -1,7 +1,5 @@
 // Asking a section for a type by number, two lines for each question: where the definition's bytes lie, and these bytes; or
 // the refusal, and no bytes. The last word is `table` where lent memory is as after the section alone, `zero` after a refusal.
-use crate::telling::Lent;
-use crate::telling::RUBBISH;
 use crate::telling::tell_memory;
 use crate::telling::tell_no;
 use crate::telling::tell_number;
@@ -23,16 +21,19 @@ fn same_words(a: &[u16], b: &[u16]) -> bool {
     true
 }
 
-// What lent memory holds after a yes, held to what the section alone leaves in memory of its own.
-fn tell_table(rows: &[u16], codes: &[u16], section: &[u8]) {
+// Whether lent memory holds what the section alone leaves in memory of its own.
+fn as_alone(rows: &[u16], codes: &[u16], section: &[u8]) -> bool {
     let mut rows_alone = [0u16; section_call::ROWS];
     let mut codes_alone = [0u16; section_call::CODES];
     section_call::judge_section(section, &mut rows_alone, &mut codes_alone);
-    if same_words(rows, &rows_alone) {
-        if same_words(codes, &codes_alone) {
-            io::write_all(STDOUT_FILENO, b" table\n");
-            return;
-        }
+    same_words(rows, &rows_alone) & same_words(codes, &codes_alone)
+}
+
+// What lent memory holds after a yes.
+fn tell_table(rows: &[u16], codes: &[u16], section: &[u8]) {
+    if as_alone(rows, codes, section) {
+        io::write_all(STDOUT_FILENO, b" table\n");
+        return;
     }
     io::write_all(STDOUT_FILENO, b" rubbish\n");
 }
@@ -54,7 +55,8 @@ fn tell_bytes(part: &[u8]) {
     }
 }
 
-fn asked_in(name: &[u8], section: &[u8], number: u64, rows: &mut [u16], codes: &mut [u16]) {
+// The first line.
+pub fn asked(name: &[u8], section: &[u8], number: u64, rows: &mut [u16], codes: &mut [u16]) {
     let asked = section_call::ask_type(section, number, rows, codes);
     io::write_all(STDOUT_FILENO, name);
     match asked {
@@ -68,7 +70,8 @@ fn asked_in(name: &[u8], section: &[u8], number: u64, rows: &mut [u16], codes: &
     }
 }
 
-fn handed_in(name: &[u8], section: &[u8], number: u64, rows: &mut [u16], codes: &mut [u16]) {
+// The second line.
+pub fn handed(name: &[u8], section: &[u8], number: u64, rows: &mut [u16], codes: &mut [u16]) {
     let part = section_call::type_bytes(section, number, rows, codes);
     io::write_all(STDOUT_FILENO, name);
     io::write_all(STDOUT_FILENO, b" bytes ");
@@ -78,30 +81,4 @@ fn handed_in(name: &[u8], section: &[u8], number: u64, rows: &mut [u16], codes: 
         return;
     }
     tell_table(rows, codes, section);
-}
-
-// The first line, asked in fresh memory that holds rubbish.
-pub fn asked(name: &[u8], section: &[u8], number: u64, lent: Lent) {
-    let mut rows = [RUBBISH; 3073];
-    let mut codes = [RUBBISH; 32769];
-    let r = lent.rows as usize;
-    let c = lent.codes as usize;
-    if r <= 3073 {
-        if c <= 32769 {
-            asked_in(name, section, number, &mut rows[0..r], &mut codes[0..c]);
-        }
-    }
-}
-
-// The second, in the same way.
-pub fn handed(name: &[u8], section: &[u8], number: u64, lent: Lent) {
-    let mut rows = [RUBBISH; 3073];
-    let mut codes = [RUBBISH; 32769];
-    let r = lent.rows as usize;
-    let c = lent.codes as usize;
-    if r <= 3073 {
-        if c <= 32769 {
-            handed_in(name, section, number, &mut rows[0..r], &mut codes[0..c]);
-        }
-    }
 }

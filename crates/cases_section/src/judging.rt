@@ -1,7 +1,5 @@
 // One line for each case: its name; `yes` with the count of types, or `no` with the refusal's number and place; and `zero`
 // or `rubbish`, for what the words outside the table hold afterwards.
-use crate::telling::Lent;
-use crate::telling::RUBBISH;
 use crate::telling::tell_memory;
 use crate::telling::tell_no;
 use crate::telling::tell_number;
@@ -25,24 +23,11 @@ fn tell_yes(count: u64, rows: &[u16], codes: &[u16]) {
     }
 }
 
-fn judged_in(name: &[u8], section: &[u8], rows: &mut [u16], codes: &mut [u16]) {
+pub fn judged(name: &[u8], section: &[u8], rows: &mut [u16], codes: &mut [u16]) {
     let verdict = section_call::judge_section(section, rows, codes);
     io::write_all(STDOUT_FILENO, name);
     match verdict {
         Verdict::Accepted(count) => tell_yes(count, rows, codes),
         Verdict::Refused(number, place) => tell_no(number, place, rows, codes),
-    }
-}
-
-// Judges one section in fresh memory that holds rubbish, and writes the case's line.
-pub fn judged(name: &[u8], section: &[u8], lent: Lent) {
-    let mut rows = [RUBBISH; 3073];
-    let mut codes = [RUBBISH; 32769];
-    let r = lent.rows as usize;
-    let c = lent.codes as usize;
-    if r <= 3073 {
-        if c <= 32769 {
-            judged_in(name, section, &mut rows[0..r], &mut codes[0..c]);
-        }
     }
 }

@@ -2,10 +2,9 @@
 //   =r  how many elements of `rows` are lent to the cases that follow: `=r 3071`; so =c for `codes`
 //   ?   a question: its name, a type's number, and the bytes of the section that is asked: `?last 1 02 5F 00 ..`
 // and anything else a case: its name, and the bytes of the section that is judged.
-use crate::asking::asked;
-use crate::asking::handed;
-use crate::judging::judged;
-use crate::telling::Lent;
+use crate::lending::Call;
+use crate::lending::Lent;
+use crate::lending::called;
 use cases_text::LINE_END;
 use cases_text::REMARK;
 use cases_text::SPACE;
@@ -46,15 +45,15 @@ fn question(lent: Lent, line: &[u8], section: &mut [u8]) {
     let name = part(line, 1, to);
     let number = decimal(part(line, to + 1, after));
     let end = bytes(section, line, after);
-    asked(name, part(section, 0, end), number, lent);
-    handed(name, part(section, 0, end), number, lent);
+    called(Call::Ask(number), name, part(section, 0, end), lent);
+    called(Call::Hand(number), name, part(section, 0, end), lent);
 }
 
 // Any other line with a sign in it.
 fn case(lent: Lent, line: &[u8], section: &mut [u8]) {
     let to = find(line, 0, SPACE);
     let end = bytes(section, line, to);
-    judged(part(line, 0, to), part(section, 0, end), lent);
+    called(Call::Judge, part(line, 0, to), part(section, 0, end), lent);
 }
 
 // One line, up to its remark.

@@ -3,6 +3,7 @@
 // copied from a run.
 mod asking;
 mod judging;
+mod lending;
 mod lines;
 mod telling;
 

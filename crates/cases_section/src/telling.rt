@@ -1,14 +1,5 @@
-// What the lines of all cases share: numbers, refusals, and what lent memory holds afterwards. Every element of it holds
-// rubbish before a call.
+// What the lines of all cases share: numbers, refusals, and what lent memory holds afterwards.
 use libc::STDOUT_FILENO;
-
-pub const RUBBISH: u16 = 42405;
-
-// How many elements of each buffer are lent.
-pub struct Lent {
-    pub rows: u64,
-    pub codes: u64,
-}
 
 // Whether every word from a place on is zero.
 fn zero_from(m: &[u16], from: u64) -> bool {

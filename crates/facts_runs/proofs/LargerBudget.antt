@@ -1,7 +1,7 @@
 -- A larger budget that is not spent changes neither answer nor memory: the trial run of an accepted body is `run`, so
 -- it comes to the same ending; a refusal before the budget is the same refusal. What a call promises speaks of the
 -- budget through that one verdict only.
-use Prim.Native.Nat.{ℕ, _+_, _≤_}
+use Prim.Native.Nat.{ℕ, _+_, _-_, _≤_}
 use native.Mathlib.Omega.{arith}
 use mathlib.Core.Path.{_≡_, refl}
 use mathlib.Core.Bool.{Bool, true, false, cond}
@@ -81,4 +81,4 @@ unfolding computes
 three-enough = refl
 
 pub most-as-three : trialRun F1 twoObjects 2 mostBudget ≡ trialRun F1 twoObjects 2 3
-most-as-three = trial-larger 3 999_997 F1 twoObjects 2 (omega arith) three-enough
+most-as-three = trial-larger 3 (mostBudget - 3) F1 twoObjects 2 (omega arith) three-enough

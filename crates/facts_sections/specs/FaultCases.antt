@@ -1,10 +1,11 @@
 -- Sections with two faults, one list in document 01's order: the earlier fault is the one that is said. Beside each
 -- stands the same section with that fault mended, which is then refused for the later one: so both were there.
-use Prim.Native.Nat.{ℕ, zero, suc}
+use Prim.Native.Nat.{ℕ, zero, suc, _+_, _-_}
 use mathlib.Core.Bool.{Bool, false, _&&_}
 use mathlib.Core.List.{List, [], _∷_, _++_}
 use lib.ListN.{replicate}
 use lib.Dec.{eqb}
+use Rattle.scope.specs.Sizes.{mostBytes, mostTypes, mostEach, mostSteps}
 use Rattle.scope.specs.Refusals.{bytesEnd, badNumber, notListed, oversize, leftOver, outOfReach, badSupertype, noMatch, clauseNotOnStruct, describesNotEarlier, clausesDisagree, badDescriptor, badDescribes}
 use Rattle.scope.specs.Lists.{someOf, joined}
 use Rattle.scope.specs.Judging.{Judged, accepted, rejected, judgeSection}
@@ -54,9 +55,9 @@ abbrev pub byteCases : List Case
 byteCases =
     -- the whole size before bytes left over
     record {
-      bytes = replicate 32_769 0x00;
+      bytes = replicate (mostBytes + 1) 0x00;
       said = record { number = oversize; place = 0 };
-      mended = replicate 32_768 0x00;
+      mended = replicate mostBytes 0x00;
       saidThen = record { number = leftOver; place = 1 };
     }
     -- a count out of range before a group that is missing
@@ -89,23 +90,23 @@ byteCases =
     }
     -- the 65th field before that it is missing
     ∷ record {
-      bytes = (0x01 ∷ 0x5F ∷ 0x41 ∷ []) ++ times 64 (0x7F ∷ 0x00 ∷ []);
+      bytes = (0x01 ∷ 0x5F ∷ 0x41 ∷ []) ++ times mostEach (0x7F ∷ 0x00 ∷ []);
       said = record { number = oversize; place = 131 };
-      mended = (0x01 ∷ 0x5F ∷ 0x40 ∷ []) ++ times 63 (0x7F ∷ 0x00 ∷ []);
+      mended = (0x01 ∷ 0x5F ∷ 0x40 ∷ []) ++ times (mostEach - 1) (0x7F ∷ 0x00 ∷ []);
       saidThen = record { number = bytesEnd; place = 129 };
     }
     -- the 65th field before its own first byte, which is not listed
     ∷ record {
-      bytes = (0x01 ∷ 0x5F ∷ 0x41 ∷ []) ++ times 64 (0x7F ∷ 0x00 ∷ []) ++ (0x77 ∷ 0x00 ∷ []);
+      bytes = (0x01 ∷ 0x5F ∷ 0x41 ∷ []) ++ times mostEach (0x7F ∷ 0x00 ∷ []) ++ (0x77 ∷ 0x00 ∷ []);
       said = record { number = oversize; place = 131 };
-      mended = (0x01 ∷ 0x5F ∷ 0x40 ∷ []) ++ times 63 (0x7F ∷ 0x00 ∷ []) ++ (0x77 ∷ 0x00 ∷ []);
+      mended = (0x01 ∷ 0x5F ∷ 0x40 ∷ []) ++ times (mostEach - 1) (0x7F ∷ 0x00 ∷ []) ++ (0x77 ∷ 0x00 ∷ []);
       saidThen = record { number = notListed; place = 129 };
     }
     -- the 257th type before a number out of reach in the first
     ∷ record {
-      bytes = (0x81 ∷ 0x02 ∷ 0x4C ∷ 0x09 ∷ []) ++ times 257 plain;
+      bytes = (0x81 ∷ 0x02 ∷ 0x4C ∷ 0x09 ∷ []) ++ times (mostTypes + 1) plain;
       said = record { number = oversize; place = 516 };
-      mended = (0x80 ∷ 0x02 ∷ 0x4C ∷ 0x09 ∷ []) ++ times 256 plain;
+      mended = (0x80 ∷ 0x02 ∷ 0x4C ∷ 0x09 ∷ []) ++ times mostTypes plain;
       saidThen = record { number = outOfReach; place = 0 };
     }
     -- bytes that end, and bytes left over, before a number out of reach
@@ -136,10 +137,10 @@ linkCases =
     }
     -- in one type: two supertypes before a chain of 64 steps
     ∷ record {
-      bytes = (0x41 ∷ []) ++ root ++ below 63 ++ (0x50 ∷ 0x02 ∷ 63 ∷ 63 ∷ 0x5F ∷ 0x00 ∷ []);
-      said = record { number = badSupertype; place = 64 };
-      mended = (0x41 ∷ []) ++ root ++ below 64;
-      saidThen = record { number = oversize; place = 64 };
+      bytes = (0x41 ∷ []) ++ root ++ below mostSteps ++ (0x50 ∷ 0x02 ∷ mostSteps ∷ mostSteps ∷ 0x5F ∷ 0x00 ∷ []);
+      said = record { number = badSupertype; place = mostSteps + 1 };
+      mended = (0x41 ∷ []) ++ root ++ below (mostSteps + 1);
+      saidThen = record { number = oversize; place = mostSteps + 1 };
     }
     -- type by type: a supertype that is not earlier, before a later type's number out of reach
     ∷ record {
@@ -150,10 +151,10 @@ linkCases =
     }
     -- type by type: a chain of 64 steps before a later type's number out of reach
     ∷ record {
-      bytes = (0x42 ∷ []) ++ root ++ below 64 ++ (0x4C ∷ 0xC2 ∷ 0x00 ∷ 0x5F ∷ 0x00 ∷ []);
-      said = record { number = oversize; place = 64 };
-      mended = (0x41 ∷ []) ++ root ++ below 63 ++ (0x4C ∷ 0xC2 ∷ 0x00 ∷ 0x5F ∷ 0x00 ∷ []);
-      saidThen = record { number = outOfReach; place = 64 };
+      bytes = (0x42 ∷ []) ++ root ++ below (mostSteps + 1) ++ (0x4C ∷ 0xC2 ∷ 0x00 ∷ 0x5F ∷ 0x00 ∷ []);
+      said = record { number = oversize; place = mostSteps + 1 };
+      mended = (0x41 ∷ []) ++ root ++ below mostSteps ++ (0x4C ∷ 0xC2 ∷ 0x00 ∷ 0x5F ∷ 0x00 ∷ []);
+      saidThen = record { number = outOfReach; place = mostSteps + 1 };
     }
     -- a final supertype before an earlier type's missing field
     ∷ record {
@@ -164,9 +165,9 @@ linkCases =
     }
     -- a chain of 64 steps before an earlier type's missing field
     ∷ record {
-      bytes = (0x41 ∷ 0x50 ∷ 0x00 ∷ 0x5F ∷ 0x01 ∷ 0x7F ∷ 0x00 ∷ []) ++ below 64;
-      said = record { number = oversize; place = 64 };
-      mended = (0x40 ∷ 0x50 ∷ 0x00 ∷ 0x5F ∷ 0x01 ∷ 0x7F ∷ 0x00 ∷ []) ++ below 63;
+      bytes = (0x41 ∷ 0x50 ∷ 0x00 ∷ 0x5F ∷ 0x01 ∷ 0x7F ∷ 0x00 ∷ []) ++ below (mostSteps + 1);
+      said = record { number = oversize; place = mostSteps + 1 };
+      mended = (0x40 ∷ 0x50 ∷ 0x00 ∷ 0x5F ∷ 0x01 ∷ 0x7F ∷ 0x00 ∷ []) ++ below mostSteps;
       saidThen = record { number = noMatch; place = 1 };
     }
     ∷ []
@@ -225,7 +226,21 @@ cases = byteCases ++ linkCases ++ ruleCases
 
 -- the refusals of a section
 abbrev pub thirteen : List ℕ
-thirteen = 1 ∷ 2 ∷ 3 ∷ 4 ∷ 5 ∷ 6 ∷ 7 ∷ 8 ∷ 9 ∷ 10 ∷ 11 ∷ 12 ∷ 13 ∷ []
+thirteen =
+    bytesEnd
+    ∷ badNumber
+    ∷ notListed
+    ∷ oversize
+    ∷ leftOver
+    ∷ outOfReach
+    ∷ badSupertype
+    ∷ noMatch
+    ∷ clauseNotOnStruct
+    ∷ describesNotEarlier
+    ∷ clausesDisagree
+    ∷ badDescriptor
+    ∷ badDescribes
+    ∷ []
 
 -- this number is said in some case, though a later fault is there
 abbrev pub saidFirst : ℕ → Bool
