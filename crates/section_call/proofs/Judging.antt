@@ -1,61 +1,54 @@
 -- Judging a section. Lent memory is zero first, so what the reader puts there is the table and zero beyond; what the table
 -- says are the section's types as they are kept, and the verdict on them is the verdict on the types themselves.
 use Prim.Native.Nat.{ℕ, zero, suc, _+_, _-_, _≤_, _<_}
-use mathlib.Core.Path.{_≡_, refl, sym, ap, ap₂, _∙_}
-use mathlib.Core.Bool.{Bool, true, false, cond, _&&_}
+use mathlib.Core.Path.{_≡_, refl, ap, ap₂, _∙_}
+use mathlib.Core.Bool.{true, false}
 use mathlib.Core.Option.{Option, none, some}
-use mathlib.Core.List.{List, [], _∷_, _++_, map}
+use mathlib.Core.List.{List, _++_, map}
 use native.Mathlib.Omega.{arith}
 use lib.ListN.{length, replicate, length-replicate}
 use lib.Dec.{leb}
 use borrow.Author.Tests.{le-leb, lt-leb}
+use Rattle.scope.specs.Refusals.{bufferTooSmall}
 use Rattle.scope.specs.Reading.{Read, got, refused, given}
 use Rattle.scope.specs.Lists.{joined}
 use Rattle.scope.specs.Syntax.{Definition, Group, typesOf}
 use Rattle.scope.specs.Sections.{readSection}
 use Rattle.scope.specs.Judging.{Judged, accepted, rejected, andThen, linksFault, ruleFault, scan, judgeTypes, judgeSection}
 use Rattle.scope.specs.Memory.{filled, wiped, tableRows, tableCodes}
-use Rattle.scope.specs.Answers.{holds, tableLent, lentEnough, verdictOf, after, sectionCall, SectionJudged}
+use Rattle.scope.specs.Answers.{tableLent, verdictOf, sectionCall, SectionJudged}
 use Rattle.scope.specs.Layout.{rowsSize, codesSize}
 use Rattle.scope.specs.declared.Verdict.{Verdict}
 use Rattle.scope.specs.declared.Verdict
 use Rattle.scope.proofs.Impossible.{impossible}
-use Rattle.type_table.specs.Kept.{keptDefinition}
 use Rattle.type_table.specs.View.{view, rowsOf, codesOf}
-use Rattle.type_table.proofs.Puts.{Puts, puts-zero, puts-length}
-use Rattle.type_table.proofs.KeptVerdict.{ReachWithin}
+use Rattle.type_table.proofs.Puts.{Puts, puts-zero}
 use Rattle.type_table.proofs.TableVerdict.{table-verdict, accepted-table-rows, accepted-table-codes}
 use Rattle.section_definition.specs.Rows.{low}
 use Rattle.section_group.specs.Lent.{keptAll}
 use Rattle.section_judge.specs.Verdict.{judgementIs}
 use Rattle.section_judge.specs.declared.Judgement.{Judgement}
 use Rattle.section_judge.specs.declared.Judgement
+use Rattle.section_judge.proofs.Scanning.{judgement-accepted, judgement-refused}
 use Rattle.section_reader.specs.declared.SectionRead.{SectionRead}
 use Rattle.section_reader.specs.declared.SectionRead
 use Rattle.section_reader.specs.Whole.{Enough, sectionIs, SectionPut}
 use Rattle.section_reader.proofs.Modest.{read-reach}
 use Rattle.section_reader.proofs.LowTable.{low-table}
-use Rattle.section_call.specs.Calls.{Cleared, keptIf, Decided}
+use Rattle.section_handing.specs.Handing.{Cleared}
+use Rattle.section_call.specs.Calls.{keptIf, Decided}
 
 -- decide
 
-judged-accepted : (o : Judged ℕ) {j : Judgement} {m : ℕ} → j ≡ judgementIs o → j ≡ Judgement.the-variants.Accepted m → o ≡ accepted m
-judged-accepted (accepted n) p q = cc
-judged-accepted (rejected k x) p q = impossible cc
-
-judged-rejected : (o : Judged ℕ) {j : Judgement} {k x : ℕ} → j ≡ judgementIs o → j ≡ Judgement.the-variants.Rejected k x → o ≡ rejected k x
-judged-rejected (accepted n) p q = impossible cc
-judged-rejected (rejected k x) p q = cc
-
 module _ (rows codes : List ℕ) (n : ℕ) {j : Judgement} (a : j ≡ judgementIs (judgeTypes (view rows codes) n)) where
   pub decide-accepted : {m : ℕ} → j ≡ Judgement.the-variants.Accepted m → Decided n rows codes rows codes (Verdict.the-variants.Accepted m)
-  decide-accepted e = let o = judged-accepted (judgeTypes (view rows codes) n) a e in record { answer = rw o; rowsAfter = rw o; codesAfter = rw o }
+  decide-accepted e = let o = judgement-accepted (judgeTypes (view rows codes) n) a e in record { answer = rw o; rowsAfter = rw o; codesAfter = rw o }
 
-  pub decide-rejected : {k x : ℕ} {rows′ codes′ : List ℕ} → j ≡ Judgement.the-variants.Rejected k x → Cleared rows codes rows′ codes′ → Decided n rows codes rows′ codes′ (Verdict.the-variants.Refused k x)
-  decide-rejected e c =
-      let o = judged-rejected (judgeTypes (view rows codes) n) a e in record { answer = rw o; rowsAfter = rw o (c .rowsAfter); codesAfter = rw o (c .codesAfter) }
+  pub decide-refused : {k x : ℕ} {rows′ codes′ : List ℕ} → j ≡ Judgement.the-variants.Refused k x → Cleared rows codes rows′ codes′ → Decided n rows codes rows′ codes′ (Verdict.the-variants.Refused k x)
+  decide-refused e c =
+      let o = judgement-refused (judgeTypes (view rows codes) n) a e in record { answer = rw o; rowsAfter = rw o (c .rowsAfter); codesAfter = rw o (c .codesAfter) }
 
-pub ruleset decide-exits = (decide-accepted, decide-rejected)
+pub ruleset decide-exits = (decide-accepted, decide-refused)
 
 -- 14
 
@@ -64,23 +57,23 @@ cleared-length {rows} {codes} c =
     (ap length (c .rowsAfter) ∙ length-replicate (length rows) 0, ap length (c .codesAfter) ∙ length-replicate (length codes) 0)
 
 module _ {s rows codes rows₁ codes₁ : List ℕ} (c : Cleared rows codes rows₁ codes₁) where
-  small-call : tableLent rows codes ≡ false → SectionJudged s rows codes rows₁ codes₁ (Verdict.the-variants.Refused 14 0)
+  small-call : tableLent rows codes ≡ false → SectionJudged s rows codes rows₁ codes₁ (Verdict.the-variants.Refused bufferTooSmall 0)
   small-call e = record { answer = rw e; rowsAfter = rw e (c .rowsAfter); codesAfter = rw e (c .codesAfter) }
 
-  pub small-rows : length rows₁ < 3072 → SectionJudged s rows codes rows₁ codes₁ (Verdict.the-variants.Refused 14 0)
+  pub small-rows : length rows₁ < rowsSize → SectionJudged s rows codes rows₁ codes₁ (Verdict.the-variants.Refused bufferTooSmall 0)
   small-rows h =
       let sizes = cleared-length c in
       let small : leb rowsSize (length rows) ≡ false = lt-leb rowsSize (length rows) (omega (arith, sizes .0)) in
       small-call (rw small)
 
-  pub small-codes : 3072 ≤ length rows₁ → length codes₁ < 32768 → SectionJudged s rows codes rows₁ codes₁ (Verdict.the-variants.Refused 14 0)
+  pub small-codes : rowsSize ≤ length rows₁ → length codes₁ < codesSize → SectionJudged s rows codes rows₁ codes₁ (Verdict.the-variants.Refused bufferTooSmall 0)
   small-codes g h =
       let sizes = cleared-length c in
       let large : leb rowsSize (length rows) ≡ true = le-leb rowsSize (length rows) (omega (arith, sizes .0)) in
       let small : leb codesSize (length codes) ≡ false = lt-leb codesSize (length codes) (omega (arith, sizes .1)) in
       small-call (rw (large, small))
 
-pub enough-lent : {rows codes : List ℕ} → 3072 ≤ length rows → 32768 ≤ length codes → Enough rows codes
+pub enough-lent : {rows codes : List ℕ} → rowsSize ≤ length rows → codesSize ≤ length codes → Enough rows codes
 enough-lent g h = record { rowsEnough = g; codesEnough = h }
 
 -- the verdict on what was read
@@ -107,7 +100,7 @@ judged-types : (s : List ℕ) {gs : List Group} {end : ℕ} → readSection s �
 unfolding judgeSection
 judged-types s e = rw e
 
-module _ (s : List ℕ) {rows codes rows₁ codes₁ rows₂ codes₂ : List ℕ} {q : SectionRead} (c : Cleared rows codes rows₁ codes₁) (g : 3072 ≤ length rows₁) (h : 32768 ≤ length codes₁) (a : SectionPut (readSection s) rows₁ rows₂ codes₁ codes₂ q) where
+module _ (s : List ℕ) {rows codes rows₁ codes₁ rows₂ codes₂ : List ℕ} {q : SectionRead} (c : Cleared rows codes rows₁ codes₁) (g : rowsSize ≤ length rows₁) (h : codesSize ≤ length codes₁) (a : SectionPut (readSection s) rows₁ rows₂ codes₁ codes₂ q) where
   call-is : sectionCall s rows codes ≡ judgeSection s
   call-is =
       let sizes = cleared-length c in

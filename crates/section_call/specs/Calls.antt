@@ -8,10 +8,6 @@ use Rattle.scope.specs.Answers.{verdictOf}
 use Rattle.scope.specs.declared.Verdict.{Verdict}
 use Rattle.type_table.specs.View.{view}
 
-pub record Cleared (rows codes rows′ codes′ : List ℕ) : Type 0 where
-  pub rowsAfter : rows′ ≡ wiped rows
-  pub codesAfter : codes′ ≡ wiped codes
-
 -- as it was where the types are accepted, zero where they are not
 abbrev pub keptIf : {A : Type 0} → List ℕ → Judged A → List ℕ
 keptIf buffer (accepted n) = buffer

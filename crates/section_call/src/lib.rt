@@ -2,26 +2,17 @@
 // first: any bytes and any buffers may be handed in, and lent memory is all zero after every refusal.
 use scope::Asked;
 use scope::Verdict;
+use scope::refusals;
+use scope::sizes;
 use section_judge::Judgement;
 use section_reader::SectionRead;
 ghost use Rattle.scope.specs.Answers.{SectionJudged, TypeAsked, TypeHanded};
-ghost use mathlib.Core.Path.{_≡_};
-ghost use Prim.Native.Nat.{_-_, min};
-ghost use lib.ListN.{take, drop};
-ghost use Rattle.section_call.specs.Calls.{Cleared, Decided};
+ghost use Rattle.section_call.specs.Calls.{Decided};
 
 // The elements that lent buffers have at least: document 01's one size of each, fixed in docs/LAYOUT.md.
-pub const ROWS: usize = 3072;
+pub const ROWS: usize = sizes::ROWS;
 
-pub const CODES: usize = 32768;
-
-// Zero in every word that was lent.
-fn clear(rows: &mut [u16], codes: &mut [u16])
-    ensures { λ r. ⌜ Cleared (now (rows .entry)) (now (codes .entry)) (now (rows .exit)) (now (codes .exit)) ⌝ }
-{
-    lent_u16::wipe(rows);
-    lent_u16::wipe(codes);
-}
+pub const CODES: usize = sizes::CODES;
 
 // The rules of n types that stand in the table.
 fn decide(rows: &mut [u16], codes: &mut [u16], n: u64) -> Verdict
@@ -30,8 +21,8 @@ fn decide(rows: &mut [u16], codes: &mut [u16], n: u64) -> Verdict
     let judged = section_judge::judge_types(rows, codes, n);
     match judged {
         Judgement::Accepted(count) => Verdict::Accepted(count),
-        Judgement::Rejected(number, place) => {
-            clear(rows, codes);
+        Judgement::Refused(number, place) => {
+            section_handing::clear(rows, codes);
             Verdict::Refused(number, place)
         }
     }
@@ -41,17 +32,17 @@ fn decide(rows: &mut [u16], codes: &mut [u16], n: u64) -> Verdict
 pub fn judge_section(section: &[u8], rows: &mut [u16], codes: &mut [u16]) -> Verdict
     ensures { λ r. ⌜ SectionJudged (now (section .entry)) (now (rows .entry)) (now (codes .entry)) (now (rows .exit)) (now (codes .exit)) r ⌝ }
 {
-    clear(rows, codes);
+    section_handing::clear(rows, codes);
     if rows.len() < ROWS {
-        return Verdict::Refused(14, 0);
+        return Verdict::Refused(refusals::BUFFER_TOO_SMALL, 0);
     }
     if codes.len() < CODES {
-        return Verdict::Refused(14, 0);
+        return Verdict::Refused(refusals::BUFFER_TOO_SMALL, 0);
     }
     let read = section_reader::read_section(section, rows, codes);
     match read {
         SectionRead::Refused(number, place) => {
-            clear(rows, codes);
+            section_handing::clear(rows, codes);
             Verdict::Refused(number, place as u64)
         }
         SectionRead::Got(count) => decide(rows, codes, count),
@@ -66,30 +57,16 @@ pub fn ask_type(section: &[u8], number: u64, rows: &mut [u16], codes: &mut [u16]
     match judged {
         Verdict::Refused(refusal, place) => Asked::Refused(refusal, place),
         Verdict::Accepted(count) => {
-            if number < count {
-                let from = type_table::from_of(rows, codes, number);
-                let to = type_table::to_of(rows, codes, number);
-                return Asked::Bytes(from, to);
+            let asked = section_handing::place_of(rows, codes, number, count);
+            match asked {
+                Asked::Bytes(from, to) => Asked::Bytes(from, to),
+                Asked::Refused(refusal, place) => {
+                    section_handing::clear(rows, codes);
+                    Asked::Refused(refusal, place)
+                }
             }
-            clear(rows, codes);
-            Asked::Refused(6, number)
         }
     }
-}
-
-fn least(a: u64, b: u64) -> u64
-    ensures { λ r. ⌜ r ≡ min a b ⌝ }
-{
-    if a < b { a } else { b }
-}
-
-// The part of a slice between two places, as much of it as there is.
-fn part(s: &[u8], from: u64, to: u64) -> &[u8]
-    ensures { λ r. ⌜ now r ≡ take (to - from) (drop from (now (s .entry))) ⌝ }
-{
-    let end = least(to, s.len() as u64) as usize;
-    let start = least(from, end as u64) as usize;
-    &s[start..end]
 }
 
 // Hands back the very bytes of a type's definition, as a part of the section; an empty part with every refusal.
@@ -102,8 +79,5 @@ pub fn type_bytes<'a>(
     ensures { λ r. ⌜ TypeHanded (now (section .entry)) number (now (rows .entry)) (now (codes .entry)) (now (rows .exit)) (now (codes .exit)) (now r) ⌝ }
 {
     let asked = ask_type(section, number, rows, codes);
-    match asked {
-        Asked::Refused(_, _) => part(section, 0, 0),
-        Asked::Bytes(from, to) => part(section, from, to),
-    }
+    section_handing::bytes_of(section, asked)
 }

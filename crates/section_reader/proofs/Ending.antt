@@ -7,6 +7,7 @@ use native.Mathlib.Omega.{arith}
 use lib.ListN.{length}
 use lib.Dec.{ltb, eqb}
 use borrow.Author.Tests.{eq-eqb, ne-eqb, lt-ltb, le-ltb}
+use Rattle.scope.specs.Refusals.{oversize, leftOver}
 use Rattle.scope.specs.Sizes.{mostBytes, mostTypes}
 use Rattle.scope.specs.Reading.{Read, got, refused, then}
 use Rattle.scope.specs.Numbers.{u32}
@@ -67,10 +68,10 @@ module _ (n : ℕ) {s : List ℕ} {at : ℕ} {rows rows′ codes codes′ : List
   ended-refused e = no-section (a .rowsSize) (a .codesSize) (rw (groups-refused-inv (groupsAt n 0 s at) (a .answer) e))
 
   module _ {count next taken : ℕ} (e : r ≡ GroupRead.the-variants.Got count next taken) where
-    over : (gs : List Group) → groupsAt n 0 s at ≡ got gs next → (next ≡ length s → ⊥) → SectionPut (endedAt n s at) rows rows′ codes codes′ (SectionRead.the-variants.Refused 5 next)
+    over : (gs : List Group) → groupsAt n 0 s at ≡ got gs next → (next ≡ length s → ⊥) → SectionPut (endedAt n s at) rows rows′ codes codes′ (SectionRead.the-variants.Refused leftOver next)
     over gs read h = no-section (a .rowsSize) (a .codesSize) (rw (read, ne-eqb next (length s) h))
 
-    pub ended-over : (next ≡ length s → ⊥) → SectionPut (endedAt n s at) rows rows′ codes codes′ (SectionRead.the-variants.Refused 5 next)
+    pub ended-over : (next ≡ length s → ⊥) → SectionPut (endedAt n s at) rows rows′ codes codes′ (SectionRead.the-variants.Refused leftOver next)
     ended-over h = let (gs, read, many) = groups-inv (groupsAt n 0 s at) (a .answer) e in over gs read h
 
     all : (gs : List Group) → groupsAt n 0 s at ≡ got gs next → count ≡ length (joined gs) → next ≡ length s → SectionPut (endedAt n s at) rows rows′ codes codes′ (SectionRead.the-variants.Got count)
@@ -113,11 +114,11 @@ pub ruleset counted-exits = (counted-refused, counted-lent, counted-got)
 
 -- read_section
 
-pub section-over : (s rows codes : List ℕ) → 32768 < length s → SectionPut (readSection s) rows rows codes codes (SectionRead.the-variants.Refused 4 0)
+pub section-over : (s rows codes : List ℕ) → mostBytes < length s → SectionPut (readSection s) rows rows codes codes (SectionRead.the-variants.Refused oversize 0)
 unfolding readSection
 section-over s rows codes h = no-section refl refl (rw (lt-ltb mostBytes (length s) h))
 
-pub section-lent : {s rows codes : List ℕ} → Enough rows codes → length s ≤ 32768 → Lent s rows codes 0 0 0
+pub section-lent : {s rows codes : List ℕ} → Enough rows codes → length s ≤ mostBytes → Lent s rows codes 0 0 0
 section-lent enough h =
     record {
       room = record { behind = omega arith; inside = omega arith; enough = omega (arith, enough .codesEnough); small = h };
@@ -125,8 +126,8 @@ section-lent enough h =
       lines = omega (arith, enough .rowsEnough);
     }
 
-pub section-within : (s : List ℕ) {rows rows′ codes codes′ : List ℕ} {r : SectionRead} → length s ≤ 32768 → SectionPut (countedAt s) rows rows′ codes codes′ r → SectionPut (readSection s) rows rows′ codes codes′ r
+pub section-sized : (s : List ℕ) {rows rows′ codes codes′ : List ℕ} {r : SectionRead} → length s ≤ mostBytes → SectionPut (countedAt s) rows rows′ codes codes′ r → SectionPut (readSection s) rows rows′ codes codes′ r
 unfolding readSection
-section-within s h p = same-section (rw (le-ltb mostBytes (length s) h)) p
+section-sized s h p = same-section (rw (le-ltb mostBytes (length s) h)) p
 
-pub ruleset section-exits = (section-over, section-lent, section-within)
+pub ruleset section-exits = (section-over, section-lent, section-sized)

@@ -8,6 +8,7 @@ use native.Mathlib.Omega.{arith}
 use lib.ListN.{length, length-append, getElem?}
 use lib.Dec.{ltb, eqb}
 use borrow.Author.Tests.{ltb-true}
+use Rattle.scope.specs.Refusals.{bytesEnd, oversize}
 use Rattle.scope.specs.Sizes.{mostTypes}
 use Rattle.scope.specs.Reading.{Read, got, refused, Reader, given, then, entries}
 use Rattle.scope.specs.Numbers.{u32}
@@ -76,7 +77,7 @@ alone-fed first s at = go (ltb first mostTypes) refl
         let far : at + length (codesOf (keptAll (d ∷ []))) ≤ next = omega arith in
         fed few far
 
-    go : (t : Bool) → ltb first mostTypes ≡ t → Fed (mostTypes - first) at (cond t (then (definitionAt (first + 1) s at) (λ d next. got (d ∷ []) next)) (refused 4 at))
+    go : (t : Bool) → ltb first mostTypes ≡ t → Fed (mostTypes - first) at (cond t (then (definitionAt (first + 1) s at) (λ d next. got (d ∷ []) next)) (refused oversize at))
     go true e = one (definitionAt (first + 1) s at) refl (ltb-true first mostTypes e)
     go false e = unfed
 
@@ -88,7 +89,7 @@ group-fed first s at = go (getElem? s at)
     either true = earlier (omega arith) (several-fed first s (at + 1))
     either false = alone-fed first s at
 
-    go : (o : Option ℕ) → Fed (mostTypes - first) at (given o (refused 1 at) (λ b. cond (eqb b 0x4E) (severalAt first s (at + 1)) (aloneAt first s at)))
+    go : (o : Option ℕ) → Fed (mostTypes - first) at (given o (refused bytesEnd at) (λ b. cond (eqb b 0x4E) (severalAt first s (at + 1)) (aloneAt first s at)))
     go none = unfed
     go (some b) = either (eqb b 0x4E)
 

@@ -15,6 +15,7 @@ use Rattle.scope.specs.Lists.{joined}
 use Rattle.scope.specs.Syntax.{Form, Definition, Group, firstOf}
 use Rattle.scope.specs.Sections.{readSection}
 use Rattle.scope.specs.Memory.{formCodes, formWords, flag, orZero}
+use Rattle.lent_u16.specs.Words.{wordLimit}
 use Rattle.type_table.specs.Kept.{keptOption, keptVal, keptField, keptForm, keptSupers, keptDefinition}
 use Rattle.type_table.specs.View.{furtherOf, row, rowsOf, codesOf}
 use Rattle.section_definition.specs.Rows.{low}
@@ -22,7 +23,7 @@ use Rattle.section_group.specs.Lent.{keptAll}
 use Rattle.section_reader.proofs.Modest.{Each, no-more, one-more, each-append, Few, few-fields, few-values, Modest, read-fits}
 
 abbrev Word : ℕ → Type 0
-Word n = n < 65_536
+Word n = n < wordLimit
 
 words-low : {ws : List ℕ} → Each Word ws → map low ws ≡ ws
 words-low no-more = refl

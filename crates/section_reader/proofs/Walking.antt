@@ -9,6 +9,7 @@ use lib.Seq.{take-all, drop-length}
 use mir.Syntax.{w64}
 use mir.Val.{Fits}
 use borrow.Rule.Slice.PartMut.{midOf, putMid, post-is, same-len-mid}
+use Rattle.scope.specs.Layout.{rowSpan}
 use Rattle.scope.specs.Sizes.{mostTypes}
 use Rattle.scope.specs.Reading.{Read, got, refused, then}
 use Rattle.scope.specs.Lists.{joined}
@@ -79,7 +80,7 @@ pub record Walked (n : ℕ) (s : List ℕ) (at : ℕ) (rows₀ rows codes₀ cod
   pub rowsPut : Puts rows₀ rows 0 (map low (rowsOf 0 (keptAll (joined done))))
   pub codesPut : Puts codes₀ codes 0 (codesOf (keptAll (joined done)))
   pub room : Room s codes next used
-  pub lines : 12 * mostTypes ≤ length rows₀
+  pub lines : rowSpan * mostTypes ≤ length rows₀
 
 pub walked-first : {s rows codes : List ℕ} {at : ℕ} (n : ℕ) → Lent s rows codes at 0 0 → Walked n s at rows rows codes codes at n 0 0
 unfolding rowsOf codesOf
@@ -103,10 +104,10 @@ module _ {n : ℕ} {s : List ℕ} {at : ℕ} {rows₀ rows codes₀ codes : List
   pub walked-codes-size : length codes ≡ length codes₀
   walked-codes-size = puts-length (p .codesPut)
 
-  pub walked-start-fits : Fits w64 (12 * first)
+  pub walked-start-fits : Fits w64 (rowSpan * first)
   walked-start-fits = let f = p .few in record { fits = omega arith }
 
-  pub walked-start : 12 * first ≤ length rows
+  pub walked-start : rowSpan * first ≤ length rows
   walked-start = let f = p .few in let l = p .lines in let z = walked-rows-size in omega arith
 
   pub walked-done : left ≤ 0 → GroupPut (flatAt n) s at rows₀ rows codes₀ codes 0 (GroupRead.the-variants.Got first next used)
@@ -123,25 +124,25 @@ module _ {n : ℕ} {s : List ℕ} {at : ℕ} {rows₀ rows codes₀ codes : List
       }
 
   module _ (more : 0 < left) where
-    pub walked-lent : Lent s (midOf (12 * first) (length rows - 12 * first) rows) codes next first used
+    pub walked-lent : Lent s (midOf (rowSpan * first) (length rows - rowSpan * first) rows) codes next first used
     walked-lent =
         let f = p .few in
         let l = p .lines in
         let z = walked-rows-size in
-        let d = length-drop (12 * first) rows in
-        record { room = p .room; few = p .few; lines = rw (rest-is (12 * first) rows) (omega arith) }
+        let d = length-drop (rowSpan * first) rows in
+        record { room = p .room; few = p .few; lines = rw (rest-is (rowSpan * first) rows) (omega arith) }
 
-    module _ {part codes′ : List ℕ} {r : GroupRead} (a : GroupPut (groupAt first) s next (midOf (12 * first) (length rows - 12 * first) rows) part codes codes′ used r) where
-      part-size : length part ≡ length (drop (12 * first) rows)
-      part-size = a .rowsSize ∙ ap length (rest-is (12 * first) rows)
+    module _ {part codes′ : List ℕ} {r : GroupRead} (a : GroupPut (groupAt first) s next (midOf (rowSpan * first) (length rows - rowSpan * first) rows) part codes codes′ used r) where
+      part-size : length part ≡ length (drop (rowSpan * first) rows)
+      part-size = a .rowsSize ∙ ap length (rest-is (rowSpan * first) rows)
 
-      pub walked-rows-kept : length (putMid (12 * first) (length rows - 12 * first) rows part) ≡ length rows₀
-      walked-rows-kept = same-len-mid (12 * first) (length rows - 12 * first) rows part (a .rowsSize) ∙ walked-rows-size
+      pub walked-rows-kept : length (putMid (rowSpan * first) (length rows - rowSpan * first) rows part) ≡ length rows₀
+      walked-rows-kept = same-len-mid (rowSpan * first) (length rows - rowSpan * first) rows part (a .rowsSize) ∙ walked-rows-size
 
       pub walked-codes-kept : length codes′ ≡ length codes₀
       walked-codes-kept = a .codesSize ∙ walked-codes-size
 
-      pub walked-refused : {k place : ℕ} → r ≡ GroupRead.the-variants.Refused k place → GroupPut (flatAt n) s at rows₀ (putMid (12 * first) (length rows - 12 * first) rows part) codes₀ codes′ 0 (GroupRead.the-variants.Refused k place)
+      pub walked-refused : {k place : ℕ} → r ≡ GroupRead.the-variants.Refused k place → GroupPut (flatAt n) s at rows₀ (putMid (rowSpan * first) (length rows - rowSpan * first) rows part) codes₀ codes′ 0 (GroupRead.the-variants.Refused k place)
       walked-refused {k} {place} e =
           let none : groupsAt n 0 s at ≡ refused k place = p .same ∙ ap (onto (p .done)) (groups-refused left first s next more (group-refused-inv used (groupAt first s next) (a .answer) e)) in
           let whole : flatAt n s at ≡ refused k place = rw none in
@@ -166,15 +167,15 @@ module _ {n : ℕ} {s : List ℕ} {at : ℕ} {rows₀ rows codes₀ codes : List
       codes-more : (g : Group) → codesOf (keptAll (joined (p .done ++ g ∷ []))) ≡ codesOf (keptAll (joined (p .done))) ++ codesOf (keptAll g)
       codes-more g = ap codesOf (kept-more g) ∙ codes-append (keptAll (joined (p .done))) (keptAll g)
 
-      grown : {count after taken : ℕ} (g : Group) → groupAt first s next ≡ got g after → count ≡ length g → taken ≡ used + length (codesOf (keptAll g)) → Walked n s at rows₀ (putMid (12 * first) (length rows - 12 * first) rows part) codes₀ codes′ after (left - 1) (first + count) taken
+      grown : {count after taken : ℕ} (g : Group) → groupAt first s next ≡ got g after → count ≡ length g → taken ≡ used + length (codesOf (keptAll g)) → Walked n s at rows₀ (putMid (rowSpan * first) (length rows - rowSpan * first) rows part) codes₀ codes′ after (left - 1) (first + count) taken
       grown {count} {after} {taken} g read many codes-many =
           let ate = group-ate first s next read in
           let ends = never-back (group-takes first) s next read in
           let c : first ≡ length (joined (p .done)) = p .counted in
           let t : used ≡ length (codesOf (keptAll (joined (p .done)))) = p .takes in
-          let here : Puts (drop (12 * first) rows) part 0 (map low (rowsOf used (keptAll g))) = rw (rest-is (12 * first) rows) at (a .rowsPut g after read) in
-          let there : Puts rows (putMid (12 * first) (length rows - 12 * first) rows part) (12 * first + 0) (map low (rowsOf used (keptAll g))) = puts-part rows (12 * first) walked-start (rest-put (12 * first) rows part walked-start) here in
-          let line : 0 + length (map low (rowsOf 0 (keptAll (joined (p .done))))) ≡ 12 * first + 0 = (let l = rows-done 0 (joined (p .done)) in omega arith) in
+          let here : Puts (drop (rowSpan * first) rows) part 0 (map low (rowsOf used (keptAll g))) = rw (rest-is (rowSpan * first) rows) at (a .rowsPut g after read) in
+          let there : Puts rows (putMid (rowSpan * first) (length rows - rowSpan * first) rows part) (rowSpan * first + 0) (map low (rowsOf used (keptAll g))) = puts-part rows (rowSpan * first) walked-start (rest-put (rowSpan * first) rows part walked-start) here in
+          let line : 0 + length (map low (rowsOf 0 (keptAll (joined (p .done))))) ≡ rowSpan * first + 0 = (let l = rows-done 0 (joined (p .done)) in omega arith) in
           let coded : Puts codes codes′ (0 + length (codesOf (keptAll (joined (p .done))))) (codesOf (keptAll g)) = (let z : 0 + length (codesOf (keptAll (joined (p .done)))) ≡ used = omega arith in rw z (a .codesPut g after read)) in
           let size = a .codesSize in
           record {
@@ -199,7 +200,7 @@ module _ {n : ℕ} {s : List ℕ} {at : ℕ} {rows₀ rows codes₀ codes : List
             lines = p .lines;
           }
 
-      pub walked-turn : {count after taken : ℕ} → r ≡ GroupRead.the-variants.Got count after taken → Walked n s at rows₀ (putMid (12 * first) (length rows - 12 * first) rows part) codes₀ codes′ after (left - 1) (first + count) taken
+      pub walked-turn : {count after taken : ℕ} → r ≡ GroupRead.the-variants.Got count after taken → Walked n s at rows₀ (putMid (rowSpan * first) (length rows - rowSpan * first) rows part) codes₀ codes′ after (left - 1) (first + count) taken
       walked-turn e = let (g, read, many, codes-many) = group-inv used (groupAt first s next) (a .answer) e in grown g read many codes-many
 
       pub walked-count-fits : {count after taken : ℕ} → r ≡ GroupRead.the-variants.Got count after taken → Fits w64 (first + count)

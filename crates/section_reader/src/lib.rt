@@ -1,6 +1,8 @@
 // Reading a whole section into the lent table: its groups one after the other, each lent the rest of the table from its
 // first row on; then nothing is left over.
 use number::Natural;
+use scope::refusals;
+use scope::sizes;
 use section_group::GroupRead;
 ghost use Rattle.section_group.specs.Lent.{Lent, GroupPut};
 ghost use Rattle.scope.specs.Sections.{readSection};
@@ -16,7 +18,7 @@ fn groups_at(s: &[u8], at: usize, n: u64, rows: &mut [u16], codes: &mut [u16]) -
     let mut first: u64 = 0;
     let mut used: u64 = 0;
     while 0 < left {
-        let start = (12 * first) as usize;
+        let start = (sizes::ROW * first) as usize;
         let read = section_group::group_at(s, next, first, &mut rows[start..], codes, used);
         match read {
             GroupRead::Refused(number, place) => {
@@ -51,7 +53,7 @@ fn ended_at(s: &[u8], at: usize, n: u64, rows: &mut [u16], codes: &mut [u16]) ->
             if next == s.len() {
                 return SectionRead::Got(count);
             }
-            SectionRead::Refused(5, next)
+            SectionRead::Refused(refusals::LEFT_OVER, next)
         }
     }
 }
@@ -73,8 +75,8 @@ pub fn read_section(s: &[u8], rows: &mut [u16], codes: &mut [u16]) -> SectionRea
     requires { ⌜ Enough (now rows) (now codes) ⌝ }
     ensures { λ r. ⌜ SectionPut (readSection (now (s .entry))) (now (rows .entry)) (now (rows .exit)) (now (codes .entry)) (now (codes .exit)) r ⌝ }
 {
-    if 32768 < s.len() {
-        return SectionRead::Refused(4, 0);
+    if sizes::MOST_BYTES < s.len() {
+        return SectionRead::Refused(refusals::OVERSIZE, 0);
     }
     counted_at(s, rows, codes)
 }

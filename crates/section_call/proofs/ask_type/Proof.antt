@@ -1,4 +1,4 @@
--- `loader::ask_type` meets its contract: the section is judged, then the number.
+-- `section_call::ask_type` meets its contract: the section is judged, then the number is looked up in its table.
 use borrow.Author.Needs.{needs}
 use Rattle.section_call.proofs.Asking.{ask-exits}
 use Rattle.section_call.proofs.ask_type.Statement.{statement}
@@ -13,11 +13,17 @@ enum-known-judged c = search needs
 enum-known-judged-2 : tie.Need-enum-known-judged-2
 enum-known-judged-2 c = search needs
 
-from-of-requires : tie.Need-from-of-requires
-from-of-requires c κs = search needs
+place-of-requires : tie.Need-place-of-requires
+place-of-requires c κs = search needs
 
-to-of-requires : tie.Need-to-of-requires
-to-of-requires c κs = search needs
+enum-known-asked : tie.Need-enum-known-asked
+enum-known-asked c = search needs
+
+enum-known-asked-2 : tie.Need-enum-known-asked-2
+enum-known-asked-2 c = search needs
+
+clear-requires : tie.Need-clear-requires
+clear-requires c κs = search needs
 
 same-length : tie.Need-same-length
 same-length c = search needs
@@ -27,9 +33,6 @@ same-length-2 c = search needs
 
 returns : tie.Need-returns
 returns c = search (ask-exits, needs)
-
-clear-requires : tie.Need-clear-requires
-clear-requires c κs = search needs
 
 same-length-3 : tie.Need-same-length-3
 same-length-3 c = search needs
@@ -56,12 +59,13 @@ ask-type-spec =
     judge-section-requires
     enum-known-judged
     enum-known-judged-2
-    from-of-requires
-    to-of-requires
+    place-of-requires
+    enum-known-asked
+    enum-known-asked-2
+    clear-requires
     same-length
     same-length-2
     returns
-    clear-requires
     same-length-3
     same-length-4
     returns-2

@@ -1,4 +1,4 @@
--- `loader::decide` meets its contract: the verdict on the types, and the table is kept or cleared.
+-- `section_call::decide` meets its contract: the verdict on the types, and the table is kept or cleared.
 use borrow.Author.Needs.{needs}
 use Rattle.section_call.proofs.Judging.{decide-exits}
 use Rattle.section_call.proofs.decide.Statement.{statement}

@@ -1,4 +1,4 @@
--- `loader::judge_section` meets its contract: memory is zero, then the table, then the verdict.
+-- `section_call::judge_section` meets its contract: memory is zero, then the table, then the verdict.
 use borrow.Author.Needs.{needs}
 use Rattle.section_call.proofs.Judging.{judge-exits}
 use Rattle.section_call.proofs.judge_section.Statement.{statement}

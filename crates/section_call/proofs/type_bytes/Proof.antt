@@ -1,23 +1,14 @@
--- `loader::type_bytes` meets its contract: the part between the places that were answered.
+-- `section_call::type_bytes` meets its contract: the bytes that the answer names.
 use borrow.Author.Needs.{needs}
-use Rattle.section_call.proofs.Asking.{hand-exits}
+use Rattle.section_call.proofs.Asking.{handed-bytes}
 use Rattle.section_call.proofs.type_bytes.Statement.{statement}
 use Rattle.section_call.proofs.type_bytes.Tie as tie
 
 ask-type-requires : tie.Need-ask-type-requires
 ask-type-requires c κs = search needs
 
-enum-told : tie.Need-enum-told
-enum-told c = search needs
-
-part-requires : tie.Need-part-requires
-part-requires c κs = search needs
-
-enum-known-asked : tie.Need-enum-known-asked
-enum-known-asked c = search needs
-
-part-requires-2 : tie.Need-part-requires-2
-part-requires-2 c κs = search needs
+bytes-of-requires : tie.Need-bytes-of-requires
+bytes-of-requires c κs = search needs
 
 same-length : tie.Need-same-length
 same-length c = search needs
@@ -26,29 +17,7 @@ same-length-2 : tie.Need-same-length-2
 same-length-2 c = search needs
 
 returns : tie.Need-returns
-returns c = search (hand-exits, needs)
-
-same-length-3 : tie.Need-same-length-3
-same-length-3 c = search needs
-
-same-length-4 : tie.Need-same-length-4
-same-length-4 c = search needs
-
-returns-2 : tie.Need-returns-2
-returns-2 c = search (hand-exits, needs)
+returns c = search (handed-bytes, needs)
 
 pub type-bytes-spec : {M : Type 1} → statement M
-type-bytes-spec =
-    tie.close
-    (tie.spec
-    ask-type-requires
-    enum-told
-    part-requires
-    enum-known-asked
-    part-requires-2
-    same-length
-    same-length-2
-    returns
-    same-length-3
-    same-length-4
-    returns-2)
+type-bytes-spec = tie.close (tie.spec ask-type-requires bytes-of-requires same-length same-length-2 returns)

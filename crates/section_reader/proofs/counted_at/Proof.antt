@@ -1,4 +1,4 @@
--- `sections::counted_at` meets its contract: the count, then the groups.
+-- `section_reader::counted_at` meets its contract: the count, then the groups.
 use borrow.Author.Needs.{needs}
 use Rattle.section_reader.proofs.Ending.{counted-exits}
 use Rattle.section_reader.proofs.counted_at.Statement.{statement}

@@ -1,4 +1,4 @@
--- `sections::ended_at` meets its contract: the groups, and the place after them is the end.
+-- `section_reader::ended_at` meets its contract: the groups, and the place after them is the end.
 use borrow.Author.Needs.{needs}
 use Rattle.section_reader.proofs.Ending.{ended-exits}
 use Rattle.section_reader.proofs.ended_at.Statement.{statement}

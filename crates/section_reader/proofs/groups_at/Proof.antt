@@ -1,4 +1,4 @@
--- `sections::groups_at` meets its contract: each group is lent the rest of the table and fills it behind those before.
+-- `section_reader::groups_at` meets its contract: each group is lent the rest of the table and fills it behind those before.
 use borrow.Author.Needs.{needs}
 use Rattle.section_reader.proofs.Walking.{walk-exits}
 use Rattle.section_reader.proofs.Walking.{Walked}

@@ -1,4 +1,4 @@
--- `sections::read_section` meets its contract: the size, then the bytes.
+-- `section_reader::read_section` meets its contract: the size, then the bytes.
 use borrow.Author.Needs.{needs}
 use Rattle.section_reader.proofs.Ending.{section-exits}
 use Rattle.section_reader.proofs.read_section.Statement.{statement}
