@@ -59,7 +59,7 @@ module _ {objects : List ℕ} {n : ℕ} {first second : Topmost} {nullToo : Bool
             strays (wrong-top (knows .top) is e (λ v. pastDescriptor (m .heap) nullToo f));
       }
 
-  pub descriptor-null : q ≡ Reference.the-variants.Null → DescriptorChosen objects n first second nullToo yes′ no′ (Move.the-variants.Traps 43)
+  pub descriptor-null : q ≡ Reference.the-variants.Null → DescriptorChosen objects n first second nullToo yes′ no′ (Move.the-variants.Traps trapNullDescriptor)
   descriptor-null e =
       record {
         is = λ p codes m cells total knows f yes-is no-is.

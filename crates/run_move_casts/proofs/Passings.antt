@@ -17,7 +17,7 @@ use Rattle.type_table.specs.declared.Link
 use Rattle.type_table.proofs.Codes.{heap-at-code}
 use Rattle.type_table.proofs.Laws.{link-nothing, link-to}
 use Rattle.run_heap.specs.Heap.{storeAt, objectAt, TypeOf, DescriptorOf}
-use Rattle.run_heap.proofs.Packs.{store-there, store-past}
+use Rattle.run_heap.proofs.Packs.{store-there, store-none}
 use Rattle.run_stack.specs.declared.Topmost.{Topmost}
 use Rattle.run_stack.specs.Pile.{headOf}
 use Rattle.run_state.specs.declared.Reference.{Reference}
@@ -68,7 +68,7 @@ module _ {top : Topmost} {q : Reference} (seen-as : q ≡ referenceAt top) {vs :
   module _ (objects cells : List ℕ) {n : ℕ} (nullToo : Bool) (test : Object → Bool) {o : ℕ} (e : q ≡ Reference.the-variants.To o) where
     ask-past : n ≤ o → Answers vs (asks (storeAt objects cells n) nullToo test) Passing.the-variants.Wrong
     ask-past h =
-        unanswered (λ f. on-top vs (object-top s seen-as e) (λ v below. asks (storeAt objects cells n) nullToo test v (f v below)) ∙ rw (store-past objects cells n o h) refl)
+        unanswered (λ f. on-top vs (object-top s seen-as e) (λ v below. asks (storeAt objects cells n) nullToo test v (f v below)) ∙ rw (store-none objects cells n o h) refl)
 
     ask-object : o < n → {b : Bool} → test (objectAt objects cells o) ≡ b → Answers vs (asks (storeAt objects cells n) nullToo test) (Passing.the-variants.Is b)
     ask-object h {b} t =

@@ -3,11 +3,10 @@
 use run_stack::Topmost;
 use run_state::Move;
 use run_state::Reference;
+use scope::traps;
 use type_table::Link;
 ghost use mathlib.Core.Path.{_≡_};
 ghost use Rattle.run_move_casts.specs.Passes.{PassesAs, PassesDescriptorAs, chosenOf, CastChosen, DescriptorChosen};
-
-const TRAP_NULL_DESCRIPTOR: u64 = 43;
 
 // Whether a value passes a cast; or it is missing or no reference.
 pub enum Passing {
@@ -106,7 +105,7 @@ pub fn descriptor_cast_move(
     let descriptor = run_state::reference_of(first);
     match descriptor {
         Reference::Wrong => Move::Astray,
-        Reference::Null => Move::Traps(TRAP_NULL_DESCRIPTOR),
+        Reference::Null => Move::Traps(traps::NULL_DESCRIPTOR),
         Reference::To(d) => {
             let passes = passes_descriptor(objects, n, second, null, d);
             chosen(passes, yes, no)

@@ -8,15 +8,18 @@ use lib.ListN.{getD, getElem?, drop}
 use lib.Seq.{drop-drop}
 use mir.Syntax.{w32}
 use mir.Val.{Fits}
+use Rattle.scope.specs.Layout.{objectSpan}
+use Rattle.scope.specs.Refusals.{trapNull}
 use Rattle.scope.specs.Instructions.{struct-get, struct-set, ref-get-desc}
 use Rattle.scope.specs.Machine.{Value, Object, Store, Outcome, traps, stuck, onTaken, onObject, doOp}
+use Rattle.run_values.specs.Layout.{objectKind, countWord}
 use Rattle.type_table.specs.declared.Link.{Link}
 use Rattle.type_table.specs.declared.Link
 use Rattle.type_table.proofs.Laws.{link-nothing, link-to}
 use Rattle.run_heap.specs.declared.Held.{Held}
 use Rattle.run_heap.specs.declared.Held
 use Rattle.run_heap.specs.Heap.{objectWord, objectAt, DescriptorOf, HeldField}
-use Rattle.run_heap.proofs.Packs.{object-there, object-past}
+use Rattle.run_heap.proofs.Packs.{object-there, object-none}
 use Rattle.run_heap.proofs.Asked.{fields-length, field-got, field-missed}
 use Rattle.run_stack.specs.declared.Topmost.{Topmost}
 use Rattle.run_stack.specs.declared.Topmost
@@ -30,17 +33,17 @@ use Rattle.run_state.proofs.Moving.{strays, trapping, giving, setting-field, gi
 -- the topmost operand, looked into
 
 module _ {vs : List Value} {t : Topmost} {r : Reference} (s : Seen vs t) (is : r ≡ referenceAt t) (os : Store) (f : List Value → ℕ → Object → Outcome) where
-  look-wrong : r ≡ Reference.the-variants.Wrong → onTaken vs (λ v below. onObject os 42 v (f below)) ≡ stuck
+  look-wrong : r ≡ Reference.the-variants.Wrong → onTaken vs (λ v below. onObject os trapNull v (f below)) ≡ stuck
   look-wrong e = wrong-top s is e _
 
-  look-null : r ≡ Reference.the-variants.Null → onTaken vs (λ v below. onObject os 42 v (f below)) ≡ traps 42
+  look-null : r ≡ Reference.the-variants.Null → onTaken vs (λ v below. onObject os trapNull v (f below)) ≡ traps trapNull
   look-null e = on-top vs (null-top s is e) _
 
   module _ {o : ℕ} (e : r ≡ Reference.the-variants.To o) where
-    look-missing : getElem? os o ≡ none → onTaken vs (λ v below. onObject os 42 v (f below)) ≡ stuck
+    look-missing : getElem? os o ≡ none → onTaken vs (λ v below. onObject os trapNull v (f below)) ≡ stuck
     look-missing h = on-top vs (object-top s is e) _ ∙ rw h
 
-    look-there : {it : Object} → getElem? os o ≡ some it → onTaken vs (λ v below. onObject os 42 v (f below)) ≡ f (drop 1 vs) o it
+    look-there : {it : Object} → getElem? os o ≡ some it → onTaken vs (λ v below. onObject os trapNull v (f below)) ≡ f (drop 1 vs) o it
     look-there h = on-top vs (object-top s is e) _ ∙ rw h
 
 -- struct.get
@@ -50,7 +53,7 @@ module _ {objects cells : List ℕ} {n : ℕ} {first second : Topmost} (x i : �
   unfolding doOp
   get-wrong e = record { is = λ p codes m total a. strays (look-wrong (a .top) is (m .heap) _ e) }
 
-  pub get-null : r ≡ Reference.the-variants.Null → FieldPlans objects cells n first second (struct-get x i) (Move.the-variants.Traps 42)
+  pub get-null : r ≡ Reference.the-variants.Null → FieldPlans objects cells n first second (struct-get x i) (Move.the-variants.Traps trapNull)
   unfolding doOp
   get-null e = record { is = λ p codes m total a. trapping (look-null (a .top) is (m .heap) _ e) }
 
@@ -58,7 +61,7 @@ module _ {objects cells : List ℕ} {n : ℕ} {first second : Topmost} (x i : �
     pub get-past : n ≤ o → FieldPlans objects cells n first second (struct-get x i) Move.the-variants.Astray
     unfolding doOp
     get-past h =
-        record { is = λ p codes m total a. strays (look-missing (a .top) is (m .heap) _ e (object-past objects cells (a .heap) h)) }
+        record { is = λ p codes m total a. strays (look-missing (a .top) is (m .heap) _ e (object-none objects cells (a .heap) h)) }
 
     module _ (h : o < n) {held : Held} (b : HeldField objects cells o i held) where
       pub get-missed : held ≡ Held.the-variants.Absent → FieldPlans objects cells n first second (struct-get x i) Move.the-variants.Astray
@@ -90,7 +93,7 @@ module _ {objects cells : List ℕ} {n : ℕ} {first second : Topmost} (x i : �
     set-wrong e =
         record { is = λ p codes m total a. strays (on-top (m .operands) (value-top (a .top) q) _ ∙ look-wrong (a .next) is (m .heap) _ e) }
 
-    pub set-null : r ≡ Reference.the-variants.Null → FieldPlans objects cells n first second (struct-set x i) (Move.the-variants.Traps 42)
+    pub set-null : r ≡ Reference.the-variants.Null → FieldPlans objects cells n first second (struct-set x i) (Move.the-variants.Traps trapNull)
     unfolding doOp
     set-null e =
         record { is = λ p codes m total a. trapping (on-top (m .operands) (value-top (a .top) q) _ ∙ look-null (a .next) is (m .heap) _ e) }
@@ -103,7 +106,7 @@ module _ {objects cells : List ℕ} {n : ℕ} {first second : Topmost} (x i : �
             is = λ p codes m total a.
                 strays
                 (on-top (m .operands) (value-top (a .top) q) _
-                ∙ look-missing (a .next) is (m .heap) _ e (object-past objects cells (a .heap) h));
+                ∙ look-missing (a .next) is (m .heap) _ e (object-none objects cells (a .heap) h));
           }
 
       module _ (h : o < n) {held : Held} (b : HeldField objects cells o i held) where
@@ -138,8 +141,8 @@ pub field-fits :
     {objects cells : List ℕ} {o i : ℕ} {held : Held} → HeldField objects cells o i held → {k w : ℕ} → held ≡ Held.the-variants.Is k w → ((j : ℕ) → getD objects j 0 < 2 ^ 16)
     → Fits w32 i
 field-fits {objects} {cells} {o} {i} b {k} {w} e words =
-    let small = words (4 * o + 3) in
-    let inside : i < objectWord objects o 3 = rw (fields-length objects cells o) at (b .inside k w e) in record { fits = omega arith }
+    let small = words (objectSpan * o + countWord) in
+    let inside : i < objectWord objects o countWord = rw (fields-length objects cells o) at (b .inside k w e) in record { fits = omega arith }
 
 -- ref.get_desc
 
@@ -148,7 +151,7 @@ module _ {objects cells : List ℕ} {n : ℕ} {first second : Topmost} (x : ℕ)
   unfolding doOp
   desc-wrong e = record { is = λ p codes m total a. strays (look-wrong (a .top) is (m .heap) _ e) }
 
-  pub desc-null : r ≡ Reference.the-variants.Null → FieldPlans objects cells n first second (ref-get-desc x) (Move.the-variants.Traps 42)
+  pub desc-null : r ≡ Reference.the-variants.Null → FieldPlans objects cells n first second (ref-get-desc x) (Move.the-variants.Traps trapNull)
   unfolding doOp
   desc-null e = record { is = λ p codes m total a. trapping (look-null (a .top) is (m .heap) _ e) }
 
@@ -156,7 +159,7 @@ module _ {objects cells : List ℕ} {n : ℕ} {first second : Topmost} (x : ℕ)
     pub desc-past : n ≤ o → FieldPlans objects cells n first second (ref-get-desc x) Move.the-variants.Astray
     unfolding doOp
     desc-past h =
-        record { is = λ p codes m total a. strays (look-missing (a .top) is (m .heap) _ e (object-past objects cells (a .heap) h)) }
+        record { is = λ p codes m total a. strays (look-missing (a .top) is (m .heap) _ e (object-none objects cells (a .heap) h)) }
 
     module _ (h : o < n) {link : Link} (b : DescriptorOf objects o link) where
       pub desc-missed : link ≡ Link.the-variants.Nothing → FieldPlans objects cells n first second (ref-get-desc x) Move.the-variants.Astray
@@ -169,7 +172,7 @@ module _ {objects cells : List ℕ} {n : ℕ} {first second : Topmost} (x : ℕ)
                 ∙ rw (link-nothing (objectAt objects cells o .descriptor) (b .is cells) q));
           }
 
-      pub desc-got : {d : ℕ} → link ≡ Link.the-variants.To d → FieldPlans objects cells n first second (ref-get-desc x) (Move.the-variants.Gives 1 6 d)
+      pub desc-got : {d : ℕ} → link ≡ Link.the-variants.To d → FieldPlans objects cells n first second (ref-get-desc x) (Move.the-variants.Gives 1 objectKind d)
       unfolding doOp
       desc-got {d} q =
           record {

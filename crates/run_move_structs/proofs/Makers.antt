@@ -9,6 +9,8 @@ use native.Mathlib.Nat.{mod-eq-of-lt}
 use lib.ListN.{length, take, drop, length-drop, length-reverse, length-map}
 use lib.Seq.{drop-drop, length-take-le}
 use borrow.Author.Tests.{not-true, not-false}
+use Rattle.scope.specs.Refusals.{trapNullDescriptor, trapNoRoom}
+use Rattle.scope.specs.Sizes.{mostObjects}
 use Rattle.scope.specs.Syntax.{Field}
 use Rattle.scope.specs.BodyRules.{fieldsOf, holdsOf}
 use Rattle.scope.specs.Instructions.{Op, struct-new, struct-new-default, struct-new-desc, struct-new-default-desc}
@@ -54,7 +56,7 @@ make-room :
     → make m x d fields below ≡ goes (withObject m x d fields below)
 make-room m x d fields below k long room = rw (long, room)
 
-make-none : (m : Machine) (x : ℕ) (d : Option ℕ) (fields below : List Value) (k : ℕ) → length fields ≡ k → hasRoom (m .heap) k ≡ false → make m x d fields below ≡ traps 45
+make-none : (m : Machine) (x : ℕ) (d : Option ℕ) (fields below : List Value) (k : ℕ) → length fields ≡ k → hasRoom (m .heap) k ≡ false → make m x d fields below ≡ traps trapNoRoom
 make-none m x d fields below k long room = rw (long, room)
 
 -- the fields of the type
@@ -109,7 +111,7 @@ module _ {rows codes : List ℕ} {n total height taken x d : ℕ} {shape : Shape
                 free;
           }
 
-      pub given-full : room ≡ false → MakesGiven rows codes n total height taken x d (Move.the-variants.Traps 45)
+      pub given-full : room ≡ false → MakesGiven rows codes n total height taken x d (Move.the-variants.Traps trapNoRoom)
       given-full b =
           record {
             is = λ p m objects cells types long low heap kept.
@@ -160,7 +162,7 @@ module _ {rows codes : List ℕ} {n total taken x d : ℕ} {shape : Shape} (form
                 free;
           }
 
-      pub default-full : room ≡ false → MakesDefaults rows codes n total taken x d (Move.the-variants.Traps 45)
+      pub default-full : room ≡ false → MakesDefaults rows codes n total taken x d (Move.the-variants.Traps trapNoRoom)
       default-full b =
           record {
             is = λ p m objects cells types low heap kept.
@@ -188,7 +190,7 @@ module _ {rows codes : List ℕ} {n total height : ℕ} {first : Topmost} {x : �
 -- struct.new_desc and struct.new_default_desc
 
 -- the word of a descriptor that is there says its number
-link-is : {d n : ℕ} → d < n → n ≤ 1_024 → linkAt ((d + 1) % 65_536) ≡ some d
+link-is : {d n : ℕ} → d < n → n ≤ mostObjects → linkAt ((d + 1) % 65_536) ≡ some d
 link-is {d} h few = let small : (d + 1) % 65_536 ≡ d + 1 = mod-eq-of-lt (omega arith) in ap linkAt small ∙ link-more d
 
 module _ {rows codes : List ℕ} {n total height : ℕ} {first : Topmost} (x : ℕ) {to : Reference} (is : to ≡ referenceAt first) where
@@ -200,12 +202,12 @@ module _ {rows codes : List ℕ} {n total height : ℕ} {first : Topmost} (x : �
   unfolding doOp
   new-default-desc-wrong e = record { is = λ p m second objects cells types long knows. strays (wrong-top (knows .top) is e _) }
 
-  pub new-desc-null : to ≡ Reference.the-variants.Null → MakePlans rows codes n total height first (struct-new-desc x) (Move.the-variants.Traps 43)
+  pub new-desc-null : to ≡ Reference.the-variants.Null → MakePlans rows codes n total height first (struct-new-desc x) (Move.the-variants.Traps trapNullDescriptor)
   unfolding doOp
   new-desc-null e =
       record { is = λ p m second objects cells types long knows. trapping (on-top (m .operands) (null-top (knows .top) is e) _) }
 
-  pub new-default-desc-null : to ≡ Reference.the-variants.Null → MakePlans rows codes n total height first (struct-new-default-desc x) (Move.the-variants.Traps 43)
+  pub new-default-desc-null : to ≡ Reference.the-variants.Null → MakePlans rows codes n total height first (struct-new-default-desc x) (Move.the-variants.Traps trapNullDescriptor)
   unfolding doOp
   new-default-desc-null e =
       record { is = λ p m second objects cells types long knows. trapping (on-top (m .operands) (null-top (knows .top) is e) _) }

@@ -3,21 +3,17 @@
 use run_heap::Held;
 use run_stack::Topmost;
 use run_state::Move;
-use run_state::OBJECT;
 use run_state::Reference;
+use run_values::layout::OBJECT;
+use scope::traps::NO_ROOM;
+use scope::traps::NULL as NULL_USED;
+use scope::traps::NULL_DESCRIPTOR;
 use type_table::Link;
 use type_table::Shape;
 ghost use Prim.Native.Nat.{_<_};
 ghost use Rattle.scope.specs.Instructions.{struct-new, struct-new-default, struct-get, struct-set, struct-new-desc, struct-new-default-desc, ref-get-desc};
 ghost use Rattle.run_state.specs.Planned.{FieldPlans, MakePlans};
 ghost use Rattle.run_move_structs.specs.Makes.{MakesGiven, MakesDefaults};
-
-// Null used by get, set or ref.get_desc; a null descriptor; no room.
-const TRAP_NULL: u64 = 42;
-
-const TRAP_NULL_DESCRIPTOR: u64 = 43;
-
-const TRAP_NO_ROOM: u64 = 45;
 
 // A descriptor is told by a word.
 const WORDS: u64 = 65536;
@@ -37,7 +33,7 @@ pub fn get_field_move(
     let reference = run_state::reference_of(first);
     match reference {
         Reference::Wrong => Move::Astray,
-        Reference::Null => Move::Traps(TRAP_NULL),
+        Reference::Null => Move::Traps(NULL_USED),
         Reference::To(o) => {
             if n as u64 <= o {
                 return Move::Astray;
@@ -69,7 +65,7 @@ pub fn set_field_move(
     let reference = run_state::reference_of(second);
     match reference {
         Reference::Wrong => Move::Astray,
-        Reference::Null => Move::Traps(TRAP_NULL),
+        Reference::Null => Move::Traps(NULL_USED),
         Reference::To(o) => {
             if n as u64 <= o {
                 return Move::Astray;
@@ -97,7 +93,7 @@ pub fn get_descriptor_move(
     let reference = run_state::reference_of(first);
     match reference {
         Reference::Wrong => Move::Astray,
-        Reference::Null => Move::Traps(TRAP_NULL),
+        Reference::Null => Move::Traps(NULL_USED),
         Reference::To(o) => {
             if n as u64 <= o {
                 return Move::Astray;
@@ -135,7 +131,7 @@ fn given_move(
             if run_heap::room_for(n, total, k) {
                 return Move::Makes(taken, x as u16, d, k);
             }
-            Move::Traps(TRAP_NO_ROOM)
+            Move::Traps(NO_ROOM)
         }
     }
 }
@@ -155,7 +151,7 @@ fn default_move(rows: &[u16], codes: &[u16], n: u32, total: u32, taken: u32, x: 
             if run_heap::room_for(n, total, k) {
                 return Move::MakesDefault(taken, x as u16, d, first, k);
             }
-            Move::Traps(TRAP_NO_ROOM)
+            Move::Traps(NO_ROOM)
         }
     }
 }
@@ -208,7 +204,7 @@ pub fn new_desc_move(
     let reference = run_state::reference_of(first);
     match reference {
         Reference::Wrong => Move::Astray,
-        Reference::Null => Move::Traps(TRAP_NULL_DESCRIPTOR),
+        Reference::Null => Move::Traps(NULL_DESCRIPTOR),
         Reference::To(d) => {
             if n as u64 <= d {
                 return Move::Astray;
@@ -243,7 +239,7 @@ pub fn new_default_desc_move(
     let reference = run_state::reference_of(first);
     match reference {
         Reference::Wrong => Move::Astray,
-        Reference::Null => Move::Traps(TRAP_NULL_DESCRIPTOR),
+        Reference::Null => Move::Traps(NULL_DESCRIPTOR),
         Reference::To(d) => {
             if n as u64 <= d {
                 return Move::Astray;

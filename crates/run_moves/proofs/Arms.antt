@@ -5,9 +5,11 @@ use mathlib.Core.Bool.{Bool}
 use mathlib.Core.List.{List}
 use native.Mathlib.Omega.{arith}
 use lib.ListN.{length, drop}
+use Rattle.scope.specs.Refusals.{trapUnreachable, trapCast}
 use Rattle.scope.specs.Instructions.{Op, op}
 use Rattle.scope.specs.Machine.{Value, Machine, Program, doOp}
 use Rattle.scope.proofs.Impossible.{contradiction, impossible}
+use Rattle.run_values.specs.Layout.{i32Kind, nullKind}
 use Rattle.type_table.specs.View.{view}
 use Rattle.body_immediates.specs.declared.Instruction.{Instruction}
 use Rattle.body_immediates.specs.declared.Instruction
@@ -136,7 +138,7 @@ module _ (rows codes objects cells locals operands : List ℕ) (count : ℕ) (st
 
     -- what looks at nothing
 
-    pub by-unreachable : i ≡ Instruction.the-variants.Unreachable → Tells i (Move.the-variants.Traps 41)
+    pub by-unreachable : i ≡ Instruction.the-variants.Unreachable → Tells i (Move.the-variants.Traps trapUnreachable)
     unfolding instrOf doOp
     by-unreachable e = tells e refl (λ p m types holds. trapping refl)
 
@@ -152,12 +154,12 @@ module _ (rows codes objects cells locals operands : List ℕ) (count : ℕ) (st
     unfolding instrOf doOp
     by-branch {l} e = tells e refl (λ p m types holds. branching 0 l refl (omega arith))
 
-    pub by-const : {n : ℕ} → i ≡ Instruction.the-variants.I32Const n → Tells i (Move.the-variants.Gives 0 1 n)
+    pub by-const : {n : ℕ} → i ≡ Instruction.the-variants.I32Const n → Tells i (Move.the-variants.Gives 0 i32Kind n)
     unfolding instrOf doOp
     by-const {n} e =
         tells e refl (λ p m types holds. giving-i32 0 n refl (omega arith))
 
-    pub by-null : {h : ℕ} → i ≡ Instruction.the-variants.RefNull h → Tells i (Move.the-variants.Gives 0 5 0)
+    pub by-null : {h : ℕ} → i ≡ Instruction.the-variants.RefNull h → Tells i (Move.the-variants.Gives 0 nullKind 0)
     unfolding instrOf doOp
     by-null e =
         tells e refl (λ p m types holds. giving-null 0 refl (omega arith))
@@ -166,20 +168,20 @@ module _ (rows codes objects cells locals operands : List ℕ) (count : ℕ) (st
 
     module _ {nullToo : Bool} {h : ℕ} {first second : Topmost} {r : Move} where
       pub by-test :
-          i ≡ Instruction.the-variants.RefTest nullToo h → ByType first nullToo h (Move.the-variants.Gives 1 1 1) (Move.the-variants.Gives 1 1 0) r → First first → Second second
+          i ≡ Instruction.the-variants.RefTest nullToo h → ByType first nullToo h (Move.the-variants.Gives 1 i32Kind 1) (Move.the-variants.Gives 1 i32Kind 0) r → First first → Second second
           → Tells i r
       unfolding instrOf
       by-test e a t u = tells e refl (λ p m types holds. test-is types (knows t holds u) a)
 
       pub by-cast :
-          i ≡ Instruction.the-variants.RefCast nullToo h → ByType first nullToo h (Move.the-variants.Leaves 0) (Move.the-variants.Traps 44) r → First first → Second second
+          i ≡ Instruction.the-variants.RefCast nullToo h → ByType first nullToo h (Move.the-variants.Leaves 0) (Move.the-variants.Traps trapCast) r → First first → Second second
           → Tells i r
       unfolding instrOf
       by-cast e a t u = tells e refl (λ p m types holds. cast-is types (knows t holds u) a)
 
       pub by-descriptor-cast :
           i ≡ Instruction.the-variants.RefCastDescEq nullToo h
-          → ByDescriptor first second nullToo (Move.the-variants.Leaves 1) (Move.the-variants.Traps 44) r → First first → Second second
+          → ByDescriptor first second nullToo (Move.the-variants.Leaves 1) (Move.the-variants.Traps trapCast) r → First first → Second second
           → Tells i r
       unfolding instrOf
       by-descriptor-cast e a t u = tells e refl (λ p m types holds. descriptor-cast-is h (knows t holds u) a)

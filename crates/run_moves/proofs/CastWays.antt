@@ -7,6 +7,7 @@ use native.Mathlib.Omega.{arith}
 use Rattle.scope.specs.Instructions.{ref-test, ref-cast, br-on-cast, br-on-cast-fail, ref-cast-desc-eq, br-on-cast-desc-eq, br-on-cast-desc-eq-fail}
 use Rattle.scope.specs.Refusals.{trapCast}
 use Rattle.scope.specs.Machine.{Value, Machine, Program, goes, traps, withOperands, truth, branch, doOp}
+use Rattle.run_values.specs.Layout.{i32Kind}
 use Rattle.type_table.specs.View.{heapAtCode, view}
 use Rattle.body_decoded.specs.Decoded.{castOf}
 use Rattle.run_stack.specs.declared.Topmost.{Topmost}
@@ -22,7 +23,7 @@ use Rattle.run_move_casts.specs.Passes.{CastChosen, DescriptorChosen}
 
 module _ {rows codes objects cells : List ℕ} {n total : ℕ} {first second : Topmost} {p : Program} {m : Machine} {nullToo : Bool} {h : ℕ} {r : Move} (types : p .types ≡ view rows codes) (knows : Knows m first second objects cells n total) where
   pub test-is :
-      CastChosen rows codes objects n first nullToo h (Move.the-variants.Gives 1 1 1) (Move.the-variants.Gives 1 1 0) r
+      CastChosen rows codes objects n first nullToo h (Move.the-variants.Gives 1 i32Kind 1) (Move.the-variants.Gives 1 i32Kind 0) r
       → MoveIs p codes m (doOp p m (m .operands) (ref-test nullToo (heapAtCode h))) r
   unfolding doOp
   test-is a =
@@ -31,7 +32,7 @@ module _ {rows codes objects cells : List ℕ} {n total : ℕ} {first second : T
       (λ v top. giving-i32 1 0 refl (top-low (m .operands) top))
 
   pub cast-is :
-      CastChosen rows codes objects n first nullToo h (Move.the-variants.Leaves 0) (Move.the-variants.Traps 44) r
+      CastChosen rows codes objects n first nullToo h (Move.the-variants.Leaves 0) (Move.the-variants.Traps trapCast) r
       → MoveIs p codes m (doOp p m (m .operands) (ref-cast nullToo (heapAtCode h))) r
   unfolding doOp
   cast-is a =
@@ -62,7 +63,7 @@ module _ {rows codes objects cells : List ℕ} {n total : ℕ} {first second : T
 
 module _ {objects cells : List ℕ} {n total : ℕ} {first second : Topmost} {p : Program} {codes : List ℕ} {m : Machine} {nullToo : Bool} (h : ℕ) {r : Move} (knows : Knows m first second objects cells n total) where
   pub descriptor-cast-is :
-      DescriptorChosen objects n first second nullToo (Move.the-variants.Leaves 1) (Move.the-variants.Traps 44) r
+      DescriptorChosen objects n first second nullToo (Move.the-variants.Leaves 1) (Move.the-variants.Traps trapCast) r
       → MoveIs p codes m (doOp p m (m .operands) (ref-cast-desc-eq nullToo (heapAtCode h))) r
   unfolding doOp
   descriptor-cast-is a =

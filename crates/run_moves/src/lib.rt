@@ -1,18 +1,14 @@
-// The move of each instruction, from the words of a run's memory. Nothing is written here. The moves are told in top_moves,
-// heap_moves and cast_moves; the casts' two ways stand here.
+// The move of each instruction, from the words of a run's memory. Nothing is written here. The moves are told in the
+// crates run_move_operands, run_move_structs and run_move_casts; the casts' two ways stand here.
 use body_immediates::Instruction;
 use run_stack::Topmost;
-use run_state::I32;
 use run_state::Move;
-use run_state::NULL;
 use run_state::Stage;
+use run_values::layout::I32;
+use run_values::layout::NULL;
+use scope::traps;
 ghost use Rattle.body_decoded.specs.Named.{Modest};
 ghost use Rattle.run_moves.specs.Moving.{SecondIs, MoveOf};
-
-// The traps of unreachable and of a cast.
-const TRAP_UNREACHABLE: u64 = 41;
-
-const TRAP_CAST: u64 = 44;
 
 // The operand under the topmost.
 fn second_of(operands: &[u64], base: u32, height: u32) -> Topmost
@@ -37,7 +33,11 @@ pub fn move_of(
     i: Instruction,
 ) -> Move
     requires { ⌜ Modest i ⌝ }
-    ensures { λ r. ⌜ MoveOf (now (rows .entry)) (now (codes .entry)) (now (objects .entry)) (now (cells .entry)) (now (locals .entry)) (now (operands .entry)) count stage i r ⌝ }
+    ensures { λ r.
+        ⌜ MoveOf
+        (now (rows .entry)) (now (codes .entry))
+        (now (objects .entry)) (now (cells .entry)) (now (locals .entry)) (now (operands .entry))
+        count stage i r ⌝ }
 {
     let n = stage.objects;
     let total = stage.cells;
@@ -46,7 +46,7 @@ pub fn move_of(
     let first = run_stack::top(operands, base, height);
     let second = second_of(operands, base, height);
     match i {
-        Instruction::Unreachable => Move::Traps(TRAP_UNREACHABLE),
+        Instruction::Unreachable => Move::Traps(traps::UNREACHABLE),
         Instruction::Nop => Move::Leaves(0),
         Instruction::Block(_) => Move::Astray,
         Instruction::Loop(_) => Move::Astray,
@@ -101,7 +101,7 @@ pub fn move_of(
             null,
             h,
             Move::Leaves(0),
-            Move::Traps(TRAP_CAST),
+            Move::Traps(traps::CAST),
         ),
         Instruction::BrOnCast(l, _, _, null, h) => run_move_casts::cast_move(
             rows,
@@ -141,7 +141,7 @@ pub fn move_of(
             second,
             null,
             Move::Leaves(1),
-            Move::Traps(TRAP_CAST),
+            Move::Traps(traps::CAST),
         ),
         Instruction::BrOnCastDescEq(l, _, _, null, _) => run_move_casts::descriptor_cast_move(
             objects,

@@ -1,4 +1,4 @@
--- `cast_moves::cast_move` meets its contract.
+-- `run_move_casts::cast_move` meets its contract.
 use borrow.Author.Needs.{needs}
 use Rattle.run_move_casts.proofs.Choices.{chosen-exits}
 use Rattle.run_move_casts.proofs.cast_move.Statement.{statement}

@@ -1,4 +1,4 @@
--- `heap_moves::default_move` meets its contract.
+-- `run_move_structs::default_move` meets its contract.
 use borrow.Author.Needs.{needs}
 use Rattle.run_move_structs.proofs.Makers.{make-exits}
 use Rattle.run_move_structs.proofs.default_move.Statement.{statement}

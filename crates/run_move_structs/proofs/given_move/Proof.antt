@@ -1,4 +1,4 @@
--- `heap_moves::given_move` meets its contract.
+-- `run_move_structs::given_move` meets its contract.
 use borrow.Author.Needs.{needs}
 use Rattle.run_move_structs.proofs.Makers.{make-exits}
 use Rattle.run_move_structs.proofs.given_move.Statement.{statement}

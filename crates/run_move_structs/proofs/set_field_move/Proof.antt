@@ -1,4 +1,4 @@
--- `heap_moves::set_field_move` meets its contract.
+-- `run_move_structs::set_field_move` meets its contract.
 use Prim.Native.Nat.{ℕ, _^_, _<_}
 use native.Mathlib.Omega.{arith}
 use lib.ListN.{getD}

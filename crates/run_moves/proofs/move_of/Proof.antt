@@ -1,4 +1,4 @@
--- `moves::move_of` meets its contract: each arm's move is what its instruction comes to.
+-- `run_moves::move_of` meets its contract: each arm's move is what its instruction comes to.
 use borrow.Author.Needs.{needs}
 use Rattle.body_decoded.specs.Decoded.{instrOf}
 use Rattle.body_decoded.specs.Named.{numberOf}

@@ -1,4 +1,4 @@
--- `moves::second_of` meets its contract.
+-- `run_moves::second_of` meets its contract.
 use borrow.Author.Needs.{needs}
 use Rattle.run_moves.proofs.Arms.{second-exits}
 use Rattle.run_moves.proofs.second_of.Statement.{statement}
