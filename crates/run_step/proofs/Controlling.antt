@@ -66,6 +66,6 @@ module _ (s ends′ : List ℕ) (count : ℕ) (w : Words) (st : Stage) (next : �
         astray = λ e. astray-here s count w st next (a .astray e);
         orderly = λ later e. record { valued = now-valued b′ values (a .heap later e) (a .piled later e); framed = a .framed later e };
         valued = λ later e. now-valued b′ values (a .lastHeap later e) (a .results later e);
-        closed = λ later e. a .closed later e;
+        over = λ later e. a .over later e;
         same = λ number e. absurd (a .traps-not number e);
       }

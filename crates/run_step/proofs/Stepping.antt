@@ -11,6 +11,7 @@ use Rattle.scope.specs.Reading.{got}
 use Rattle.scope.specs.Instructions.{Op, Instr, block, loop, end, op, instrAt}
 use Rattle.scope.specs.Machine.{Machine, Program, Outcome, stuck, doInstr, step, stepOn}
 use Rattle.scope.proofs.Impossible.{contradiction, impossible}
+use Rattle.run_values.specs.Layout.{openedBlock, openedLoop}
 use Rattle.body_immediates.specs.declared.Instruction.{Instruction}
 use Rattle.body_immediates.specs.declared.Instruction
 use Rattle.body_immediates.proofs.Instruction.{the-type}
@@ -77,7 +78,7 @@ module _ {s ends codes : List ℕ} {count : ℕ} {w w′ : Words} {p : Program} 
         astray = λ e. strays-so (done .astray e) (astray-or-not it);
         orderly = done .orderly;
         valued = done .valued;
-        closed = done .closed;
+        over = done .over;
         same = done .same;
       }
 
@@ -156,18 +157,18 @@ module _ {s ends : List ℕ} {count : ℕ} {o c l p b : List ℕ} {st : Stage} {
       (record { is = stepped (programAt rows codes results) r (a .is s ends p (may .here .instr) (programAt rows codes results) (machineAt s count (words o c l p b) (atPlace st next)) (may .orderly .framed) piled (may .here .read) kinds (machine-controls s count (words o c l p b) (atPlace st next))) })
 
   pub step-block :
-      {x : ℕ} → i ≡ Instruction.the-variants.Block x → {b′ : List ℕ} {r : Stepped} → Opens b b′ st next 1 r
+      {x : ℕ} → i ≡ Instruction.the-variants.Block x → {b′ : List ℕ} {r : Stepped} → Opens b b′ st next openedBlock r
       → {rows codes : List ℕ} {results : ℕ} {o′ c′ l′ p′ : List ℕ} → o′ ≡ o → c′ ≡ c → l′ ≡ l → p′ ≡ p
       → StepOf s rows codes ends count (words o c l p b) (words o′ c′ l′ p′ b′) st results r
   unfolding instrOf
-  step-block {x} e = opened (subst (OpensAs 1) (sym (ap instrOf e) ∙ may .here .back) as-block)
+  step-block {x} e = opened (subst (OpensAs openedBlock) (sym (ap instrOf e) ∙ may .here .back) as-block)
 
   pub step-loop :
-      {x : ℕ} → i ≡ Instruction.the-variants.Loop x → {b′ : List ℕ} {r : Stepped} → Opens b b′ st next 2 r
+      {x : ℕ} → i ≡ Instruction.the-variants.Loop x → {b′ : List ℕ} {r : Stepped} → Opens b b′ st next openedLoop r
       → {rows codes : List ℕ} {results : ℕ} {o′ c′ l′ p′ : List ℕ} → o′ ≡ o → c′ ≡ c → l′ ≡ l → p′ ≡ p
       → StepOf s rows codes ends count (words o c l p b) (words o′ c′ l′ p′ b′) st results r
   unfolding instrOf
-  step-loop {x} e = opened (subst (OpensAs 2) (sym (ap instrOf e) ∙ may .here .back) as-loop)
+  step-loop {x} e = opened (subst (OpensAs openedLoop) (sym (ap instrOf e) ∙ may .here .back) as-loop)
 
   pub step-end :
       i ≡ Instruction.the-variants.End → {p′ : List ℕ} {r : Stepped} {results : ℕ} → Closes p p′ b st next results (length s) r
@@ -218,7 +219,7 @@ module _ {s ends : List ℕ} {count : ℕ} {o c l p b : List ℕ} {st : Stage} {
           astray = λ e. astray-here s count (words o c l p b) st next (a .astray e);
           orderly = a .orderly;
           valued = a .valued;
-          closed = a .closed;
+          over = a .over;
           same = a .same;
         }
 

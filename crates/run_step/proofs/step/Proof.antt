@@ -1,4 +1,4 @@
--- `steps::step` meets its contract.
+-- `run_step::step` meets its contract.
 use borrow.Author.Needs.{needs}
 use Rattle.run_step.proofs.Stepping.{step-exits}
 use Rattle.run_step.proofs.step.Statement.{statement}

@@ -1,4 +1,4 @@
--- `steps::step_inside` meets its contract.
+-- `run_step::step_inside` meets its contract.
 use borrow.Author.Needs.{needs}
 use Rattle.run_step.proofs.Stepping.{inside-movable, inside-exits}
 use Rattle.run_step.proofs.step_inside.Statement.{statement}
