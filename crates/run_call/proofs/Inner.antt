@@ -29,13 +29,13 @@ use Rattle.run_ends.specs.Matching.{Fillable, Filled}
 use Rattle.run_stack.specs.Pile.{LocalRoom, Started}
 use Rattle.run_stack.proofs.Laws.{pile-length}
 use Rattle.run_state.specs.declared.Stage.{Stage}
-use Rattle.run_state.specs.Machines.{Words, words, machineAt, Valued}
+use Rattle.run_state.specs.Machines.{Words, words, machineAt, Valued, startStage}
 use Rattle.run_state.specs.Written.{StateTold}
 use Rattle.run_buffers.specs.States.{stateOf, Settling, Settled}
 use Rattle.run_buffers.proofs.Settles.{settled-told}
 use Rattle.run_loop.specs.declared.Ending.{Ending}
 use Rattle.run_loop.specs.declared.Ending
-use Rattle.run_loop.specs.Runs.{startStage, stageOf, endingAt, RanFrom}
+use Rattle.run_loop.specs.Runs.{stageOf, endingAt, RanFrom}
 use Rattle.run_call.specs.Parts.{Parts}
 use Rattle.run_call.specs.Trial.{tellOf, Startable, runHere, RunStarted, Placing, Placed, RunLocated, Shaping, Shaped, RunShaped, Typing, Typed, RunTyped, Allowed, RunJudged}
 use Rattle.run_call.proofs.Bodily.{parts}

@@ -13,9 +13,9 @@ use Rattle.run_values.specs.Values.{numbered}
 use Rattle.run_heap.proofs.Made.{kept-none}
 use Rattle.run_stack.specs.Pile.{pile, Started}
 use Rattle.run_ends.specs.Matching.{EndsOf, here}
-use Rattle.run_state.specs.Machines.{words, lower, blocksAt, machineAt, programAt, outermost, Orderly}
+use Rattle.run_state.specs.Machines.{words, lower, blocksAt, machineAt, programAt, outermost, Orderly, startStage}
 use Rattle.run_sound.proofs.Along.{sound-run}
-use Rattle.run_loop.specs.Runs.{startStage, Runnable}
+use Rattle.run_loop.specs.Runs.{Runnable}
 use Rattle.run_call.specs.Parts.{Parts, TypesAgain, FunctionAgain, LocalsAgain}
 use Rattle.run_call.proofs.Bodily.{parts, few-types}
 

@@ -15,11 +15,11 @@ use Rattle.scope.specs.Memory.{StateWords, stateWords, wiped}
 use Rattle.scope.specs.Answers.{after, tableLent, holds, RunMemory, runCall, machineOf, endedAs, ranOf}
 use Rattle.scope.specs.Layout.{workSize, endsSize}
 use Rattle.scope.proofs.Soundness.{Runs}
-use Rattle.run_state.specs.Machines.{Words, words, machineAt, programAt}
+use Rattle.run_state.specs.Machines.{Words, words, machineAt, programAt, startStage}
 use Rattle.run_buffers.specs.States.{Written}
 use Rattle.run_loop.specs.declared.Ending.{Ending}
 use Rattle.run_loop.specs.declared.Ending
-use Rattle.run_loop.specs.Runs.{startStage, Runnable}
+use Rattle.run_loop.specs.Runs.{Runnable}
 use Rattle.run_call.specs.Parts.{TypesAgain, FunctionAgain, LocalsAgain}
 
 -- the state's memory

@@ -23,14 +23,14 @@ use Rattle.run_ends.proofs.Codes.{code-here, code-refused}
 use Rattle.run_state.specs.declared.Stage.{Stage}
 use Rattle.run_state.specs.declared.Stepped.{Stepped}
 use Rattle.run_state.specs.declared.Stepped
-use Rattle.run_state.specs.Machines.{Words, words, machineAt, programAt, Orderly}
+use Rattle.run_state.specs.Machines.{Words, words, machineAt, programAt, Orderly, startStage}
 use Rattle.run_state.specs.Moved.{outcomeAt}
 use Rattle.run_state.proofs.Told.{state-words, last-state-words}
 use Rattle.run_sound.specs.Sound.{Sound}
 use Rattle.run_step.specs.Carried.{Steppable, StepOf}
 use Rattle.run_loop.specs.declared.Ending.{Ending}
 use Rattle.run_loop.specs.declared.Ending
-use Rattle.run_loop.specs.Runs.{startStage, Readable, Runnable, endingAt, RanFrom}
+use Rattle.run_loop.specs.Runs.{Readable, Runnable, endingAt, RanFrom}
 
 -- as many words as at first
 pub record Sizes (w₀ w : Words) : Type 0 where
@@ -51,10 +51,10 @@ pub record Going (s rows codes ends′ : List ℕ) (count : ℕ) (w₀ : Words) 
 
 pub going-first :
     {s rows codes ends′ : List ℕ} {count : ℕ} {w : Words} {results first : ℕ} (budget : ℕ) → Runnable s rows codes ends′ count w results first
-    → Going s rows codes ends′ count w results first budget w (startStage first) 0
-going-first budget may =
+    → {st : Stage} → st ≡ startStage first → Going s rows codes ends′ count w results first budget w st 0
+going-first budget may is =
     let all : budget - 0 ≡ budget = omega arith in
-    record { sound = may .sound; orderly = may .orderly; reaches = atFirst; rest = rw all refl; few = omega arith; sizes = record { objects = refl; cells = refl; locals = refl; operands = refl; blocks = refl } }
+    rw is (record { sound = may .sound; orderly = may .orderly; reaches = atFirst; rest = rw all refl; few = omega arith; sizes = record { objects = refl; cells = refl; locals = refl; operands = refl; blocks = refl } })
 
 -- one step of the written run
 one-step :
@@ -151,7 +151,7 @@ module _ {s rows codes ends′ : List ℕ} {count : ℕ} {w₀ : Words} {results
       unfolding outcomeAt endingAt
       going-done {later} e =
           let is = came e (λ a. contradiction cc) in
-          record { is = sym (comes is); told = last-state-words (stepped .is .valued later e) (stepped .is .closed later e); valued = stepped .is .valued later e; low = omega (arith, stepped .is .closed later e .depth) }
+          record { is = sym (comes is); told = last-state-words (stepped .is .valued later e) (stepped .is .over later e); valued = stepped .is .valued later e; low = omega (arith, stepped .is .over later e .depth) }
 
       pub going-trapped :
           {number : ℕ} → r ≡ Stepped.the-variants.Traps number

@@ -3,6 +3,7 @@ use Prim.Native.Nat.{ℕ, _*_, _≤_}
 use mathlib.Core.Path.{_≡_}
 use mathlib.Core.List.{List, []}
 use lib.ListN.{length}
+use Rattle.scope.specs.Layout.{blockSpan}
 use Rattle.scope.specs.Reading.{got}
 use Rattle.scope.specs.Instructions.{Instr, instrAt}
 use Rattle.scope.specs.Running as running
@@ -12,15 +13,11 @@ use Rattle.body_immediates.specs.Coding.{instructionOf}
 use Rattle.body_decoded.specs.Decoded.{instrOf}
 use Rattle.run_ends.specs.Matching.{codeAt}
 use Rattle.run_state.specs.declared.Stage.{Stage}
-use Rattle.run_state.specs.Machines.{Words, machineAt, programAt, Valued, Orderly}
+use Rattle.run_state.specs.Machines.{Words, machineAt, programAt, startStage, Valued, Orderly}
 use Rattle.run_state.specs.Written.{StateTold}
 use Rattle.run_sound.specs.Sound.{Sound}
 use Rattle.run_loop.specs.declared.Ending.{Ending}
 use Rattle.run_loop.specs.declared.Ending
-
--- at the first instruction, with an empty heap and no operand
-abbrev pub startStage : ℕ → Stage
-startStage first = record { place = first; objects = 0; cells = 0; base = 0; height = 0; depth = 0 }
 
 -- an instruction can be read at the stage's place, and what is kept of it is it
 pub record Readable (s ends : List ℕ) (count : ℕ) (w : Words) (st : Stage) : Type 0 where
@@ -49,4 +46,4 @@ pub record RanFrom (s rows codes : List ℕ) (count : ℕ) (w w′ : Words) (res
   pub is : endingAt s count w′ first r ≡ run (programAt rows codes results) budget 0 (machineAt s count w (startStage first))
   pub told : StateTold count w′ (stageOf first r) (stateWords s (machineAt s count w′ (stageOf first r)))
   pub valued : Valued count w′ (stageOf first r)
-  pub low : 3 * stageOf first r .depth ≤ length (w′ .blocks)
+  pub low : blockSpan * stageOf first r .depth ≤ length (w′ .blocks)

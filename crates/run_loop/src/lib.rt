@@ -30,7 +30,10 @@ fn step_next(
     stage: Stage,
 ) -> Stepped
     requires { ⌜ Readable (now s) (now ends) count (words (now objects) (now cells) (now locals) (now operands) (now blocks)) stage ⌝ }
-    ensures { λ r. ⌜ StepOf (now (s .entry)) (now (rows .entry)) (now (codes .entry)) (now (ends .entry)) count (words (now (objects .entry)) (now (cells .entry)) (now (locals .entry)) (now (operands .entry)) (now (blocks .entry))) (words (now (objects .exit)) (now (cells .exit)) (now (locals .exit)) (now (operands .exit)) (now (blocks .exit))) stage results r ⌝ }
+    ensures { λ r.
+        let before = words (now (objects .entry)) (now (cells .entry)) (now (locals .entry)) (now (operands .entry)) (now (blocks .entry)) in
+        let after = words (now (objects .exit)) (now (cells .exit)) (now (locals .exit)) (now (operands .exit)) (now (blocks .exit)) in
+        ⌜ StepOf (now (s .entry)) (now (rows .entry)) (now (codes .entry)) (now (ends .entry)) count before after stage results r ⌝ }
 {
     let place = stage.place;
     let read = body_instruction::instruction_at(s, place);
@@ -72,16 +75,12 @@ pub fn run_from(
     budget: u64,
 ) -> Ending
     requires { ⌜ Runnable (now s) (now rows) (now codes) (now ends) count (words (now objects) (now cells) (now locals) (now operands) (now blocks)) results first ⌝ }
-    ensures { λ r. ⌜ RanFrom (now (s .entry)) (now (rows .entry)) (now (codes .entry)) count (words (now (objects .entry)) (now (cells .entry)) (now (locals .entry)) (now (operands .entry)) (now (blocks .entry))) (words (now (objects .exit)) (now (cells .exit)) (now (locals .exit)) (now (operands .exit)) (now (blocks .exit))) results first budget r ⌝ }
+    ensures { λ r.
+        let before = words (now (objects .entry)) (now (cells .entry)) (now (locals .entry)) (now (operands .entry)) (now (blocks .entry)) in
+        let after = words (now (objects .exit)) (now (cells .exit)) (now (locals .exit)) (now (operands .exit)) (now (blocks .exit)) in
+        ⌜ RanFrom (now (s .entry)) (now (rows .entry)) (now (codes .entry)) count before after results first budget r ⌝ }
 {
-    let mut stage = Stage {
-        place: first,
-        objects: 0,
-        cells: 0,
-        base: 0,
-        height: 0,
-        depth: 0,
-    };
+    let mut stage = run_state::start(first);
     let mut steps: u64 = 0;
     while steps < budget {
         let after = steps + 1;

@@ -1,4 +1,4 @@
--- `runs::run_from` meets its contract: each turn is one step of the written run.
+-- `run_loop::run_from` meets its contract: each turn is one step of the written run.
 use Prim.Native.Nat.{_-_}
 use borrow.Author.Needs.{needs}
 use Rattle.run_state.specs.Machines.{words}
@@ -13,6 +13,9 @@ Inv-loop s rows codes ends objects₀ cells₀ locals₀ operands₀ blocks₀ c
 abbrev μ-loop : tie.MeasureT-loop
 μ-loop s rows codes ends objects₀ cells₀ locals₀ operands₀ blocks₀ count results first budget stage₀ steps₀ objects cells locals operands blocks stage steps =
     budget - steps
+
+start-requires : tie.Need-start-requires Inv-loop μ-loop
+start-requires c κs = search (run-exits, needs)
 
 loop-holds : tie.Need-loop-holds Inv-loop μ-loop
 loop-holds c = search (run-exits, needs)
@@ -119,6 +122,7 @@ run-from-spec =
     (tie.spec
     Inv-loop
     μ-loop
+    start-requires
     loop-holds
     add-after
     step-next-requires

@@ -1,4 +1,4 @@
--- `runs::step_next` meets its contract.
+-- `run_loop::step_next` meets its contract.
 use borrow.Author.Needs.{needs}
 use Rattle.run_loop.proofs.Looping.{read-exits}
 use Rattle.run_loop.proofs.step_next.Statement.{statement}
