@@ -1,0 +1,83 @@
+-- Demand 2, whole, over the public calls: what each call answers, from its own promise alone (scope's specs/Answers.antt).
+-- This page is read with scope/specs, specs/Lent.antt and specs/Meant.antt, and the relations that these name: Allowed
+-- (facts_sections), Derivation (facts_bodies), BodySaysNo (facts_refusals), EndsWell (scope's proofs/Soundness.antt).
+-- proofs/Holds.antt proves it.
+use Prim.Native.Nat.{ℕ, _≤_}
+use mathlib.Core.Path.{_≡_}
+use mathlib.Core.Logic.{_↔_, _⊎_}
+use mathlib.Core.Bool.{false}
+use mathlib.Core.Option.{some}
+use mathlib.Core.List.{List}
+use lib.ListN.{getElem?}
+use Rattle.scope.specs.declared.Verdict.{Verdict}
+use Rattle.scope.specs.declared.Verdict
+use Rattle.scope.specs.declared.Ran.{Ran}
+use Rattle.scope.specs.declared.Ran
+use Rattle.scope.specs.Refusals.{bufferTooSmall}
+use Rattle.scope.specs.Syntax.{Definition}
+use Rattle.scope.specs.Bodies.{Body, instructions}
+use Rattle.scope.specs.Running.{startOf, programOf}
+use Rattle.scope.specs.Memory.{filled, wiped, tableRows, tableCodes}
+use Rattle.scope.specs.Answers.{SectionJudged, BodyJudged, RunMemory, RunTried}
+use Rattle.scope.proofs.Soundness.{Trap, RanSoundly}
+use Rattle.facts_sections.specs.Allowed.{Allowed}
+use Rattle.facts_sections.specs.FirstFault.{Refused}
+use Rattle.facts_runs.specs.Counting.{taken, allocations, hasLoop}
+use Rattle.facts_refusals.specs.Bodies.{BodySaysNo}
+use Rattle.facts_calls.specs.Lent.{TableSuffices, TableShort, BodySuffices, BodyShort, RunSuffices, RunShort}
+use Rattle.facts_calls.specs.Meant.{SectionOf, BodyOf, CanRun, RunSaysNo}
+
+-- judging a section
+
+module _ {s rows codes rows′ codes′ : List ℕ} {r : Verdict} where
+  pub record OfSection (promise : SectionJudged s rows codes rows′ codes′ r) : Type 1 where
+    -- yes exactly when the buffers suffice and some list of n definitions is allowed for these bytes
+    pub accepted : (n : ℕ) → (r ≡ Verdict.the-variants.Accepted n) ↔ (TableSuffices rows codes × SectionOf s n)
+    -- "An accepted section gives its type count and its table, zero beyond."
+    pub table : (ds : List Definition) → TableSuffices rows codes → Allowed s ds → (rows′ ≡ filled rows (tableRows ds)) × (codes′ ≡ filled codes (tableCodes ds))
+    -- never no to an allowed section
+    pub never : (n number place : ℕ) → TableSuffices rows codes → SectionOf s n → ¬ (r ≡ Verdict.the-variants.Refused number place)
+    -- 14 at 0 exactly when a buffer is under its size; 14 nowhere else
+    pub short : (r ≡ Verdict.the-variants.Refused bufferTooSmall 0) ↔ TableShort rows codes
+    pub only : (place : ℕ) → r ≡ Verdict.the-variants.Refused bufferTooSmall place → TableShort rows codes × (place ≡ 0)
+    -- any other no exactly when the bytes, or the rules' first fault, say it
+    pub refused : (number place : ℕ) → TableSuffices rows codes → (r ≡ Verdict.the-variants.Refused number place) ↔ Refused s number place
+    -- "Every refusal zeroes all memory lent for writing."
+    pub wipes : (number place : ℕ) → r ≡ Verdict.the-variants.Refused number place → (rows′ ≡ wiped rows) × (codes′ ≡ wiped codes)
+
+-- judging a body
+
+module _ {section s : List ℕ} {x : ℕ} {rows codes work rows′ codes′ work′ : List ℕ} {r : Verdict} where
+  pub record OfBody (promise : BodyJudged section s x rows codes work rows′ codes′ work′ r) : Type 1 where
+    -- yes exactly when the buffers suffice, the section is allowed, the type is a function's, and a derivation of n instructions
+    -- exists
+    pub accepted : (n : ℕ) → (r ≡ Verdict.the-variants.Accepted n) ↔ (BodySuffices rows codes work × BodyOf section s x n)
+    pub never : (n number place : ℕ) → BodySuffices rows codes work → BodyOf section s x n → ¬ (r ≡ Verdict.the-variants.Refused number place)
+    pub short : (r ≡ Verdict.the-variants.Refused bufferTooSmall 0) ↔ BodyShort rows codes work
+    pub only : (place : ℕ) → r ≡ Verdict.the-variants.Refused bufferTooSmall place → BodyShort rows codes work × (place ≡ 0)
+    -- the first fault in document 01's order
+    pub refused : (number place : ℕ) → BodySuffices rows codes work → (r ≡ Verdict.the-variants.Refused number place) ↔ BodySaysNo section s x number place
+    -- "An accepted body leaves scratch zero. Every refusal zeroes all memory lent for writing."
+    pub wipes : (rows′ ≡ wiped rows) × (codes′ ≡ wiped codes) × (work′ ≡ wiped work)
+
+-- the trial run
+
+-- done or a trap of 41 to 45, within so many steps
+pub data Stops (most : ℕ) : Ran → Type 0 where
+  stops-done : {steps results : ℕ} → steps ≤ most → Stops most (Ran.the-variants.Done steps results)
+  stops-at-trap : {number place steps : ℕ} → Trap number → steps ≤ most → Stops most (Ran.the-variants.Trapped number place steps)
+
+module _ {section s : List ℕ} {x budget : ℕ} {m m′ : RunMemory} {r : Ran} where
+  pub record OfRun (promise : RunTried section s x budget m m′ r) : Type 1 where
+    -- The answer and the six buffers are those of the written steps: of a run that is done, at a trap or spent after exactly the
+    -- steps that it says, each of them a `step` from `startOf b` on.
+    pub ran : (b : Body) → RunSuffices m → CanRun section s x budget b → RanSoundly s b budget m m′ r
+    -- "the number of objects equals the number of allocation steps that didn't trap": the second of `counts`
+    pub objects : (b : Body) → RunSuffices m → CanRun section s x budget b
+        → getElem? (m′ .state .counts) 1 ≡ some (allocations (programOf b) (taken (programOf b) budget (startOf b)))
+    -- "A body without loop stops within as many steps as it has instructions": done, or at a trap
+    pub loopless : (b : Body) → RunSuffices m → CanRun section s x budget b → hasLoop (b .code) ≡ false → instructions b ≤ budget → Stops (instructions b) r
+    pub never : (b : Body) (number place : ℕ) → RunSuffices m → CanRun section s x budget b → ¬ (r ≡ Ran.the-variants.Refused number place)
+    pub short : (r ≡ Ran.the-variants.Refused bufferTooSmall 0) ↔ RunShort m
+    pub only : (place : ℕ) → r ≡ Ran.the-variants.Refused bufferTooSmall place → RunShort m × (place ≡ 0)
+    pub refused : (number place : ℕ) → RunSuffices m → (r ≡ Ran.the-variants.Refused number place) ↔ RunSaysNo section s x budget number place
