@@ -4,3 +4,6 @@ pub mod Verdicts
 pub mod Fourteen
 pub mod OfSection
 pub mod OfBody
+pub mod OfRun
+pub mod Holds
+pub mod Examples

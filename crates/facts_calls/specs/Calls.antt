@@ -17,7 +17,7 @@ use Rattle.scope.specs.Refusals.{bufferTooSmall}
 use Rattle.scope.specs.Syntax.{Definition}
 use Rattle.scope.specs.Bodies.{Body, instructions}
 use Rattle.scope.specs.Running.{startOf, programOf}
-use Rattle.scope.specs.Memory.{filled, wiped, tableRows, tableCodes}
+use Rattle.scope.specs.Memory.{filled, wiped, tableRows, tableCodes, StateWords}
 use Rattle.scope.specs.Answers.{SectionJudged, BodyJudged, RunMemory, RunTried}
 use Rattle.scope.proofs.Soundness.{Trap, RanSoundly}
 use Rattle.facts_sections.specs.Allowed.{Allowed}
@@ -67,6 +67,15 @@ pub data Stops (most : ℕ) : Ran → Type 0 where
   stops-done : {steps results : ℕ} → steps ≤ most → Stops most (Ran.the-variants.Done steps results)
   stops-at-trap : {number place steps : ℕ} → Trap number → steps ≤ most → Stops most (Ran.the-variants.Trapped number place steps)
 
+-- the six buffers of the state are zero
+pub record Wiped (w w′ : StateWords) : Type 0 where
+  pub counts : w′ .counts ≡ wiped (w .counts)
+  pub objects : w′ .objects ≡ wiped (w .objects)
+  pub cells : w′ .cells ≡ wiped (w .cells)
+  pub locals : w′ .locals ≡ wiped (w .locals)
+  pub operands : w′ .operands ≡ wiped (w .operands)
+  pub blocks : w′ .blocks ≡ wiped (w .blocks)
+
 module _ {section s : List ℕ} {x budget : ℕ} {m m′ : RunMemory} {r : Ran} where
   pub record OfRun (promise : RunTried section s x budget m m′ r) : Type 1 where
     -- The answer and the six buffers are those of the written steps: of a run that is done, at a trap or spent after exactly the
@@ -81,3 +90,6 @@ module _ {section s : List ℕ} {x budget : ℕ} {m m′ : RunMemory} {r : Ran} 
     pub short : (r ≡ Ran.the-variants.Refused bufferTooSmall 0) ↔ RunShort m
     pub only : (place : ℕ) → r ≡ Ran.the-variants.Refused bufferTooSmall place → RunShort m × (place ≡ 0)
     pub refused : (number place : ℕ) → RunSuffices m → (r ≡ Ran.the-variants.Refused number place) ↔ RunSaysNo section s x budget number place
+    -- "Every refusal zeroes all memory lent for writing"; the four scratch buffers are zero after every answer
+    pub wipes : (number place : ℕ) → r ≡ Ran.the-variants.Refused number place → Wiped (m .state) (m′ .state)
+    pub scratch : (m′ .rows ≡ wiped (m .rows)) × (m′ .codes ≡ wiped (m .codes)) × (m′ .work ≡ wiped (m .work)) × (m′ .ends ≡ wiped (m .ends))

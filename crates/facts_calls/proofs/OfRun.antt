@@ -1,0 +1,189 @@
+-- Demand 2 of the trial run: where the buffers suffice and the body can be run, its verdict is the run of that body from its
+-- start; soundness says how such a run ends, and the laws of facts_runs count its steps and its objects.
+use Prim.Native.Nat.{ℕ, _≤_, _<_}
+use native.Mathlib.Omega.{arith}
+use mathlib.Core.Path.{_≡_, refl, sym, _∙_, ap}
+use mathlib.Core.Logic.{_↔_}
+use mathlib.Core.Bool.{Bool, true, false, cond, false≢true}
+use mathlib.Core.Option.{some}
+use mathlib.Core.List.{List}
+use lib.ListN.{length, getElem?}
+use lib.Dec.{ltb}
+use borrow.Author.Tests.{ltb-true, ltb-false, lt-ltb, le-ltb}
+use Rattle.scope.specs.declared.Ran.{Ran}
+use Rattle.scope.specs.declared.Ran
+use Rattle.scope.specs.Sizes.{mostBudget}
+use Rattle.scope.specs.Refusals.{bufferTooSmall, oversize, noDefault}
+use Rattle.scope.specs.Lists.{every}
+use Rattle.scope.specs.Judging.{Judged, accepted, rejected, andThen}
+use Rattle.scope.specs.BodyRules.{hasDefault}
+use Rattle.scope.specs.Bodies.{Body, instructions, judgeBody}
+use Rattle.scope.specs.Machine.{Machine}
+use Rattle.scope.specs.Running.{Ending, done, trapped, spent, wrong, run, startOf, programOf, Trial, trialOf, withParameters, trialRun}
+use Rattle.scope.specs.Memory.{StateWords, filled, stateWords}
+use Rattle.scope.specs.Answers.{runLent, machineOf, endedAs, ranOf, runCall, stateAfter, RunMemory, RunTried}
+use Rattle.scope.proofs.Soundness.{Trap, Runs, EndsWell, isDone, isTrapped, isSpent, RanSoundly, Soundness}
+use Rattle.scope.proofs.SoundnessHolds.{soundness}
+use Rattle.facts_bodies.specs.Premises.{Each, Default}
+use Rattle.facts_bodies.proofs.Premises.{tested-defaults, defaults-tested}
+use Rattle.facts_runs.specs.Counting as counting
+use Rattle.facts_runs.specs.Counting.{stepsOf, taken, allocations, hasLoop}
+use Rattle.facts_runs.proofs.Allocations.{objects-counted}
+use Rattle.facts_runs.proofs.Loopless.{loopless-stops, loopless-steps}
+use Rattle.facts_refusals.specs.Bodies.{BodySaysNo}
+use Rattle.facts_refusals.proofs.Bodies.{body-no, no-body}
+use Rattle.facts_calls.specs.Lent.{RunSuffices, RunShort}
+use Rattle.facts_calls.specs.Meant.{IsBody, CanRun, RunSaysNo, by-body, by-budget, by-parameters}
+use Rattle.facts_calls.specs.Calls.{Stops, stops-done, stops-at-trap, Wiped, OfRun}
+use Rattle.facts_calls.proofs.Lent.{run-suffices, run-lent, run-is-short, short-run}
+use Rattle.facts_calls.proofs.Placed.{accepted-body, body-accepted}
+use Rattle.facts_calls.proofs.Verdicts.{accepted-is-not-rejected, ran-no, lent-call, short-call, lent-no}
+use Rattle.facts_calls.proofs.Fourteen.{body-never-14}
+
+-- the verdict on a run
+
+module _ (section s : List ℕ) (x budget : ℕ) where
+  pub can-run : {b : Body} → CanRun section s x budget b → trialRun section s x budget ≡ accepted (trialOf b budget)
+  unfolding trialRun
+  can-run c = rw (body-accepted section s x (c .isBody), le-ltb _ _ (c .withinBudget), defaults-tested (c .defaults))
+
+  runs : {b : Body} → CanRun section s x budget b → Runs section s x b
+  runs c = record { isAccepted = body-accepted section s x (c .isBody); defaults = defaults-tested (c .defaults) }
+
+  rejected-one : {n p k q : ℕ} → _≡_ {A = Judged Trial} (rejected n p) (rejected k q) → (n ≡ k) × (p ≡ q)
+  rejected-one e = (cc, cc)
+
+  as-said : {n p k q : ℕ} → RunSaysNo section s x budget n p → n ≡ k → p ≡ q → RunSaysNo section s x budget k q
+  as-said no′ a b = rw (← a, ← b) no′
+
+  module _ {number place : ℕ} where
+    parameters-no : {b : Body} → IsBody section s x b → budget ≤ mostBudget → (t : Bool) → every hasDefault (b .function .parameters) ≡ t
+        → cond t (accepted (trialOf b budget)) (rejected noDefault 0) ≡ rejected number place → RunSaysNo section s x budget number place
+    parameters-no is small true e f = absurd (accepted-is-not-rejected f)
+    parameters-no is small false e f =
+        let (a, b) = rejected-one f in
+        as-said (by-parameters is small (λ ds. false≢true (sym e ∙ defaults-tested ds))) a b
+
+    budget-no : {b : Body} → IsBody section s x b → (t : Bool) → ltb mostBudget budget ≡ t → cond t (rejected oversize 0) (withParameters b budget) ≡ rejected number place → RunSaysNo section s x budget number place
+    budget-no is true e f = let (a, b) = rejected-one f in as-said (by-budget is (ltb-true _ _ e)) a b
+    budget-no {b} is false e f = parameters-no is (ltb-false _ _ e) (every hasDefault (b .function .parameters)) refl f
+
+    run-no : trialRun section s x budget ≡ rejected number place → RunSaysNo section s x budget number place
+    unfolding trialRun
+    run-no e = go (judgeBody section s x) refl e
+      where
+        go : (j : Judged Body) → judgeBody section s x ≡ j → andThen j (λ b. cond (ltb mostBudget budget) (rejected oversize 0) (withParameters b budget)) ≡ rejected number place → RunSaysNo section s x budget number place
+        go (rejected n p) judged f = let (a, b) = rejected-one f in as-said (by-body (body-no section s x judged)) a b
+        go (accepted b) judged f = budget-no (accepted-body section s x judged) (ltb mostBudget budget) refl f
+
+  no-defaults : (b : Body) → ¬ Each Default (b .function .parameters) → every hasDefault (b .function .parameters) ≡ false
+  no-defaults b none-there = go (every hasDefault (b .function .parameters)) refl
+    where
+      go : (t : Bool) → every hasDefault (b .function .parameters) ≡ t → t ≡ false
+      go true e = absurd (none-there (tested-defaults _ e))
+      go false e = refl
+
+  no-run : {number place : ℕ} → RunSaysNo section s x budget number place → trialRun section s x budget ≡ rejected number place
+  unfolding trialRun
+  no-run (by-body no′) = rw (no-body section s x no′)
+  no-run (by-budget is large) = rw (body-accepted section s x is, lt-ltb _ _ large)
+  no-run (by-parameters {b = b} is small none-there) = rw (body-accepted section s x is, le-ltb _ _ small, no-defaults b none-there)
+
+  run-never-14 : (place : ℕ) → trialRun section s x budget ≡ rejected bufferTooSmall place → ⊥
+  run-never-14 place e = go (run-no e) refl
+    where
+      go : {n p : ℕ} → RunSaysNo section s x budget n p → n ≡ bufferTooSmall → ⊥
+      go (by-body {place = p} no′) q = body-never-14 section s x p (rw q at (no-body section s x no′))
+      go (by-budget is large) q = omega arith
+      go (by-parameters is small none-there) q = omega arith
+
+-- how it stops
+
+stopped : (s : List ℕ) {b : Body} {budget most : ℕ} (e : Ending) → EndsWell b budget e → counting.isSpent e ≡ false → stepsOf e ≤ most → Stops most (endedAs s e)
+stopped s e (isDone few reaches ends typed) f within = stops-done within
+stopped s e (isTrapped few reaches traps trap typed) f within = stops-at-trap trap within
+stopped s e (isSpent reaches typed) f within = absurd (false≢true (sym f))
+
+-- the second of the counts
+second-count : (s : List ℕ) (m : Machine) (buffer : List ℕ) → getElem? (filled buffer (stateWords s m .counts)) 1 ≡ some (length (m .heap))
+unfolding stateWords
+second-count s m buffer = refl
+
+module _ {section s : List ℕ} {x budget : ℕ} {m m′ : RunMemory} {r : Ran} (promise : RunTried section s x budget m m′ r) where
+  own-call : RunSuffices m → runCall section s x budget m ≡ trialRun section s x budget
+  own-call t = lent-call (runLent m) (trialRun section s x budget) (run-lent m t)
+
+  called : {b : Body} → RunSuffices m → CanRun section s x budget b → runCall section s x budget m ≡ accepted (trialOf b budget)
+  called t c = own-call t ∙ can-run section s x budget c
+
+  said : {number place : ℕ} → r ≡ Ran.the-variants.Refused number place → runCall section s x budget m ≡ rejected number place
+  said e = ran-no s (runCall section s x budget m) (sym (promise .answer) ∙ e)
+
+  says : {number place : ℕ} → runCall section s x budget m ≡ rejected number place → r ≡ Ran.the-variants.Refused number place
+  says e = promise .answer ∙ ap (ranOf s) e
+
+  fourteen : (place : ℕ) → r ≡ Ran.the-variants.Refused bufferTooSmall place → RunShort m × (place ≡ 0)
+  fourteen place e =
+      lent-no (runLent m) (trialRun section s x budget) (said e)
+      (λ short at. (run-is-short m short, at))
+      (λ suffices no′. absurd (run-never-14 section s x budget place no′))
+
+  module _ (b : Body) (t : RunSuffices m) (c : CanRun section s x budget b) where
+    abbrev ending : Ending
+    ending = run (programOf b) budget 0 (startOf b)
+
+    held : (part : StateWords → List ℕ) → stateAfter s part m (runCall section s x budget m) ≡ filled (part (m .state)) (part (stateWords s (machineOf ending)))
+    held part = ap (stateAfter s part m) (called t c)
+
+    ran-soundly : RanSoundly s b budget m m′ r
+    ran-soundly =
+        record {
+          ending = ending;
+          endsWell = soundness .ended (runs section s x budget c) budget;
+          answer = promise .answer ∙ ap (ranOf s) (called t c);
+          counts = promise .counts ∙ held (λ w. w .counts);
+          objects = promise .objects ∙ held (λ w. w .objects);
+          cells = promise .cells ∙ held (λ w. w .cells);
+          locals = promise .locals ∙ held (λ w. w .locals);
+          operands = promise .operands ∙ held (λ w. w .operands);
+          blocks = promise .blocks ∙ held (λ w. w .blocks);
+        }
+
+    objects-made : getElem? (m′ .state .counts) 1 ≡ some (allocations (programOf b) (taken (programOf b) budget (startOf b)))
+    unfolding ran-soundly run
+    objects-made =
+        ap (λ (ws : List ℕ). getElem? ws 1) (ran-soundly .counts)
+        ∙ second-count s (machineOf ending) (m .state .counts)
+        ∙ ap some (objects-counted (programOf b) budget 0 (startOf b) refl)
+
+    without-loop : hasLoop (b .code) ≡ false → instructions b ≤ budget → Stops (instructions b) r
+    unfolding ran-soundly run
+    without-loop free enough =
+        let judged = body-accepted section s x (c .isBody) in
+        let all = stopped s ending (ran-soundly .endsWell) (loopless-stops section s x judged free budget enough) (loopless-steps section s x judged free budget) in
+        rw (ran-soundly .answer) all
+
+  all-wiped : {number place : ℕ} → runCall section s x budget m ≡ rejected number place → Wiped (m .state) (m′ .state)
+  all-wiped e =
+      record {
+        counts = promise .counts ∙ ap (stateAfter s (λ w. w .counts) m) e;
+        objects = promise .objects ∙ ap (stateAfter s (λ w. w .objects) m) e;
+        cells = promise .cells ∙ ap (stateAfter s (λ w. w .cells) m) e;
+        locals = promise .locals ∙ ap (stateAfter s (λ w. w .locals) m) e;
+        operands = promise .operands ∙ ap (stateAfter s (λ w. w .operands) m) e;
+        blocks = promise .blocks ∙ ap (stateAfter s (λ w. w .blocks) m) e;
+      }
+
+  pub of-run : OfRun promise
+  of-run =
+      record {
+        ran = ran-soundly;
+        objects = objects-made;
+        loopless = without-loop;
+        never = λ b number place t c e. accepted-is-not-rejected (sym (called t c) ∙ said e);
+        short = (λ e. fourteen 0 e .0, λ t. says (short-call (runLent m) (trialRun section s x budget) (short-run m t)));
+        only = fourteen;
+        refused = λ number place t. (λ e. run-no section s x budget (sym (own-call t) ∙ said e), λ e. says (own-call t ∙ no-run section s x budget e));
+        wipes = λ number place e. all-wiped (said e);
+        scratch = (promise .rowsAfter, promise .codesAfter, promise .workAfter, promise .endsAfter);
+      }
