@@ -4,7 +4,7 @@ use Prim.Native.Nat.{ℕ}
 use native.Mathlib.Omega.{arith}
 use mathlib.Core.Path.{_≡_, refl, _∙_}
 use mathlib.Core.Bool.{true, false}
-use mathlib.Core.Option.{some}
+use mathlib.Core.Option.{none, some}
 use mathlib.Core.List.{List, [], _∷_}
 use lib.ListN.{length, replicate, getElem?}
 use Rattle.scope.specs.declared.Verdict.{Verdict}
@@ -12,14 +12,19 @@ use Rattle.scope.specs.declared.Verdict
 use Rattle.scope.specs.declared.Ran.{Ran}
 use Rattle.scope.specs.declared.Ran
 use Rattle.scope.specs.Layout.{rowsSize, codesSize, workSize, endsSize, countsSize, objectsSize, cellsSize, localsSize, operandsSize, blocksSize}
-use Rattle.scope.specs.Refusals.{bufferTooSmall, describesNotEarlier, badStruct}
-use Rattle.scope.specs.Judging.{accepted}
+use Rattle.scope.specs.declared.Asked.{Asked}
+use Rattle.scope.specs.declared.Asked
+use Rattle.scope.specs.Refusals.{bufferTooSmall, outOfReach, describesNotEarlier, badStruct}
+use Rattle.scope.specs.Syntax.{struct, Definition}
+use Rattle.scope.specs.Judging.{accepted, judgeSection}
 use Rattle.scope.specs.Bodies.{Body, instructions, judgeBody}
 use Rattle.scope.specs.Running.{programOf, startOf}
 use Rattle.scope.specs.Memory.{wiped, tableRows, tableCodes}
-use Rattle.scope.specs.Answers.{after, sectionCall, SectionJudged, BodyJudged, RunMemory, runCall, ranOf, stateAfter, RunTried}
+use Rattle.scope.specs.Answers.{after, sectionCall, SectionJudged, askTable, TypeAsked, TypeHanded, BodyJudged, RunMemory, runCall, ranOf, stateAfter, RunTried}
 use Rattle.scope.proofs.Computes.{computes}
 use Rattle.facts_sections.specs.FirstFault.{Refused}
+use Rattle.facts_sections.specs.Writing.{WritesDefinition}
+use Rattle.facts_sections.proofs.Exactly.{accepted-exactly}
 use Rattle.facts_bodies.specs.Premises.{of-none}
 use Rattle.facts_runs.specs.Samples.{F1, twoObjects, nullDescriptor, branchOut, sample}
 use Rattle.facts_runs.specs.Counting.{taken, allocations}
@@ -27,7 +32,9 @@ use Rattle.facts_refusals.specs.Bodies.{BodySaysNo}
 use Rattle.facts_calls.specs.Lent.{TableSuffices, TableShort, BodySuffices, BodyShort, RunSuffices, RunShort}
 use Rattle.facts_calls.specs.Meant.{SectionOf, BodyOf, CanRun, RunSaysNo}
 use Rattle.facts_calls.specs.Calls.{Stops}
+use Rattle.facts_calls.specs.Asked.{LiesIn, TypeOf, AskSaysNo}
 use Rattle.facts_calls.proofs.Placed.{accepted-body}
+use Rattle.facts_calls.proofs.OfAsked.{of-asked, of-handed}
 use Rattle.facts_calls.proofs.Holds.{sections, bodies, runs}
 
 -- sections
@@ -191,3 +198,36 @@ two-objects = runs two-run .objects (sample twoObjects) memory-suffices two-can-
 pub two-stops : Stops 3 (Ran.the-variants.Done 3 1)
 unfolding computes
 two-stops = runs two-run .loopless (sample twoObjects) memory-suffices two-can-run refl (omega arith)
+
+-- asking: type 1 of the pair is `4C 00 5F 00`, from byte 7 to byte 11; there is no type 2
+
+pair-handed : TypeHanded pair 1 rows codes (after tableRows rows (askTable pair 1 rows codes)) (after tableCodes codes (askTable pair 1 rows codes)) (0x4C ∷ 0x00 ∷ 0x5F ∷ 0x00 ∷ [])
+unfolding computes
+pair-handed = record { bytes = refl; rowsAfter = refl; codesAfter = refl }
+
+abbrev second : Definition
+second = record { isOpen = false; supers = []; describes = some 0; descriptor = none; form = struct []; from = 7; to = 11; reach = 2 }
+
+pair-asked : TypeAsked pair 1 rows codes (after tableRows rows (askTable pair 1 rows codes)) (after tableCodes codes (askTable pair 1 rows codes)) (Asked.the-variants.Bytes 7 11)
+unfolding computes
+pair-asked = record { answer = refl; rowsAfter = refl; codesAfter = refl }
+
+pair-judged : judgeSection pair ≡ accepted (record { isOpen = false; supers = []; describes = none; descriptor = some 1; form = struct []; from = 3; to = 7; reach = 2 } ∷ second ∷ [])
+unfolding computes
+pair-judged = refl
+
+pub second-type : TypeOf pair 1 second
+second-type = record { types = _; allowed = accepted-exactly pair _ .0 pair-judged; present = refl }
+
+pub second-written : WritesDefinition 2 7 (0x4C ∷ 0x00 ∷ 0x5F ∷ 0x00 ∷ []) second
+second-written = of-handed pair-handed .writes second (pair-accepted .0) second-type
+
+pub second-lies : LiesIn pair (0x4C ∷ 0x00 ∷ 0x5F ∷ 0x00 ∷ []) 7 11
+second-lies = of-handed pair-handed .lies second (pair-accepted .0) second-type
+
+third-asked : TypeAsked pair 2 rows codes (wiped rows) (wiped codes) (Asked.the-variants.Refused outOfReach 2)
+unfolding computes
+third-asked = record { answer = refl; rowsAfter = refl; codesAfter = refl }
+
+pub third-refused : AskSaysNo pair 2 rows codes outOfReach 2
+third-refused = of-asked third-asked .refused outOfReach 2 .0 refl

@@ -5,5 +5,7 @@ pub mod Fourteen
 pub mod OfSection
 pub mod OfBody
 pub mod OfRun
+pub mod VeryBytes
+pub mod OfAsked
 pub mod Holds
 pub mod Examples

@@ -1,3 +1,4 @@
 pub mod Lent
 pub mod Meant
 pub mod Calls
+pub mod Asked
