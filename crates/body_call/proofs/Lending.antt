@@ -7,6 +7,9 @@ use native.Mathlib.Omega.{arith}
 use lib.ListN.{length, replicate, length-replicate}
 use lib.Dec.{leb}
 use borrow.Author.Tests.{lt-ltb, le-ltb, lt-leb, le-leb}
+use Rattle.scope.specs.Sizes.{mostBytes, mostTypes, mostEach}
+use Rattle.scope.specs.Layout.{workSize}
+use Rattle.scope.specs.Refusals.{oversize, bufferTooSmall}
 use Rattle.scope.specs.Reading.{Read, got, refused}
 use Rattle.scope.specs.Lists.{joined}
 use Rattle.scope.specs.Syntax.{Val, Form, func, Definition, Group, typesOf}
@@ -25,16 +28,16 @@ use Rattle.body_call.specs.Typed.{Fresh, Sized, Typing, typedOn, sizedOn
 -- the body's size
 
 module _ {rows codes work : List ℕ} {types x : ℕ} (z : Sized rows codes work types x) (s : List ℕ) where
-  pub sized-over : 32_768 < length s → {work′ : List ℕ} → work′ ≡ work → SizedJudged rows codes work work′ s types x (Verdict.the-variants.Refused 4 0)
+  pub sized-over : mostBytes < length s → {work′ : List ℕ} → work′ ≡ work → SizedJudged rows codes work work′ s types x (Verdict.the-variants.Refused oversize 0)
   unfolding sizedOn
-  sized-over h e = record { answer = λ ds v l. rw (lt-ltb 32_768 (length s) h); size = rw e }
+  sized-over h e = record { answer = λ ds v l. rw (lt-ltb mostBytes (length s) h); size = rw e }
 
-  pub may-type : length s ≤ 32_768 → Typing rows codes work s types x
+  pub may-type : length s ≤ mostBytes → Typing rows codes work s types x
   may-type h = record { sized = z; short = h }
 
-  pub sized-typed : length s ≤ 32_768 → {work′ : List ℕ} {r : Verdict} → TypedJudged rows codes work work′ s types x r → SizedJudged rows codes work work′ s types x r
+  pub sized-typed : length s ≤ mostBytes → {work′ : List ℕ} {r : Verdict} → TypedJudged rows codes work work′ s types x r → SizedJudged rows codes work work′ s types x r
   unfolding sizedOn
-  sized-typed h t = record { answer = λ ds v l. rw (le-ltb 32_768 (length s) h) (t .answer ds v l); size = t .size }
+  sized-typed h t = record { answer = λ ds v l. rw (le-ltb mostBytes (length s) h) (t .answer ds v l); size = t .size }
 
 -- the sizes of an accepted section
 
@@ -47,18 +50,18 @@ accepted-read (got gs end) {ds} e = (gs, end, refl, go (judgeTypes (typesOf (joi
     go (accepted n) f = cc
     go (rejected n p) f = impossible cc
 
-few-of : {f : Form} → Few f → {ps rs : List Val} → f ≡ func ps rs → length ps ≤ 64
+few-of : {f : Form} → Few f → {ps rs : List Val} → f ≡ func ps rs → length ps ≤ mostEach
 few-of (few-fields h) e = impossible cc
 few-of (few-values {ps = qs} h g) {ps} e = let same : qs ≡ ps = cc in rw (← same) h
 
-few-parameters : {ds : List Definition} → Each Modest ds → (x : ℕ) {ps rs : List Val} → typesOf ds x .form ≡ func ps rs → length ps ≤ 64
+few-parameters : {ds : List Definition} → Each Modest ds → (x : ℕ) {ps rs : List Val} → typesOf ds x .form ≡ func ps rs → length ps ≤ mostEach
 few-parameters no-more x e = impossible cc
 few-parameters (one-more m more) zero e = few-of (m .few) e
 few-parameters (one-more m more) (suc x) e = few-parameters more x e
 
 pub record Bounded (ds : List Definition) : Type 0 where
-  pub types : length ds ≤ 256
-  pub parameters : (x : ℕ) (ps rs : List Val) → typesOf ds x .form ≡ func ps rs → length ps ≤ 64
+  pub types : length ds ≤ mostTypes
+  pub parameters : (x : ℕ) (ps rs : List Val) → typesOf ds x .form ≡ func ps rs → length ps ≤ mostEach
 
 pub accepted-bounded : (section : List ℕ) {ds : List Definition} → judgeSection section ≡ accepted ds → Bounded ds
 unfolding judgeSection
@@ -108,18 +111,18 @@ cleared-long : (m : List ℕ) {m₁ : List ℕ} → m₁ ≡ replicate (length m
 cleared-long m e = rw e (length-replicate (length m) 0)
 
 module _ (work : List ℕ) {work₁ : List ℕ} (z : work₁ ≡ replicate (length work) 0) where
-  pub fresh-lent : 4_096 ≤ length work₁ → Fresh work₁
+  pub fresh-lent : workSize ≤ length work₁ → Fresh work₁
   fresh-lent h = record { zero = z ∙ ap (λ (n : ℕ). replicate n 0) (sym (cleared-long work z)); room = h }
 
   module _ (section s : List ℕ) (x : ℕ) (rows codes : List ℕ) where
-    pub work-small : length work₁ < 4_096 → EnoughJudged section s x rows codes work (Verdict.the-variants.Refused 14 0)
+    pub work-small : length work₁ < workSize → EnoughJudged section s x rows codes work (Verdict.the-variants.Refused bufferTooSmall 0)
     work-small h =
-        let small : leb 4_096 (length work) ≡ false = lt-leb 4_096 (length work) (omega (arith, cleared-long work z)) in
+        let small : leb workSize (length work) ≡ false = lt-leb workSize (length work) (omega (arith, cleared-long work z)) in
         record { answer = rw (small, both-false (tableLent rows codes)) refl }
 
-    pub enough-judged : 4_096 ≤ length work₁ → {v : Verdict} → LentJudged section s x rows codes v → EnoughJudged section s x rows codes work v
+    pub enough-judged : workSize ≤ length work₁ → {v : Verdict} → LentJudged section s x rows codes v → EnoughJudged section s x rows codes work v
     enough-judged h j =
-        let enough : leb 4_096 (length work) ≡ true = le-leb 4_096 (length work) (omega (arith, cleared-long work z)) in
+        let enough : leb workSize (length work) ≡ true = le-leb workSize (length work) (omega (arith, cleared-long work z)) in
         record { answer = rw (enough, and-true (tableLent rows codes)) (j .answer) }
 
 module _ {section s : List ℕ} {x : ℕ} {rows codes work : List ℕ} {v : Verdict} (j : EnoughJudged section s x rows codes work v) {rows₁ codes₁ work₁ rows₂ codes₂ work₂ : List ℕ} (z : Cleared rows₁ codes₁ work₁ rows₂ codes₂ work₂) where

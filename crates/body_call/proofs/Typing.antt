@@ -9,6 +9,8 @@ use native.Mathlib.Nat.{zero-add}
 use lib.ListN.{length}
 use lib.Dec.{eqb}
 use borrow.Author.Tests.{eq-eqb, ne-eqb}
+use Rattle.scope.specs.Sizes.{mostEach}
+use Rattle.scope.specs.Refusals.{leftOver, notAFunction}
 use Rattle.scope.specs.Reading.{Read, got, refused, then}
 use Rattle.scope.specs.Numbers.{u32}
 use Rattle.scope.specs.Syntax.{Val, func, Definition, typesOf}
@@ -24,7 +26,8 @@ use Rattle.type_table.specs.declared.Shape.{Shape}
 use Rattle.type_table.specs.declared.Shape
 use Rattle.type_table.specs.Answers.{shapeForm}
 use Rattle.type_table.specs.View.{valAtCode, codesAt, view}
-use Rattle.body_state.specs.Standing.{stack, setsAt, framesAt, contextAt, stateAt, floor}
+use Rattle.body_state.specs.Layout.{stampsFrom, framesFrom, frameSpan, stampWord}
+use Rattle.body_state.specs.State.{stack, setsAt, framesAt, contextAt, stateAt, floor}
 use Rattle.body_state.proofs.Answers.{codes-length}
 use Rattle.body_start.specs.declared.Started.{Started}
 use Rattle.body_start.specs.declared.Started
@@ -33,18 +36,18 @@ use Rattle.body_start.specs.Beginning.{localsFirst, startedIs, Starting, Starte
 use Rattle.body_loop.specs.declared.Ended.{Ended}
 use Rattle.body_loop.specs.declared.Ended
 use Rattle.body_loop.specs.Loop.{begin, Begun, endedIs, JudgedFrom}
-use Rattle.body_call.specs.Typed.{endedAs, Typing, typedOn, TypedJudged}
+use Rattle.body_call.specs.Typed.{finishedAs, Typing, typedOn, TypedJudged}
 
 -- last, 5
 
-pub finish-refused : (s : List ℕ) {e : Ended} {n p : ℕ} → e ≡ Ended.the-variants.Refused n p → Verdict.the-variants.Refused n p ≡ endedAs s e
+pub finish-refused : (s : List ℕ) {e : Ended} {n p : ℕ} → e ≡ Ended.the-variants.Refused n p → Verdict.the-variants.Refused n p ≡ finishedAs s e
 finish-refused s f = rw f refl
 
 module _ (s : List ℕ) {e : Ended} {count stop : ℕ} (f : e ≡ Ended.the-variants.Finished count stop) where
-  pub finish-all : stop ≡ length s → Verdict.the-variants.Accepted count ≡ endedAs s e
+  pub finish-all : stop ≡ length s → Verdict.the-variants.Accepted count ≡ finishedAs s e
   finish-all h = rw (f, eq-eqb stop (length s) h) refl
 
-  pub finish-over : (stop ≡ length s → ⊥) → Verdict.the-variants.Refused 5 stop ≡ endedAs s e
+  pub finish-over : (stop ≡ length s → ⊥) → Verdict.the-variants.Refused leftOver stop ≡ finishedAs s e
   finish-over h = rw (f, ne-eqb stop (length s) h) refl
 
 -- how a body is read: its locals, then its instructions, then nothing
@@ -61,10 +64,10 @@ unfolding bodyAt localsFirst rest
 body-read ds f s = sym (then-then (u32 s 0) (λ n entries. localsAt (length ds) n (length (f .parameters)) s entries) (rest ds f s))
 
 -- the verdict, by what was read of the instructions
-read-verdict : (ds : List Definition) (f : Function) (s : List ℕ) (ls : List Val) (o : Read Code) → verdictOf instructions (judgedOf (then o (λ code stop. ended s (record { types = ds; function = f; locals = ls; code = code }) stop))) ≡ endedAs s (endedIs 0 o)
+read-verdict : (ds : List Definition) (f : Function) (s : List ℕ) (ls : List Val) (o : Read Code) → verdictOf instructions (judgedOf (then o (λ code stop. ended s (record { types = ds; function = f; locals = ls; code = code }) stop))) ≡ finishedAs s (endedIs 0 o)
 read-verdict ds f s ls (got code stop) = go (eqb stop (length s))
   where
-    go : (all : Bool) → verdictOf instructions (judgedOf (cond all (got (record { types = ds; function = f; locals = ls; code = code }) stop) (refused 5 stop))) ≡ cond all (Verdict.the-variants.Accepted (0 + length code)) (Verdict.the-variants.Refused 5 stop)
+    go : (all : Bool) → verdictOf instructions (judgedOf (cond all (got (record { types = ds; function = f; locals = ls; code = code }) stop) (refused leftOver stop))) ≡ cond all (Verdict.the-variants.Accepted (0 + length code)) (Verdict.the-variants.Refused leftOver stop)
     go true = rw (zero-add (length code)) refl
     go false = refl
 read-verdict ds f s ls (refused n p) = refl
@@ -85,7 +88,7 @@ pub form-is : (rows codes : List ℕ) (x : ℕ) (shape : Shape) → view rows co
 form-is rows codes x shape a ds v = ap (λ (ts : ℕ → Definition). ts x .form) (sym v) ∙ a
 
 module _ {rows codes work s : List ℕ} {types x : ℕ} (t : Typing rows codes work s types x) {shape : Shape} where
-  pub typed-struct : {first n : ℕ} → shape ≡ Shape.the-variants.Struct first n → view rows codes x .form ≡ shapeForm codes shape → {work′ : List ℕ} → work′ ≡ work → TypedJudged rows codes work work′ s types x (Verdict.the-variants.Refused 27 0)
+  pub typed-struct : {first n : ℕ} → shape ≡ Shape.the-variants.Struct first n → view rows codes x .form ≡ shapeForm codes shape → {work′ : List ℕ} → work′ ≡ work → TypedJudged rows codes work work′ s types x (Verdict.the-variants.Refused notAFunction 0)
   unfolding typedOn
   typed-struct e a same = record { answer = λ ds v l. rw (form-is rows codes x shape a ds v, e) refl; size = rw same }
 
@@ -104,7 +107,7 @@ module _ {rows codes work s : List ℕ} {types x : ℕ} (t : Typing rows codes w
     pub may-start : Starting work types n
     may-start =
         let form : view rows codes x .form ≡ func (codesAt valAtCode codes first n) (codesAt valAtCode codes second m) = a ∙ rw e refl in
-        let few : length (codesAt valAtCode codes first n) ≤ 64 = t .sized .few (codesAt valAtCode codes first n) (codesAt valAtCode codes second m) form in
+        let few : length (codesAt valAtCode codes first n) ≤ mostEach = t .sized .few (codesAt valAtCode codes first n) (codesAt valAtCode codes second m) form in
         record { zero = t .sized .fresh .zero; room = omega (arith, t .sized .fresh .room); few = rw many at few; known = t .sized .known }
 
     -- the locals are read as the definition reads them
@@ -122,7 +125,7 @@ module _ {rows codes work s : List ℕ} {types x : ℕ} (t : Typing rows codes w
             let start = b .begun vs next read in
             record {
               upright = record { room = omega (arith, t .sized .fresh .room, b .size); few = omega (arith, start .few); deep = omega arith; low = omega arith; rests = floor };
-              stamped = record { locals = λ i h. let z = start .blank (512 + i) (omega arith) in omega (arith, start .forward); frames = λ k h. let z = start .blank (1_280 + (8 * k + 5)) (omega arith) in omega (arith, start .forward) };
+              stamped = record { locals = λ i h. let z = start .blank (stampsFrom + i) (omega arith) in omega (arith, start .forward); frames = λ k h. let z = start .blank (framesFrom + (frameSpan * k + stampWord)) (omega arith) in omega (arith, start .forward) };
               few = t .sized .known;
               inside = start .inside;
               short = t .short;
@@ -147,15 +150,15 @@ module _ {rows codes work s : List ℕ} {types x : ℕ} (t : Typing rows codes w
               let sets = ap (setsAt work₁ 1 0) count ∙ start .sets in
               λ i. record { frames = []; operands = []; dead = false; isSet = sets i }
 
-          verdict : (vs : List Val) → localsFirst types n s ≡ got vs next → locals ≡ n + length vs → (ds : List Definition) → view rows codes ≡ typesOf ds → length ds ≡ types → endedAs s end ≡ verdictOf instructions (typedOn ds s x)
+          verdict : (vs : List Val) → localsFirst types n s ≡ got vs next → locals ≡ n + length vs → (ds : List Definition) → view rows codes ≡ typesOf ds → length ds ≡ types → finishedAs s end ≡ verdictOf instructions (typedOn ds s x)
           unfolding rest
           verdict vs read count ds v l =
               let from = ap₂ (λ (c : Context) (st : State). judgeFrom (length s) c st s next) (context-is vs read count ds v l) (state-is vs read count) in
-              let ends = ap (endedAs s) (j .answer ∙ ap (endedIs 0) from) in
+              let ends = ap (finishedAs s) (j .answer ∙ ap (endedIs 0) from) in
               let all = locals-as ds v l ∙ ap (λ (o : Read (List Val)). judgedOf (then o (rest ds function s))) read in
               ends ∙ sym (ap (verdictOf instructions) all ∙ read-verdict ds function s vs (judgeFrom (length s) (contextOf ds function vs) (startState function vs) s next))
 
-          pub typed-ended : {v : Verdict} → v ≡ endedAs s end → TypedJudged rows codes work work₂ s types x v
+          pub typed-ended : {v : Verdict} → v ≡ finishedAs s end → TypedJudged rows codes work work₂ s types x v
           typed-ended g =
               let (vs, read, count) = started-got n (localsFirst types n s) (b .answer) f in
               record { answer = λ ds v l. g ∙ verdict vs read count ds v l; size = j .size ∙ b .size }

@@ -5,7 +5,8 @@ use mathlib.Core.Bool.{cond}
 use mathlib.Core.List.{List}
 use lib.ListN.{length, replicate}
 use lib.Dec.{eqb, ltb}
-use Rattle.scope.specs.Sizes.{mostBytes, mostEach, mostTypes}
+use Rattle.scope.specs.Sizes.{mostBytes, mostTypes, mostEach}
+use Rattle.scope.specs.Layout.{workSize}
 use Rattle.scope.specs.Refusals.{oversize, leftOver, notAFunction}
 use Rattle.scope.specs.Reading.{given}
 use Rattle.scope.specs.Syntax.{Val, func, Definition, typesOf}
@@ -19,15 +20,15 @@ use Rattle.body_loop.specs.declared.Ended.{Ended}
 use Rattle.body_loop.specs.declared.Ended
 
 -- the count of instructions where nothing follows the last of them, else 5 at the first byte that is left
-abbrev pub endedAs : List ℕ → Ended → Verdict
-endedAs s (Ended.the-variants.Finished count stop) =
+abbrev pub finishedAs : List ℕ → Ended → Verdict
+finishedAs s (Ended.the-variants.Finished count stop) =
     cond (eqb stop (length s)) (Verdict.the-variants.Accepted count) (Verdict.the-variants.Refused leftOver stop)
-endedAs s (Ended.the-variants.Refused n p) = Verdict.the-variants.Refused n p
+finishedAs s (Ended.the-variants.Refused n p) = Verdict.the-variants.Refused n p
 
 -- the scratch is wiped and has its size
 pub record Fresh (work : List ℕ) : Type 0 where
   pub zero : work ≡ replicate (length work) 0
-  pub room : 4_096 ≤ length work
+  pub room : workSize ≤ length work
 
 -- the table says no more types than there may be, and a function of the number has no more parameters
 pub record Sized (rows codes work : List ℕ) (types x : ℕ) : Type 0 where

@@ -4,29 +4,16 @@ use body_loop::Ended;
 use body_start::Started;
 use body_state::Scene;
 use scope::Verdict;
+use scope::refusals;
+use scope::sizes;
 use type_table::Shape;
 ghost use mathlib.Core.Path.{_≡_};
 ghost use Rattle.scope.specs.Answers.{BodyJudged};
-ghost use Rattle.body_call.specs.Typed.{endedAs, Typing, TypedJudged, Sized, SizedJudged, Fresh, LentJudged, EnoughJudged, Cleared};
-
-// The elements that the scratch has at least: its one size, fixed in docs/LAYOUT.md.
-pub const WORK: usize = 4096;
-
-// "32,768 bytes a section or body."
-const MOST_BYTES: usize = 32768;
-
-// By which number each rule is refused.
-const OVERSIZE: u64 = 4;
-
-const LEFT_OVER: u64 = 5;
-
-const BUFFER_TOO_SMALL: u64 = 14;
-
-const NOT_A_FUNCTION: u64 = 27;
+ghost use Rattle.body_call.specs.Typed.{finishedAs, Typing, TypedJudged, Sized, SizedJudged, Fresh, LentJudged, EnoughJudged, Cleared};
 
 // Last, 5: nothing follows the last `end`.
 fn finish(s: &[u8], ended: Ended) -> Verdict
-    ensures { λ r. ⌜ r ≡ endedAs (now (s .entry)) ended ⌝ }
+    ensures { λ r. ⌜ r ≡ finishedAs (now (s .entry)) ended ⌝ }
 {
     match ended {
         Ended::Refused(number, place) => Verdict::Refused(number, place as u64),
@@ -34,7 +21,7 @@ fn finish(s: &[u8], ended: Ended) -> Verdict
             if stop == s.len() {
                 return Verdict::Accepted(count);
             }
-            Verdict::Refused(LEFT_OVER, stop as u64)
+            Verdict::Refused(refusals::LEFT_OVER, stop as u64)
         }
     }
 }
@@ -53,7 +40,7 @@ fn judge_typed(
 {
     let shape = type_table::shape_of(rows, codes, number);
     match shape {
-        Shape::Struct(_, _) => Verdict::Refused(NOT_A_FUNCTION, 0),
+        Shape::Struct(_, _) => Verdict::Refused(refusals::NOT_A_FUNCTION, 0),
         Shape::Func(first, n, second, m) => {
             let started = body_start::start(s, codes, work, types, first, n);
             match started {
@@ -85,8 +72,8 @@ fn judge_sized(
     requires { ⌜ Sized (now rows) (now codes) (now work) types number ⌝ }
     ensures { λ r. ⌜ SizedJudged (now (rows .entry)) (now (codes .entry)) (now (work .entry)) (now (work .exit)) (now (s .entry)) types number r ⌝ }
 {
-    if MOST_BYTES < s.len() {
-        return Verdict::Refused(OVERSIZE, 0);
+    if sizes::MOST_BYTES < s.len() {
+        return Verdict::Refused(refusals::OVERSIZE, 0);
     }
     judge_typed(rows, codes, work, s, types, number)
 }
@@ -122,8 +109,8 @@ fn judge_enough(
     ensures { λ r. ⌜ EnoughJudged (now (section .entry)) (now (s .entry)) number (now (rows .entry)) (now (codes .entry)) (now (work .entry)) r ⌝ }
 {
     lent_u32::wipe32(work);
-    if work.len() < WORK {
-        return Verdict::Refused(BUFFER_TOO_SMALL, 0);
+    if work.len() < sizes::WORK {
+        return Verdict::Refused(refusals::BUFFER_TOO_SMALL, 0);
     }
     judge_lent(section, s, number, rows, codes, work)
 }
@@ -146,7 +133,10 @@ pub fn judge_body(
     codes: &mut [u16],
     work: &mut [u32],
 ) -> Verdict
-    ensures { λ r. ⌜ BodyJudged (now (section .entry)) (now (body .entry)) number (now (rows .entry)) (now (codes .entry)) (now (work .entry)) (now (rows .exit)) (now (codes .exit)) (now (work .exit)) r ⌝ }
+    ensures { λ r. ⌜
+        BodyJudged (now (section .entry)) (now (body .entry)) number
+        (now (rows .entry)) (now (codes .entry)) (now (work .entry))
+        (now (rows .exit)) (now (codes .exit)) (now (work .exit)) r ⌝ }
 {
     let verdict = judge_enough(section, body, number, rows, codes, work);
     clear(rows, codes, work);

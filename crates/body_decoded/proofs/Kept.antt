@@ -10,6 +10,7 @@ use native.Mathlib.Omega.{arith}
 use lib.ListN.{length}
 use lib.Dec.{eqb}
 use borrow.Author.Tests.{ne-eqb}
+use Rattle.scope.specs.Sizes.{mostTypes}
 use Rattle.scope.specs.Lists.{every, joined}
 use Rattle.scope.specs.Syntax.{Heap, Val}
 use Rattle.scope.specs.TypeRules.{heapNames, valNames}
@@ -93,7 +94,7 @@ asked c {A} {B} {names} {back} keeps f a = rw (keeps .reach a) (go (decided (bel
     go (inl p) = rw (keeps .same a p)
     go (inr p) = rw p
 
-module _ (c : Context) (few : c .count ≤ 256) where
+module _ (c : Context) (few : c .count ≤ mostTypes) where
   bound : c .count ≤ 4_095
   bound = omega arith
 

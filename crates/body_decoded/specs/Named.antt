@@ -1,5 +1,5 @@
 -- The number of the type that an instruction makes an object of, and that an object's word can hold it.
-use Prim.Native.Nat.{ℕ, _<_}
+use Prim.Native.Nat.{ℕ, _<_, _^_}
 use Rattle.body_immediates.specs.declared.Instruction.{Instruction}
 use Rattle.body_immediates.specs.declared.Instruction
 
@@ -39,4 +39,4 @@ numberOf (Instruction.the-variants.BrOnCastDescEqFail l m h n k) = 0
 
 -- the code keeps the type of an object in 16 bits
 pub record Modest (i : Instruction) : Type 0 where
-  pub small : numberOf i < 65_536
+  pub small : numberOf i < 2 ^ 16

@@ -4,24 +4,25 @@ use mathlib.Core.Path.{_≡_, refl, sym, ap, _∙_}
 use mathlib.Core.Bool.{true, false}
 use mathlib.Core.List.{List, [], _++_}
 use native.Mathlib.Omega.{arith}
+use Rattle.scope.specs.Refusals.{oversize, badOperand}
 use Rattle.scope.specs.BodyRules.{Context, Ruled, allowed, fault, andRuled, fromTop}
 use Rattle.scope.specs.Bodies.{Operand, Taken, takeAll, put, marked, doPlan, State, Next, goesOn, within}
 use Rattle.type_table.specs.View.{linkAt, view}
-use Rattle.body_state.specs.declared.Stand.{Stand}
+use Rattle.body_state.specs.declared.Check.{Check}
 use Rattle.body_state.specs.declared.Scene.{Scene}
 use Rattle.body_state.specs.declared.Plain.{Plain}
 use Rattle.body_state.specs.declared.Planned.{Planned}
 use Rattle.body_state.specs.declared.Planned
 use Rattle.body_state.specs.declared.Step.{Step}
 use Rattle.body_state.specs.declared.Step
-use Rattle.body_state.specs.Standing.{valuesOf, wantsAt, plainOf, plannedOf, stack, setsAt, contextAt, stateAt, Upright, Stepped}
+use Rattle.body_state.specs.State.{valuesOf, wantsAt, plainOf, plannedOf, stack, setsAt, contextAt, stateAt, Upright, Stepped}
 use Rattle.body_state.proofs.Stepping.{stepped-on, stepped-fault, stepped-as, within-on}
 use Rattle.body_operands.specs.declared.Left.{Left}
 use Rattle.body_operands.specs.declared.Left
 use Rattle.body_operands.specs.Taking.{leftIn, leftOf}
-use Rattle.body_operands.proofs.Standing.{pushed-state, pushed-upright, pushed-stamped, pushed-types}
+use Rattle.body_operands.proofs.PushedState.{pushed-state, pushed-upright, pushed-stamped, pushed-types}
 use Rattle.body_frames.specs.Frames.{Ready, Marked}
-use Rattle.body_frames.proofs.Standing.{may-mark, marked-state, marked-upright, marked-stamped}
+use Rattle.body_frames.proofs.MarkedState.{may-mark, marked-state, marked-upright, marked-stamped}
 use Rattle.body_push.specs.declared.Given.{Given}
 use Rattle.body_push.specs.declared.Given
 use Rattle.body_push.specs.Gives.{Long, backOf, givenOf, Gave, GivenTo}
@@ -29,7 +30,7 @@ use Rattle.body_push.proofs.Laws.{within-sizes, beyond-sizes}
 use Rattle.body_references.specs.OneMore.{nonNullDone, descriptorDone}
 use Rattle.body_effects.specs.Effects.{afterPlain}
 
-module _ (codes : List ℕ) {work : List ℕ} {count : ℕ} {st : Stand} (u : Upright work count st) (p : Plain) (left : ℕ) where
+module _ (codes : List ℕ) {work : List ℕ} {count : ℕ} {st : Check} (u : Upright work count st) (p : Plain) (left : ℕ) where
   -- the stack yields unknowns afterwards
   pub give-stops : p .stops ≡ true → {work′ : List ℕ} → Marked work work′ count (st .depth + 1) (linkAt (p .marks)) → Stepped work work′ count (st .depth) (within (afterPlain codes (stateAt work count st) p (stack work (st .base) left))) (Step.the-variants.On (record { depth = st .depth; base = st .base; height = 0; dead = true }))
   unfolding afterPlain stateAt stack
@@ -39,7 +40,7 @@ module _ (codes : List ℕ) {work : List ℕ} {count : ℕ} {st : Stand} (u : Up
       stepped-on _ (rw s (ap (λ (t : State). allowed (goesOn t)) (marked-state v k) ∙ sym fine)) (marked-upright v k) (marked-stamped v k) (k .types) (k .size)
 
   module _ (s : p .stops ≡ false) {r : Given} {work₁ : List ℕ} where
-    pub give-full : r ≡ Given.the-variants.Full → GivenTo work work₁ (st .base) left (givenOf codes (p .rest) (p .back) (p .gives)) r → Stepped work work₁ count (st .depth) (within (afterPlain codes (stateAt work count st) p (stack work (st .base) left))) (Step.the-variants.Fault 4)
+    pub give-full : r ≡ Given.the-variants.Full → GivenTo work work₁ (st .base) left (givenOf codes (p .rest) (p .back) (p .gives)) r → Stepped work work₁ count (st .depth) (within (afterPlain codes (stateAt work count st) p (stack work (st .base) left))) (Step.the-variants.Fault oversize)
     unfolding afterPlain stateAt
     give-full e g =
         let many = g .full e in
@@ -53,8 +54,8 @@ module _ (codes : List ℕ) {work : List ℕ} {count : ℕ} {st : Stand} (u : Up
       stands : Upright work₁ count (record { depth = st .depth; base = st .base; height = high; dead = st .dead })
       stands = pushed-upright (gave .pushed) (u .few) (u .rests) (u .room) (u .deep) (gave .few) (st .dead)
 
-      pub mark-after : Ready work₁ count (st .depth + 1)
-      mark-after = may-mark stands
+      pub mark-given : Ready work₁ count (st .depth + 1)
+      mark-given = may-mark stands
 
       pub give-on : {work₂ : List ℕ} → Marked work₁ work₂ count (st .depth + 1) (linkAt (p .marks)) → Stepped work work₂ count (st .depth) (within (afterPlain codes (stateAt work count st) p (stack work (st .base) left))) (Step.the-variants.On (record { depth = st .depth; base = st .base; height = high; dead = st .dead }))
       unfolding afterPlain stateAt
@@ -82,13 +83,13 @@ unfolding doPlan plainOf afterPlain put givenOf backOf
 plan-left codes c st p =
     left-only (λ os. within (afterPlain codes st p os)) (takeAll (c .types) (st .dead) (wantsAt (p .top) ++ (wantsAt (p .second) ++ fromTop (valuesOf codes (p .rest)))) (st .operands))
 
-module _ (rows codes work : List ℕ) (k : Scene) (st : Stand) (p : Plain) where
+module _ (rows codes work : List ℕ) (k : Scene) (st : Check) (p : Plain) where
   planned : doPlan (contextAt rows codes work k) (stateAt work (k .locals) st) (plainOf codes p) ≡ andRuled (leftIn (takeAll (view rows codes) (st .dead) (wantsAt (p .top) ++ (wantsAt (p .second) ++ fromTop (valuesOf codes (p .rest)))) (stack work (st .base) (st .height)))) (λ os. within (afterPlain codes (stateAt work (k .locals) st) p os))
   unfolding contextAt stateAt
   planned = plan-left codes (contextAt rows codes work k) (stateAt work (k .locals) st) p
 
-module _ (rows codes : List ℕ) {work : List ℕ} (k : Scene) (st : Stand) (p : Plain) {r : Left} where
-  pub plain-missing : r ≡ Left.the-variants.Missing → leftOf work (st .base) r ≡ leftIn (takeAll (view rows codes) (st .dead) (wantsAt (p .top) ++ (wantsAt (p .second) ++ fromTop (valuesOf codes (p .rest)))) (stack work (st .base) (st .height))) → {work′ : List ℕ} → work′ ≡ work → Stepped work work′ (k .locals) (st .depth) (doPlan (contextAt rows codes work k) (stateAt work (k .locals) st) (plainOf codes p)) (Step.the-variants.Fault 20)
+module _ (rows codes : List ℕ) {work : List ℕ} (k : Scene) (st : Check) (p : Plain) {r : Left} where
+  pub plain-missing : r ≡ Left.the-variants.Missing → leftOf work (st .base) r ≡ leftIn (takeAll (view rows codes) (st .dead) (wantsAt (p .top) ++ (wantsAt (p .second) ++ fromTop (valuesOf codes (p .rest)))) (stack work (st .base) (st .height))) → {work′ : List ℕ} → work′ ≡ work → Stepped work work′ (k .locals) (st .depth) (doPlan (contextAt rows codes work k) (stateAt work (k .locals) st) (plainOf codes p)) (Step.the-variants.Fault badOperand)
   plain-missing m a e = stepped-fault (k .locals) (st .depth) e (sym (planned rows codes work k st p ∙ rw (sym a, m) refl))
 
   pub plain-on : {left : ℕ} → r ≡ Left.the-variants.Is left → leftOf work (st .base) r ≡ leftIn (takeAll (view rows codes) (st .dead) (wantsAt (p .top) ++ (wantsAt (p .second) ++ fromTop (valuesOf codes (p .rest)))) (stack work (st .base) (st .height))) → {work′ : List ℕ} {step : Step} → Stepped work work′ (k .locals) (st .depth) (within (afterPlain codes (stateAt work (k .locals) st) p (stack work (st .base) left))) step → Stepped work work′ (k .locals) (st .depth) (doPlan (contextAt rows codes work k) (stateAt work (k .locals) st) (plainOf codes p)) step
@@ -96,7 +97,7 @@ module _ (rows codes : List ℕ) {work : List ℕ} (k : Scene) (st : Stand) (p :
 
 -- a plan, by its kind
 
-module _ (rows codes : List ℕ) {work : List ℕ} (k : Scene) (st : Stand) {planned : Planned} where
+module _ (rows codes : List ℕ) {work : List ℕ} (k : Scene) (st : Check) {planned : Planned} where
   pub does-fault : {n : ℕ} → planned ≡ Planned.the-variants.Fault n → {work′ : List ℕ} → work′ ≡ work → Stepped work work′ (k .locals) (st .depth) (andRuled (plannedOf codes planned) (doPlan (contextAt rows codes work k) (stateAt work (k .locals) st))) (Step.the-variants.Fault n)
   unfolding plannedOf
   does-fault m e = stepped-fault (k .locals) (st .depth) e (rw m refl)
@@ -114,7 +115,7 @@ module _ (rows codes : List ℕ) {work : List ℕ} (k : Scene) (st : Stand) {pla
     unfolding plannedOf
     does-plain m s = rw m s
 
-pub may-give : {work : List ℕ} {count : ℕ} {st : Stand} → Upright work count st → Long work
+pub may-give : {work : List ℕ} {count : ℕ} {st : Check} → Upright work count st → Long work
 may-give u = record { room = u .room }
 
-pub ruleset give-exits = (may-mark, may-give, give-stops, give-full, mark-after, give-on, plain-missing, plain-on, does-fault, does-non-null, does-descriptor, does-plain)
+pub ruleset give-exits = (may-mark, may-give, give-stops, give-full, mark-given, give-on, plain-missing, plain-on, does-fault, does-non-null, does-descriptor, does-plain)

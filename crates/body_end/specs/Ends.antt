@@ -8,9 +8,10 @@ use Rattle.scope.specs.Syntax.{Val}
 use Rattle.scope.specs.BodyRules.{Ruled, fault, andRuled, fromTop}
 use Rattle.scope.specs.Bodies.{onTop, takeAll, noneLeft, Next, within}
 use Rattle.type_table.specs.View.{view}
-use Rattle.body_state.specs.declared.Stand.{Stand}
+use Rattle.body_state.specs.declared.Check.{Check}
 use Rattle.body_state.specs.declared.Values.{Values}
-use Rattle.body_state.specs.Standing.{valuesOf, frameWord, stack, setsAt, framesAt, Upright}
+use Rattle.body_state.specs.Layout.{baseWord, heightWord, deadWord}
+use Rattle.body_state.specs.State.{valuesOf, frameWord, stack, setsAt, framesAt, Upright}
 use Rattle.body_end.specs.declared.End.{End}
 use Rattle.body_end.specs.declared.End
 
@@ -23,18 +24,18 @@ pub record EndsWith (rows codes work : List ℕ) (list : Values) (base height : 
   pub is : (more : Ruled Next) → endFault r more ≡ andRuled (takeAll (view rows codes) dead (fromTop (valuesOf codes list)) (stack work base height)) (λ t. noneLeft (t .left) more)
 
 -- frame m is the innermost, and it is not the function's own
-pub record Inner (work : List ℕ) (count : ℕ) (st : Stand) (m : ℕ) : Type 0 where
+pub record Inner (work : List ℕ) (count : ℕ) (st : Check) (m : ℕ) : Type 0 where
   pub upright : Upright work count st
   pub open′ : 0 < st .depth
   pub number : m ≡ st .depth + 1
 
 -- the state in the frame around, with the results as operands
-unfoldable pub leaveAs : List ℕ → ℕ → ℕ → List Val → Ruled Next
-leaveAs work count depth rs =
+unfoldable pub steppedOut : List ℕ → ℕ → ℕ → List Val → Ruled Next
+steppedOut work count depth rs =
     within
     (record {
       frames = framesAt work count (depth - 1);
-      operands = onTop rs ++ stack work (frameWord work (depth + 1) 2) (frameWord work (depth + 1) 3);
-      dead = eqb (frameWord work (depth + 1) 4) 1;
+      operands = onTop rs ++ stack work (frameWord work (depth + 1) baseWord) (frameWord work (depth + 1) heightWord);
+      dead = eqb (frameWord work (depth + 1) deadWord) 1;
       isSet = setsAt work depth 0 count;
     })

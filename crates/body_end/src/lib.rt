@@ -1,21 +1,15 @@
 // The end of a frame: its results from the top, then nothing is left (28), and in the frame around it they are operands.
 use body_operands::Left;
 use body_push::Given;
+use body_state::Check;
 use body_state::Scene;
-use body_state::Stand;
 use body_state::Step;
 use body_state::Values;
+use scope::refusals;
 ghost use Rattle.scope.specs.Bodies.{judgeInstr};
 ghost use Rattle.scope.specs.Instructions.{end};
-ghost use Rattle.body_state.specs.Standing.{contextAt, stateAt, valuesOf, Upright, Stepped};
-ghost use Rattle.body_end.specs.Ends.{EndsWith, Inner, leaveAs};
-
-// By which number each rule is refused.
-const OVERSIZE: u64 = 4;
-
-const BAD_OPERAND: u64 = 20;
-
-const VALUES_LEFT: u64 = 28;
+ghost use Rattle.body_state.specs.State.{contextAt, stateAt, valuesOf, Upright, Stepped};
+ghost use Rattle.body_end.specs.Ends.{EndsWith, Inner, steppedOut};
 
 // Whether a frame may end: its results are there and nothing else; or the refusal's number.
 pub enum End {
@@ -37,28 +31,39 @@ fn end_with(
 {
     let taken = body_operands::take_list(rows, codes, work, list, base, height, dead);
     let Left::Is(left) = taken else {
-        return End::Fault(BAD_OPERAND);
+        return End::Fault(refusals::BAD_OPERAND);
     };
     if left == 0 {
         return End::Fine;
     }
-    End::Fault(VALUES_LEFT)
+    End::Fault(refusals::VALUES_LEFT)
 }
 
 // Back in the frame around frame m, the innermost: its results are operands there. "Sets inside a block are forgotten at
 // its end": a local that was set in frame m keeps its stamp, and no open frame has it.
-fn leave(codes: &[u16], work: &mut [u32], locals: u16, stand: Stand, m: u32, list: Values) -> Step
-    requires { ⌜ Inner (now work) locals stand m ⌝ }
-    ensures { λ r. ⌜ Stepped (now (work .entry)) (now (work .exit)) locals (stand .depth) (leaveAs (now (work .entry)) locals (stand .depth) (valuesOf (now (codes .entry)) list)) r ⌝ }
+fn step_out(
+    codes: &[u16],
+    work: &mut [u32],
+    locals: u16,
+    check: Check,
+    m: u32,
+    list: Values,
+) -> Step
+    requires { ⌜ Inner (now work) locals check m ⌝ }
+    ensures { λ r.
+        let before = now (work .entry) in
+        let after = now (work .exit) in
+        let want = steppedOut before locals (check .depth) (valuesOf (now (codes .entry)) list) in
+        ⌜ Stepped before after locals (check .depth) want r ⌝ }
 {
-    let depth = stand.depth;
+    let depth = check.depth;
     let base = body_state::frame_word(work, m, body_state::BASE) as u32;
     let height = body_state::frame_word(work, m, body_state::HEIGHT) as u32;
     let dead = body_state::frame_word(work, m, body_state::DEAD);
     let given = body_push::give(codes, work, list, true, 0, base, height);
     match given {
-        Given::Full => Step::Fault(OVERSIZE),
-        Given::Is(high) => Step::On(Stand {
+        Given::Full => Step::Fault(refusals::OVERSIZE),
+        Given::Is(high) => Step::On(Check {
             depth: depth - 1,
             base: base,
             height: high,
@@ -68,14 +73,19 @@ fn leave(codes: &[u16], work: &mut [u32], locals: u16, stand: Stand, m: u32, lis
 }
 
 // The end of the innermost frame; of the function's own, the body is finished.
-pub fn close(rows: &[u16], codes: &[u16], work: &mut [u32], scene: Scene, stand: Stand) -> Step
-    requires { ⌜ Upright (now work) (scene .locals) stand ⌝ }
-    ensures { λ r. ⌜ Stepped (now (work .entry)) (now (work .exit)) (scene .locals) (stand .depth) (judgeInstr (contextAt (now (rows .entry)) (now (codes .entry)) (now (work .entry)) scene) (stateAt (now (work .entry)) (scene .locals) stand) end) r ⌝ }
+pub fn close(rows: &[u16], codes: &[u16], work: &mut [u32], scene: Scene, check: Check) -> Step
+    requires { ⌜ Upright (now work) (scene .locals) check ⌝ }
+    ensures { λ r.
+        let before = now (work .entry) in
+        let after = now (work .exit) in
+        let context = contextAt (now (rows .entry)) (now (codes .entry)) before scene in
+        let want = judgeInstr context (stateAt before (scene .locals) check) end in
+        ⌜ Stepped before after (scene .locals) (check .depth) want r ⌝ }
 {
-    let depth = stand.depth;
-    let base = stand.base;
-    let height = stand.height;
-    let dead = stand.dead;
+    let depth = check.depth;
+    let base = check.base;
+    let height = check.height;
+    let dead = check.dead;
     let locals = scene.locals;
     if depth == 0 {
         let first = scene.first;
@@ -103,6 +113,6 @@ pub fn close(rows: &[u16], codes: &[u16], work: &mut [u32], scene: Scene, stand:
     let ended = end_with(rows, codes, work, list, base, height, dead);
     match ended {
         End::Fault(number) => Step::Fault(number),
-        End::Fine => leave(codes, work, locals, stand, m, list),
+        End::Fine => step_out(codes, work, locals, check, m, list),
     }
 }

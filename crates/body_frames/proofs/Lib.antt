@@ -1,4 +1,4 @@
 pub mod Writing
 pub mod Inside
 pub mod Setting
-pub mod Standing
+pub mod MarkedState

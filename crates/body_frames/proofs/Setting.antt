@@ -16,7 +16,8 @@ use Rattle.scope.specs.Bodies.{marked}
 use Rattle.scope.proofs.Truths.{decided}
 use Rattle.type_table.specs.View.{linkAt}
 use Rattle.lent_u32.specs.Scratch.{Word32At}
-use Rattle.body_state.specs.Standing.{frameWord, isSetAt, setsAt}
+use Rattle.body_state.specs.Layout.{marksFrom, stampsFrom, framesFrom, frameSpan, stampWord, wordBound}
+use Rattle.body_state.specs.State.{frameWord, isSetAt, setsAt}
 use Rattle.body_state.proofs.Alike.{is-set-same, sets-same, sets-length, sets-there, set-further, both-false}
 use Rattle.body_frames.specs.Frames.{Ready, Marked}
 use Rattle.lent_u16.proofs.Stores.{Stored, stored}
@@ -36,15 +37,15 @@ sets-with work work′ m i (suc n) (suc x) h is others =
 
 -- one local more
 
-module _ {work : List ℕ} {count m : ℕ} (r : Ready work count m) {x : ℕ} (h : x < count) (f : isSetAt work m x ≡ false) {stamp : ℕ} (b : Word32At work (1_280 + (8 * m + 5)) stamp) {work₁ work₂ : List ℕ} (first : Stored work work₁ (256 + x) m) (second : Stored work₁ work₂ (512 + x) stamp) where
-  same : (i : ℕ) → (i ≡ 256 + x → ⊥) → (i ≡ 512 + x → ⊥) → getD work₂ i 0 ≡ getD work i 0
+module _ {work : List ℕ} {count m : ℕ} (r : Ready work count m) {x : ℕ} (h : x < count) (f : isSetAt work m x ≡ false) {stamp : ℕ} (b : Word32At work (framesFrom + (frameSpan * m + stampWord)) stamp) {work₁ work₂ : List ℕ} (first : Stored work work₁ (marksFrom + x) m) (second : Stored work₁ work₂ (stampsFrom + x) stamp) where
+  same : (i : ℕ) → (i ≡ marksFrom + x → ⊥) → (i ≡ stampsFrom + x → ⊥) → getD work₂ i 0 ≡ getD work i 0
   same i l g = second .others i g ∙ first .others i l
 
-  mark-is : getD work₂ (256 + x) 0 ≡ m
-  mark-is = second .others (256 + x) (λ e. omega (arith, r .few)) ∙ first .here
+  mark-is : getD work₂ (marksFrom + x) 0 ≡ m
+  mark-is = second .others (marksFrom + x) (λ e. omega (arith, r .few)) ∙ first .here
 
-  frame-is : (n : ℕ) → frameWord work₂ n 5 ≡ frameWord work n 5
-  frame-is n = same (1_280 + (8 * n + 5)) (λ e. omega (arith, r .few)) (λ e. omega (arith, r .few))
+  frame-is : (n : ℕ) → frameWord work₂ n stampWord ≡ frameWord work n stampWord
+  frame-is n = same (framesFrom + (frameSpan * n + stampWord)) (λ e. omega (arith, r .few)) (λ e. omega (arith, r .few))
 
   set-now : isSetAt work₂ m x ≡ true
   unfolding isSetAt
@@ -53,8 +54,8 @@ module _ {work : List ℕ} {count m : ℕ} (r : Ready work count m) {x : ℕ} (h
   other-is : (n k : ℕ) → (k ≡ x → ⊥) → k < count → isSetAt work₂ n k ≡ isSetAt work n k
   other-is n k l g =
       is-set-same work work₂ n k
-      (same (256 + k) (λ e. l (omega arith)) (λ e. omega (arith, r .few)))
-      (same (512 + k) (λ e. omega (arith, r .few)) (λ e. l (omega arith)))
+      (same (marksFrom + k) (λ e. l (omega arith)) (λ e. omega (arith, r .few)))
+      (same (stampsFrom + k) (λ e. omega (arith, r .few)) (λ e. l (omega arith)))
       (λ j c. frame-is j)
 
   not-around : (n : ℕ) → n < m → isSetAt work₂ n x ≡ false
@@ -68,12 +69,12 @@ module _ {work : List ℕ} {count m : ℕ} (r : Ready work count m) {x : ℕ} (h
       go (inl e) = let z : k ≡ x = eqb-true k x e in rw z (not-around n l ∙ sym (set-further work n m x (omega arith) f))
       go (inr e) = other-is n k (eqb-false k x e) g
 
-  early : (at : ℕ) → frameWord work m 5 < at → ((i : ℕ) → i < count → getD work (512 + i) 0 < at) → (i : ℕ) → i < count → getD work₂ (512 + i) 0 < at
+  early : (at : ℕ) → frameWord work m stampWord < at → ((i : ℕ) → i < count → getD work (stampsFrom + i) 0 < at) → (i : ℕ) → i < count → getD work₂ (stampsFrom + i) 0 < at
   early at l old i g = go (decided (eqb i x))
     where
-      go : (eqb i x ≡ true) ⊎ (eqb i x ≡ false) → getD work₂ (512 + i) 0 < at
-      go (inl e) = let z : i ≡ x = eqb-true i x e in let s : getD work₂ (512 + i) 0 ≡ stamp = rw z (second .here) in omega (arith, b .is)
-      go (inr e) = let s : getD work₂ (512 + i) 0 ≡ getD work (512 + i) 0 = same (512 + i) (λ z. omega (arith, r .few)) (λ z. eqb-false i x e (omega arith)) in omega (arith, old i g)
+      go : (eqb i x ≡ true) ⊎ (eqb i x ≡ false) → getD work₂ (stampsFrom + i) 0 < at
+      go (inl e) = let z : i ≡ x = eqb-true i x e in let s : getD work₂ (stampsFrom + i) 0 ≡ stamp = rw z (second .here) in omega (arith, b .is)
+      go (inr e) = let s : getD work₂ (stampsFrom + i) 0 ≡ getD work (stampsFrom + i) 0 = same (stampsFrom + i) (λ z. omega (arith, r .few)) (λ z. eqb-false i x e (omega arith)) in omega (arith, old i g)
 
   one-marked : Marked work work₂ count m (some x)
   one-marked =
@@ -106,8 +107,8 @@ module _ {work : List ℕ} {count m : ℕ} (r : Ready work count m) (marks : ℕ
   module _ (g : marks ≡ 0 → ⊥) where
     pub mark-absent : count ≤ marks - 1 → {work′ : List ℕ} → work′ ≡ work → Marked work work′ count m (linkAt marks)
     mark-absent h e =
-        let past : length (setsAt work m 0 count) ≤ marks - 1 = rw (sets-length work m 0 count) h in
-        unmarked e (rw (ne-eqb marks 0 g) (set-out (setsAt work m 0 count) (marks - 1) true past))
+        let beyond : length (setsAt work m 0 count) ≤ marks - 1 = rw (sets-length work m 0 count) h in
+        unmarked e (rw (ne-eqb marks 0 g) (set-out (setsAt work m 0 count) (marks - 1) true beyond))
 
     module _ (h : marks - 1 < count) {is : Bool} (a : is ≡ isSetAt work m (marks - 1)) where
       here-is : getD (setsAt work m 0 count) (marks - 1) false ≡ is
@@ -118,10 +119,10 @@ module _ {work : List ℕ} {count m : ℕ} (r : Ready work count m) (marks : ℕ
           let same : set (setsAt work m 0 count) (marks - 1) true ≡ setsAt work m 0 count = ap (set (setsAt work m 0 count) (marks - 1)) (sym (here-is ∙ t)) ∙ set-getD (setsAt work m 0 count) (marks - 1) false in
           unmarked e (rw (ne-eqb marks 0 g) same)
 
-      pub mark-new : is ≡ false → {stamp : ℕ} → Word32At work (1_280 + (8 * m + 5)) stamp → {work₁ work₂ : List ℕ} → work₁ ≡ set work (256 + (marks - 1)) (m % 4_294_967_296) → work₂ ≡ set work₁ (512 + (marks - 1)) (stamp % 4_294_967_296) → m < 2 ^ 32 → Marked work work₂ count m (linkAt marks)
+      pub mark-new : is ≡ false → {stamp : ℕ} → Word32At work (framesFrom + (frameSpan * m + stampWord)) stamp → {work₁ work₂ : List ℕ} → work₁ ≡ set work (marksFrom + (marks - 1)) (m % wordBound) → work₂ ≡ set work₁ (stampsFrom + (marks - 1)) (stamp % wordBound) → m < 2 ^ 32 → Marked work work₂ count m (linkAt marks)
       mark-new f {stamp} b {work₁} {work₂} p q w =
-          let first : Stored work work₁ (256 + (marks - 1)) m = stored 4_294_967_296 p (omega arith) (omega (arith, r .room, r .few)) in
-          let second : Stored work₁ work₂ (512 + (marks - 1)) stamp = stored 4_294_967_296 q (b .small) (omega (arith, r .room, r .few, first .size)) in
+          let first : Stored work work₁ (marksFrom + (marks - 1)) m = stored wordBound p (omega arith) (omega (arith, r .room, r .few)) in
+          let second : Stored work₁ work₂ (stampsFrom + (marks - 1)) stamp = stored wordBound q (b .small) (omega (arith, r .room, r .few, first .size)) in
           rw (ne-eqb marks 0 g) (one-marked r h (sym a ∙ f) b first second)
 
 pub ruleset mark-exits = (mark-none, mark-absent, mark-already, mark-new)

@@ -6,6 +6,7 @@ use mathlib.Core.Option.{Option}
 use mathlib.Core.List.{List, map}
 use lib.ListN.{getD, length}
 use lib.Dec.{ltb}
+use Rattle.scope.specs.Sizes.{mostBytes, mostLocals, mostOperands, mostBlocks}
 use Rattle.scope.specs.Refusals.{outOfReach}
 use Rattle.scope.specs.Lists.{every, joined}
 use Rattle.scope.specs.TypeRules.{valNames}
@@ -14,62 +15,63 @@ use Rattle.scope.specs.Memory.{flag}
 use Rattle.scope.specs.BodyRules.{Ruled, test}
 use Rattle.scope.specs.Bodies.{marked, State, Next, entered}
 use Rattle.body_decoded.specs.Decoded.{blockResults}
-use Rattle.body_state.specs.declared.Stand.{Stand}
+use Rattle.body_state.specs.declared.Check.{Check}
 use Rattle.body_state.specs.declared.Scene.{Scene}
 use Rattle.body_state.specs.declared.Step.{Step}
 use Rattle.body_state.specs.declared.Step
-use Rattle.body_state.specs.Standing.{frameWord, setsAt, frameOf, stateAt, Upright, Stamped, stepOf}
+use Rattle.body_state.specs.Layout.{stampsFrom, operandsFrom, framesFrom, frameSpan, loopWord, resultWord, baseWord, heightWord, deadWord, stampWord, usedSize}
+use Rattle.body_state.specs.State.{frameWord, setsAt, frameOf, stateAt, Upright, Stamped, stepOf}
 
 -- frame m may be open
 pub record Ready (work : List ℕ) (count m : ℕ) : Type 0 where
-  pub room : 1_800 ≤ length work
-  pub few : count ≤ 256
+  pub room : usedSize ≤ length work
+  pub few : count ≤ mostLocals
   pub some′ : 0 < m
 
 -- A local is set in the frames up to number m, and in no frame around; it keeps a stamp that was there, or frame m's.
 pub record Marked (work work′ : List ℕ) (count m : ℕ) (marks : Option ℕ) : Type 0 where
   pub here : setsAt work′ m 0 count ≡ marked marks (setsAt work m 0 count)
   pub around : (n : ℕ) → n < m → setsAt work′ n 0 count ≡ setsAt work n 0 count
-  pub early : (at : ℕ) → frameWord work m 5 < at → ((i : ℕ) → i < count → getD work (512 + i) 0 < at) → (i : ℕ) → i < count → getD work′ (512 + i) 0 < at
-  pub types : (i : ℕ) → i < 256 → getD work′ i 0 ≡ getD work i 0
-  pub beyond : (i : ℕ) → 768 ≤ i → getD work′ i 0 ≡ getD work i 0
+  pub early : (at : ℕ) → frameWord work m stampWord < at → ((i : ℕ) → i < count → getD work (stampsFrom + i) 0 < at) → (i : ℕ) → i < count → getD work′ (stampsFrom + i) 0 < at
+  pub types : (i : ℕ) → i < mostLocals → getD work′ i 0 ≡ getD work i 0
+  pub beyond : (i : ℕ) → operandsFrom ≤ i → getD work′ i 0 ≡ getD work i 0
   pub size : length work′ ≡ length work
 
 -- frame m has its eight words
 pub record FrameRoom (work : List ℕ) (m : ℕ) : Type 0 where
-  pub room : 1_280 + 8 * m + 8 ≤ length work
+  pub room : framesFrom + frameSpan * m + frameSpan ≤ length work
 
 -- three words of frame m, and no other word is changed
 pub record ThreePut (work work′ : List ℕ) (m j k l x y z : ℕ) : Type 0 where
   pub first : frameWord work′ m j ≡ x
   pub second : frameWord work′ m k ≡ y
   pub third : frameWord work′ m l ≡ z
-  pub others : (i : ℕ) → (i ≡ 1_280 + (8 * m + j) → ⊥) → (i ≡ 1_280 + (8 * m + k) → ⊥) → (i ≡ 1_280 + (8 * m + l) → ⊥) → getD work′ i 0 ≡ getD work i 0
+  pub others : (i : ℕ) → (i ≡ framesFrom + (frameSpan * m + j) → ⊥) → (i ≡ framesFrom + (frameSpan * m + k) → ⊥) → (i ≡ framesFrom + (frameSpan * m + l) → ⊥) → getD work′ i 0 ≡ getD work i 0
   pub size : length work′ ≡ length work
 
 -- one more frame has its words
-pub record Entering (work : List ℕ) (st : Stand) : Type 0 where
-  pub room : 1_800 ≤ length work
-  pub deep : st .depth < 63
-  pub low : st .base + st .height ≤ 512
+pub record Entering (work : List ℕ) (st : Check) : Type 0 where
+  pub room : usedSize ≤ length work
+  pub deep : st .depth < mostBlocks
+  pub low : st .base + st .height ≤ mostOperands
 
 -- the new frame's words, those before them as they were, and where the check then stands
-pub record Entered (work work′ : List ℕ) (st : Stand) (isLoop : Bool) (result at : ℕ) (r : Stand) : Type 0 where
-  pub isLoop′ : frameWord work′ (st .depth + 2) 0 ≡ flag isLoop
-  pub result′ : frameWord work′ (st .depth + 2) 1 ≡ result
-  pub base′ : frameWord work′ (st .depth + 2) 2 ≡ st .base
-  pub height′ : frameWord work′ (st .depth + 2) 3 ≡ st .height
-  pub dead′ : frameWord work′ (st .depth + 2) 4 ≡ flag (st .dead)
-  pub stamp′ : frameWord work′ (st .depth + 2) 5 ≡ at
-  pub below : (i : ℕ) → i < 1_280 + 8 * (st .depth + 2) → getD work′ i 0 ≡ getD work i 0
+pub record Entered (work work′ : List ℕ) (st : Check) (isLoop : Bool) (result at : ℕ) (r : Check) : Type 0 where
+  pub isLoop′ : frameWord work′ (st .depth + 2) loopWord ≡ flag isLoop
+  pub result′ : frameWord work′ (st .depth + 2) resultWord ≡ result
+  pub base′ : frameWord work′ (st .depth + 2) baseWord ≡ st .base
+  pub height′ : frameWord work′ (st .depth + 2) heightWord ≡ st .height
+  pub dead′ : frameWord work′ (st .depth + 2) deadWord ≡ flag (st .dead)
+  pub stamp′ : frameWord work′ (st .depth + 2) stampWord ≡ at
+  pub below : (i : ℕ) → i < framesFrom + frameSpan * (st .depth + 2) → getD work′ i 0 ≡ getD work i 0
   pub size : length work′ ≡ length work
-  pub stand : r ≡ record { depth = st .depth + 1; base = st .base + st .height; height = 0; dead = false }
+  pub check : r ≡ record { depth = st .depth + 1; base = st .base + st .height; height = 0; dead = false }
 
 -- the sizes hold, and no stamp is the place of this instruction
-pub record Opening (work : List ℕ) (count : ℕ) (st : Stand) (at : ℕ) : Type 0 where
+pub record Opening (work : List ℕ) (count : ℕ) (st : Check) (at : ℕ) : Type 0 where
   pub upright : Upright work count st
   pub stamped : Stamped work count (st .depth) at
-  pub early : at ≤ 32_768
+  pub early : at ≤ mostBytes
 
 -- what document 01 says of block and loop (scope's judgeInstr)
 abbrev pub opens : ℕ → State → Bool → List Val → Ruled Next
@@ -77,9 +79,9 @@ opens types st isLoop rs =
     test (every (λ x. ltb x types) (joined (map valNames rs))) outOfReach
     (entered st (frameOf isLoop rs (st .operands) (st .dead) (st .isSet)))
 
-pub record Opened (work work′ : List ℕ) (k : Scene) (st : Stand) (isLoop : Bool) (result at : ℕ) (r : Step) : Type 0 where
+pub record Opened (work work′ : List ℕ) (k : Scene) (st : Check) (isLoop : Bool) (result at : ℕ) (r : Step) : Type 0 where
   pub answer : stepOf work′ (k .locals) r ≡ opens (k .types) (stateAt work (k .locals) st) isLoop (blockResults result)
-  pub upright : (st′ : Stand) → r ≡ Step.the-variants.On st′ → Upright work′ (k .locals) st′
-  pub stamped : (st′ : Stand) → r ≡ Step.the-variants.On st′ → Stamped work′ (k .locals) (st′ .depth) (at + 1)
-  pub types : (i : ℕ) → i < 256 → getD work′ i 0 ≡ getD work i 0
+  pub upright : (st′ : Check) → r ≡ Step.the-variants.On st′ → Upright work′ (k .locals) st′
+  pub stamped : (st′ : Check) → r ≡ Step.the-variants.On st′ → Stamped work′ (k .locals) (st′ .depth) (at + 1)
+  pub types : (i : ℕ) → i < mostLocals → getD work′ i 0 ≡ getD work i 0
   pub size : length work′ ≡ length work

@@ -1,7 +1,9 @@
 // Frames and locals, written: a block is opened, a local is set.
+use body_state::Check;
 use body_state::Scene;
-use body_state::Stand;
 use body_state::Step;
+use scope::refusals;
+use scope::sizes;
 ghost use mathlib.Core.Path.{_≡_};
 ghost use mathlib.Core.List.{map};
 ghost use Rattle.scope.specs.Lists.{joined};
@@ -9,16 +11,12 @@ ghost use Rattle.scope.specs.TypeRules.{valNames};
 ghost use Rattle.scope.specs.Memory.{flag};
 ghost use Rattle.type_table.specs.View.{linkAt};
 ghost use Rattle.type_reach.specs.Names.{allBelow};
+ghost use Rattle.body_state.specs.Layout.{loopWord, resultWord, baseWord, heightWord, deadWord, stampWord};
 ghost use Rattle.body_decoded.specs.Decoded.{blockResults};
 ghost use Rattle.body_frames.specs.Frames.{Ready, Marked, FrameRoom, ThreePut, Entering, Entered, Opening, Opened};
 
-// By which number each rule is refused.
-const OVERSIZE: u64 = 4;
-
-const OUT_OF_REACH: u64 = 6;
-
-// "64 frames, the function's own counted."
-const MOST_BLOCKS: u16 = 63;
+// "64 frames, the function's own counted": by the type of a depth.
+const MOST_BLOCKS: u16 = sizes::MOST_BLOCKS as u16;
 
 // Sets a local in frame m: 0 is none, else one more than its number. What is set already stays as it is: it was set in a
 // frame that is still open.
@@ -51,7 +49,7 @@ fn flag_of(b: bool) -> u64
 // The words of frame m that are its own: whether it is a loop, its result, its stamp.
 fn put_own(work: &mut [u32], m: u32, is_loop: bool, result: u32, stamp: u32)
     requires { ⌜ FrameRoom (now work) m ⌝ }
-    ensures { λ r. ⌜ ThreePut (now (work .entry)) (now (work .exit)) m 0 1 5 (flag «is_loop») result stamp ⌝ }
+    ensures { λ r. ⌜ ThreePut (now (work .entry)) (now (work .exit)) m loopWord resultWord stampWord (flag «is_loop») result stamp ⌝ }
 {
     let row = body_state::FRAMES + body_state::FRAME * m as u64;
     let kind = flag_of(is_loop);
@@ -63,7 +61,7 @@ fn put_own(work: &mut [u32], m: u32, is_loop: bool, result: u32, stamp: u32)
 // The words of frame m that say what stands around it: the operands below, how many there are, whether they may be unknown.
 fn put_around(work: &mut [u32], m: u32, base: u32, height: u32, dead: bool)
     requires { ⌜ FrameRoom (now work) m ⌝ }
-    ensures { λ r. ⌜ ThreePut (now (work .entry)) (now (work .exit)) m 2 3 4 base height (flag dead) ⌝ }
+    ensures { λ r. ⌜ ThreePut (now (work .entry)) (now (work .exit)) m baseWord heightWord deadWord base height (flag dead) ⌝ }
 {
     let row = body_state::FRAMES + body_state::FRAME * m as u64;
     let unknowns = flag_of(dead);
@@ -83,18 +81,18 @@ fn result_reached(types: u16, result: u64) -> bool
 }
 
 // The frame is written, and the check stands in it.
-fn enter(work: &mut [u32], stand: Stand, is_loop: bool, result: u32, at: u32) -> Stand
-    requires { ⌜ Entering (now work) stand ⌝ }
-    ensures { λ r. ⌜ Entered (now (work .entry)) (now (work .exit)) stand «is_loop» result at r ⌝ }
+fn enter(work: &mut [u32], check: Check, is_loop: bool, result: u32, at: u32) -> Check
+    requires { ⌜ Entering (now work) check ⌝ }
+    ensures { λ r. ⌜ Entered (now (work .entry)) (now (work .exit)) check «is_loop» result at r ⌝ }
 {
-    let depth = stand.depth;
-    let base = stand.base;
-    let height = stand.height;
-    let dead = stand.dead;
+    let depth = check.depth;
+    let base = check.base;
+    let height = check.height;
+    let dead = check.dead;
     let m = depth as u32 + 2;
     put_own(work, m, is_loop, result, at);
     put_around(work, m, base, height, dead);
-    Stand {
+    Check {
         depth: depth + 1,
         base: base + height,
         height: 0,
@@ -106,23 +104,23 @@ fn enter(work: &mut [u32], stand: Stand, is_loop: bool, result: u32, at: u32) ->
 pub fn open(
     work: &mut [u32],
     scene: Scene,
-    stand: Stand,
+    check: Check,
     is_loop: bool,
     result: u64,
     at: u64,
 ) -> Step
-    requires { ⌜ Opening (now work) (scene .locals) stand at ⌝ }
-    ensures { λ r. ⌜ Opened (now (work .entry)) (now (work .exit)) scene stand «is_loop» result at r ⌝ }
+    requires { ⌜ Opening (now work) (scene .locals) check at ⌝ }
+    ensures { λ r. ⌜ Opened (now (work .entry)) (now (work .exit)) scene check «is_loop» result at r ⌝ }
 {
     let types = scene.types;
     let reached = result_reached(types, result);
     if !reached {
-        return Step::Fault(OUT_OF_REACH);
+        return Step::Fault(refusals::OUT_OF_REACH);
     }
-    let depth = stand.depth;
+    let depth = check.depth;
     if MOST_BLOCKS <= depth {
-        return Step::Fault(OVERSIZE);
+        return Step::Fault(refusals::OVERSIZE);
     }
-    let inner = enter(work, stand, is_loop, result as u32, at as u32);
+    let inner = enter(work, check, is_loop, result as u32, at as u32);
     Step::On(inner)
 }

@@ -7,6 +7,7 @@ use native.Mathlib.Omega.{arith}
 use lib.ListN.{length, getElem?}
 use lib.Dec.{ltb}
 use borrow.Author.Tests.{ne-eqb, le-ltb}
+use Rattle.scope.specs.Refusals.{bytesEnd, notListed}
 use Rattle.scope.specs.Reading.{Read, got, refused, then}
 use Rattle.scope.specs.Numbers.{u32}
 use Rattle.scope.specs.Syntax.{Heap}
@@ -70,7 +71,7 @@ four : (b : ℕ) → (b ≡ 0 → ⊥) → (b ≡ 1 → ⊥) → (b ≡ 2 → �
 four b p q r t = omega arith
 
 module _ {s : List ℕ} {at : ℕ} {r : Byte} (a : ByteAt s at r) where
-  pub cast-missing : r ≡ Byte.the-variants.Missing → CastRead.the-variants.Refused 1 at ≡ castIs (castAt s at)
+  pub cast-missing : r ≡ Byte.the-variants.Missing → CastRead.the-variants.Refused bytesEnd at ≡ castIs (castAt s at)
   unfolding castAt
   cast-missing e = rw (byte-none (getElem? s at) (a .is) e)
 
@@ -91,7 +92,7 @@ module _ {s : List ℕ} {at : ℕ} {r : Byte} (a : ByteAt s at r) where
     unfolding castAt castTypesAt
     cast-null-null f g = g ∙ sym (rw (byte-got (getElem? s at) (a .is) e, f))
 
-    pub cast-unlisted : (b ≡ 0 → ⊥) → (b ≡ 1 → ⊥) → (b ≡ 2 → ⊥) → (b ≡ 3 → ⊥) → CastRead.the-variants.Refused 3 at ≡ castIs (castAt s at)
+    pub cast-unlisted : (b ≡ 0 → ⊥) → (b ≡ 1 → ⊥) → (b ≡ 2 → ⊥) → (b ≡ 3 → ⊥) → CastRead.the-variants.Refused notListed at ≡ castIs (castAt s at)
     unfolding castAt
     cast-unlisted f g h i = rw (byte-got (getElem? s at) (a .is) e, le-ltb b 4 (four b f g h i))
 

@@ -50,12 +50,12 @@ module _ (s : List ℕ) (at : ℕ) {r : Integer} (a : r ≡ integerIs (s32 s at)
   unfolding constantAt instructionOf operationOf
   constant-plus e = rw (integer-plus (s32 s at) a e)
 
-  pub constant-minus : {v next : ℕ} → r ≡ Integer.the-variants.Minus v next → InstructionRead.the-variants.Is (Instruction.the-variants.I32Const (4_294_967_296 - v)) next ≡ instructionIs (constantAt s at)
+  pub constant-minus : {v next : ℕ} → r ≡ Integer.the-variants.Minus v next → InstructionRead.the-variants.Is (Instruction.the-variants.I32Const (2 ^ 32 - v)) next ≡ instructionIs (constantAt s at)
   unfolding constantAt instructionOf operationOf
   constant-minus e = rw (integer-minus (s32 s at) a e)
 
   -- so it does not go below 0
-  pub constant-bound : {v next : ℕ} → r ≡ Integer.the-variants.Minus v next → v ≤ 4_294_967_296
+  pub constant-bound : {v next : ℕ} → r ≡ Integer.the-variants.Minus v next → v ≤ 2 ^ 32
   constant-bound {v} {next} e = let h = signed-least 32 s at (integer-minus (s32 s at) a e) in omega arith
 
 pub ruleset constant-exits = (constant-refused, constant-plus, constant-minus, constant-bound)

@@ -9,6 +9,7 @@ use lib.ListN.{length, getElem?}
 use borrow.Author.Tests.{eq-eqb, ne-eqb}
 use mir.Syntax.{w64}
 use mir.Val.{Fits}
+use Rattle.scope.specs.Refusals.{bytesEnd}
 use Rattle.scope.specs.Reading.{Read, got, refused, then}
 use Rattle.scope.specs.Syntax.{Heap, Val}
 use Rattle.scope.specs.Sections.{heapAt, valAt}
@@ -31,7 +32,7 @@ use Rattle.body_immediates.specs.Coding.{resultCode, operationOf, instru
 -- block_type_at
 
 module _ {s : List ℕ} {at : ℕ} {r : Byte} (a : ByteAt s at r) where
-  pub block-missing : r ≡ Byte.the-variants.Missing → Coded.the-variants.Refused 1 at ≡ codedIs resultCode (blockTypeAt s at)
+  pub block-missing : r ≡ Byte.the-variants.Missing → Coded.the-variants.Refused bytesEnd at ≡ codedIs resultCode (blockTypeAt s at)
   unfolding blockTypeAt
   block-missing e = rw (byte-none (getElem? s at) (a .is) e)
 

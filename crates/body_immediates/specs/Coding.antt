@@ -122,8 +122,8 @@ testedAt b = having heapAt (tested b)
 unfoldable pub castTypesAt : Bool → Bool → Reader Cast
 castTypesAt m n s at =
     then (u32 s at) (λ l next.
-    then (heapAt s next) (λ h after.
-    then (heapAt s after) (λ k stop.
+    then (heapAt s next) (λ h target.
+    then (heapAt s target) (λ k stop.
     got (record { label = l; sourceNull = m; source = h; targetNull = n; target = k }) stop)))
 
 abbrev pub casting : ℕ → Cast → Op

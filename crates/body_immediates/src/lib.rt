@@ -1,9 +1,10 @@
 // Instructions, and the readers of what follows their codes: block types, casts, labels, locals, types and fields. An
 // instruction is answered by value. Labels, locals, fields and constants stand as they were read; a type number is the
-// kept one and a type its code, as everywhere in the table (table's Kept.antt).
+// kept one and a type its code, as everywhere in the table (type_table's Kept.antt).
 use number::Byte;
 use number::Integer;
 use number::Natural;
+use scope::refusals;
 use type_read::Coded;
 ghost use mathlib.Core.Path.{_≡_};
 ghost use Rattle.scope.specs.Instructions.{blockTypeAt, castAt};
@@ -59,7 +60,7 @@ fn block_type_at(s: &[u8], at: usize) -> Coded
 {
     let first = number::byte_at(s, at);
     let Byte::Is(b) = first else {
-        return Coded::Refused(1, at);
+        return Coded::Refused(refusals::BYTES_END, at);
     };
     if b == 0x40 {
         return Coded::Is(0, at + 1);
@@ -104,6 +105,9 @@ pub fn numbered_at(s: &[u8], at: usize, code: u64) -> InstructionRead
     }
 }
 
+// 32 bits hold so many numbers.
+const NUMBERS: u64 = 4294967296;
+
 // 41 i32.const: the number as 32 bits.
 pub fn constant_at(s: &[u8], at: usize) -> InstructionRead
     ensures { λ r. ⌜ r ≡ instructionIs (constantAt (now (s .entry)) at) ⌝ }
@@ -112,7 +116,7 @@ pub fn constant_at(s: &[u8], at: usize) -> InstructionRead
     match read {
         Integer::Refused(number, place) => InstructionRead::Refused(number, place),
         Integer::Plus(v, next) => InstructionRead::Is(Instruction::I32Const(v), next),
-        Integer::Minus(v, next) => InstructionRead::Is(Instruction::I32Const(4294967296 - v), next),
+        Integer::Minus(v, next) => InstructionRead::Is(Instruction::I32Const(NUMBERS - v), next),
     }
 }
 
@@ -230,14 +234,14 @@ fn cast_at(s: &[u8], at: usize) -> CastRead
 {
     let first = number::byte_at(s, at);
     let Byte::Is(flags) = first else {
-        return CastRead::Refused(1, at);
+        return CastRead::Refused(refusals::BYTES_END, at);
     };
     match flags {
         0 => cast_types_at(s, at + 1, false, false),
         1 => cast_types_at(s, at + 1, true, false),
         2 => cast_types_at(s, at + 1, false, true),
         3 => cast_types_at(s, at + 1, true, true),
-        _ => CastRead::Refused(3, at),
+        _ => CastRead::Refused(refusals::NOT_LISTED, at),
     }
 }
 

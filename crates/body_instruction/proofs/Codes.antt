@@ -5,6 +5,7 @@ use mathlib.Core.Path.{_≡_, refl, sym, ap, _∙_}
 use mathlib.Core.List.{List}
 use lib.ListN.{length, getElem?}
 use borrow.Author.Tests.{eq-eqb, ne-eqb}
+use Rattle.scope.specs.Refusals.{bytesEnd, notListed}
 use Rattle.scope.specs.Reading.{Read, got, refused, given, then}
 use Rattle.scope.specs.Numbers.{u32}
 use Rattle.scope.specs.Instructions.{Instr, instrAt}
@@ -46,7 +47,7 @@ module _ (b : ℕ) (s : List ℕ) (at next : ℕ) where
   pub single-null : {q : InstructionRead} (k : ℕ) → b ≡ k → q ≡ instructionIs (nullAt s next) → nullAt s next ≡ singleAt k s at next → q ≡ instructionIs (singleAt b s at next)
   single-null k e g f = g ∙ rw e (ap instructionIs f)
 
-  pub single-unlisted : (b ≡ 0x00 → ⊥) → (b ≡ 0x01 → ⊥) → (b ≡ 0x02 → ⊥) → (b ≡ 0x03 → ⊥) → (b ≡ 0x0B → ⊥) → (b ≡ 0x0C → ⊥) → (b ≡ 0x0D → ⊥) → (b ≡ 0x0F → ⊥) → (b ≡ 0x1A → ⊥) → (b ≡ 0x20 → ⊥) → (b ≡ 0x21 → ⊥) → (b ≡ 0x22 → ⊥) → (b ≡ 0x41 → ⊥) → (b ≡ 0xD0 → ⊥) → (b ≡ 0xD1 → ⊥) → (b ≡ 0xD3 → ⊥) → (b ≡ 0xD4 → ⊥) → InstructionRead.the-variants.Refused 3 at ≡ instructionIs (singleAt b s at next)
+  pub single-unlisted : (b ≡ 0x00 → ⊥) → (b ≡ 0x01 → ⊥) → (b ≡ 0x02 → ⊥) → (b ≡ 0x03 → ⊥) → (b ≡ 0x0B → ⊥) → (b ≡ 0x0C → ⊥) → (b ≡ 0x0D → ⊥) → (b ≡ 0x0F → ⊥) → (b ≡ 0x1A → ⊥) → (b ≡ 0x20 → ⊥) → (b ≡ 0x21 → ⊥) → (b ≡ 0x22 → ⊥) → (b ≡ 0x41 → ⊥) → (b ≡ 0xD0 → ⊥) → (b ≡ 0xD1 → ⊥) → (b ≡ 0xD3 → ⊥) → (b ≡ 0xD4 → ⊥) → InstructionRead.the-variants.Refused notListed at ≡ instructionIs (singleAt b s at next)
   unfolding singleAt
   single-unlisted e0 e1 e2 e3 e4 e5 e6 e7 e8 e9 e10 e11 e12 e13 e14 e15 e16 =
       rw (ne-eqb b 0x00 e0, ne-eqb b 0x01 e1, ne-eqb b 0x02 e2, ne-eqb b 0x03 e3, ne-eqb b 0x0B e4, ne-eqb b 0x0C e5, ne-eqb b 0x0D e6, ne-eqb b 0x0F e7, ne-eqb b 0x1A e8, ne-eqb b 0x20 e9, ne-eqb b 0x21 e10, ne-eqb b 0x22 e11, ne-eqb b 0x41 e12, ne-eqb b 0xD0 e13, ne-eqb b 0xD1 e14, ne-eqb b 0xD3 e15, ne-eqb b 0xD4 e16)
@@ -68,7 +69,7 @@ module _ (n : ℕ) (s : List ℕ) (at next : ℕ) where
   pub listed-casting : {q : InstructionRead} (k : ℕ) → n ≡ k → q ≡ instructionIs (castingAt n s next) → castingAt k s next ≡ listedAt k s at next → q ≡ instructionIs (listedAt n s at next)
   listed-casting k e g f = g ∙ rw e (ap instructionIs f)
 
-  pub listed-unlisted : (n ≡ 0x00 → ⊥) → (n ≡ 0x01 → ⊥) → (n ≡ 0x02 → ⊥) → (n ≡ 0x05 → ⊥) → (n ≡ 0x14 → ⊥) → (n ≡ 0x15 → ⊥) → (n ≡ 0x16 → ⊥) → (n ≡ 0x17 → ⊥) → (n ≡ 0x18 → ⊥) → (n ≡ 0x19 → ⊥) → (n ≡ 0x20 → ⊥) → (n ≡ 0x21 → ⊥) → (n ≡ 0x22 → ⊥) → (n ≡ 0x23 → ⊥) → (n ≡ 0x24 → ⊥) → (n ≡ 0x25 → ⊥) → (n ≡ 0x26 → ⊥) → InstructionRead.the-variants.Refused 3 at ≡ instructionIs (listedAt n s at next)
+  pub listed-unlisted : (n ≡ 0x00 → ⊥) → (n ≡ 0x01 → ⊥) → (n ≡ 0x02 → ⊥) → (n ≡ 0x05 → ⊥) → (n ≡ 0x14 → ⊥) → (n ≡ 0x15 → ⊥) → (n ≡ 0x16 → ⊥) → (n ≡ 0x17 → ⊥) → (n ≡ 0x18 → ⊥) → (n ≡ 0x19 → ⊥) → (n ≡ 0x20 → ⊥) → (n ≡ 0x21 → ⊥) → (n ≡ 0x22 → ⊥) → (n ≡ 0x23 → ⊥) → (n ≡ 0x24 → ⊥) → (n ≡ 0x25 → ⊥) → (n ≡ 0x26 → ⊥) → InstructionRead.the-variants.Refused notListed at ≡ instructionIs (listedAt n s at next)
   unfolding listedAt
   listed-unlisted e0 e1 e2 e3 e4 e5 e6 e7 e8 e9 e10 e11 e12 e13 e14 e15 e16 =
       rw (ne-eqb n 0x00 e0, ne-eqb n 0x01 e1, ne-eqb n 0x02 e2, ne-eqb n 0x05 e3, ne-eqb n 0x14 e4, ne-eqb n 0x15 e5, ne-eqb n 0x16 e6, ne-eqb n 0x17 e7, ne-eqb n 0x18 e8, ne-eqb n 0x19 e9, ne-eqb n 0x20 e10, ne-eqb n 0x21 e11, ne-eqb n 0x22 e12, ne-eqb n 0x23 e13, ne-eqb n 0x24 e14, ne-eqb n 0x25 e15, ne-eqb n 0x26 e16)
@@ -91,7 +92,7 @@ pub ruleset prefixed-exits = (prefixed-refused, prefixed-got)
 -- instruction_at
 
 module _ {s : List ℕ} {at : ℕ} {r : Byte} (a : ByteAt s at r) where
-  pub instruction-missing : r ≡ Byte.the-variants.Missing → InstructionRead.the-variants.Refused 1 at ≡ instructionIs (instrAt s at)
+  pub instruction-missing : r ≡ Byte.the-variants.Missing → InstructionRead.the-variants.Refused bytesEnd at ≡ instructionIs (instrAt s at)
   unfolding instrAt
   instruction-missing e = rw (byte-none (getElem? s at) (a .is) e)
 

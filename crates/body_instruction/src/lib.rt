@@ -3,6 +3,7 @@ use body_immediates::Instruction;
 use body_immediates::InstructionRead;
 use number::Byte;
 use number::Natural;
+use scope::refusals;
 ghost use mathlib.Core.Path.{_≡_};
 ghost use Rattle.scope.specs.Instructions.{instrAt};
 ghost use Rattle.body_immediates.specs.Coding.{instructionIs};
@@ -30,7 +31,7 @@ fn single_at(s: &[u8], at: usize, b: u64, next: usize) -> InstructionRead
         0xD1 => InstructionRead::Is(Instruction::RefIsNull, next),
         0xD3 => InstructionRead::Is(Instruction::RefEq, next),
         0xD4 => InstructionRead::Is(Instruction::RefAsNonNull, next),
-        _ => InstructionRead::Refused(3, at),
+        _ => InstructionRead::Refused(refusals::NOT_LISTED, at),
     }
 }
 
@@ -56,7 +57,7 @@ fn listed_at(s: &[u8], at: usize, n: u64, next: usize) -> InstructionRead
         0x24 => body_immediates::tested_at(s, next, n),
         0x25 => body_immediates::casting_at(s, next, n),
         0x26 => body_immediates::casting_at(s, next, n),
-        _ => InstructionRead::Refused(3, at),
+        _ => InstructionRead::Refused(refusals::NOT_LISTED, at),
     }
 }
 
@@ -76,7 +77,7 @@ pub fn instruction_at(s: &[u8], at: usize) -> InstructionRead
 {
     let first = number::byte_at(s, at);
     let Byte::Is(b) = first else {
-        return InstructionRead::Refused(1, at);
+        return InstructionRead::Refused(refusals::BYTES_END, at);
     };
     if b == 0xFB {
         return prefixed_at(s, at + 1);

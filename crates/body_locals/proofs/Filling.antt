@@ -18,9 +18,9 @@ pub filled-first : {work : List ℕ} {at k code : ℕ} → Space work at k code 
 filled-first {work} {at} space = record { most = omega arith; puts = puts-none work at (omega (arith, space .room)) }
 
 module _ {work₀ work : List ℕ} {at k code done : ℕ} (p : Filled work₀ work at k code done) where
-  pub filled-turn : {work′ : List ℕ} → work′ ≡ set work (at + done) (code % 4_294_967_296) → done < k → Space work₀ at k code → Filled work₀ work′ at k code (done + 1)
+  pub filled-turn : {work′ : List ℕ} → work′ ≡ set work (at + done) (code % 2 ^ 32) → done < k → Space work₀ at k code → Filled work₀ work′ at k code (done + 1)
   filled-turn {work′} e h space =
-      let small : code % 4_294_967_296 ≡ code = mod-eq-of-lt (space .small) in
+      let small : code % 2 ^ 32 ≡ code = mod-eq-of-lt (space .small) in
       let size : length work ≡ length work₀ = puts-length (p .puts) in
       let here : at + done < length work = omega (arith, space .room) in
       let one : Puts work work′ (at + done) (code ∷ []) = rw (e, small) (puts-one work (at + done) code here) in

@@ -7,6 +7,7 @@ use native.Mathlib.Omega.{arith}
 use native.Mathlib.Nat.{le-trans, le-refl}
 use lib.ListN.{length}
 use lib.Dec.{ltb, leb}
+use Rattle.scope.specs.Sizes.{mostLocals}
 use Rattle.scope.specs.Lists.{every}
 use Rattle.scope.specs.Reading.{Read, got, refused}
 use Rattle.scope.specs.Syntax.{Val}
@@ -33,7 +34,7 @@ locals-ends types (suc n) before s at h =
     ends-then (unsigned-takes 32 .takes s at) (λ k type a b.
     ends-then (val-takes .takes s type) (λ v next c d.
     ends-cond (every (λ x. ltb x types) (valNames v))
-    (ends-cond (leb (before + k) 256)
+    (ends-cond (leb (before + k) mostLocals)
     (ends-then (locals-ends types n (before + k) s next d) (λ vs stop e f. reaches (le-trans (le-trans (one-less a) (one-less c)) e) f))
     stops)
     stops))

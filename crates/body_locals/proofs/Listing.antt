@@ -11,6 +11,7 @@ use borrow.Author.Tests.{leb-true}
 use mir.Syntax.{w64}
 use mir.Val.{Fits}
 use Rattle.scope.specs.Sizes.{mostLocals}
+use Rattle.scope.specs.Refusals.{oversize, outOfReach}
 use Rattle.scope.specs.Reading.{Read, got, refused, then}
 use Rattle.scope.specs.Numbers.{u32}
 use Rattle.scope.specs.Lists.{every}
@@ -42,33 +43,33 @@ entry-refused-inv (refused m k) p q = cc
 
 -- an entry that was read leaves no more than 256 locals
 
-data Within (before : ℕ) : Read (ℕ × Val) → Type 0 where
-  none-read : {n place : ℕ} → Within before (refused n place)
-  within : {k : ℕ} {v : Val} {next : ℕ} → before + k ≤ 256 → Within before (got (k, v) next)
+data FewRead (before : ℕ) : Read (ℕ × Val) → Type 0 where
+  none-read : {n place : ℕ} → FewRead before (refused n place)
+  few-read : {k : ℕ} {v : Val} {next : ℕ} → before + k ≤ mostLocals → FewRead before (got (k, v) next)
 
-entry-within : (types before : ℕ) (s : List ℕ) (at : ℕ) → Within before (entryAt types before s at)
+entry-few-read : (types before : ℕ) (s : List ℕ) (at : ℕ) → FewRead before (entryAt types before s at)
 unfolding entryAt
-entry-within types before s at = go (u32 s at)
+entry-few-read types before s at = go (u32 s at)
   where
-    sized : (k : ℕ) (v : Val) (next : ℕ) (b : Bool) → leb (before + k) 256 ≡ b → Within before (cond b (got (k, v) next) (refused 4 at))
-    sized k v next true e = within (leb-true (before + k) 256 e)
+    sized : (k : ℕ) (v : Val) (next : ℕ) (b : Bool) → leb (before + k) mostLocals ≡ b → FewRead before (cond b (got (k, v) next) (refused oversize at))
+    sized k v next true e = few-read (leb-true (before + k) mostLocals e)
     sized k v next false e = none-read
 
-    reached : (k : ℕ) (v : Val) (next : ℕ) (b : Bool) → Within before (cond b (cond (leb (before + k) 256) (got (k, v) next) (refused 4 at)) (refused 6 at))
-    reached k v next true = sized k v next (leb (before + k) 256) refl
+    reached : (k : ℕ) (v : Val) (next : ℕ) (b : Bool) → FewRead before (cond b (cond (leb (before + k) mostLocals) (got (k, v) next) (refused oversize at)) (refused outOfReach at))
+    reached k v next true = sized k v next (leb (before + k) mostLocals) refl
     reached k v next false = none-read
 
-    typed : (k : ℕ) (o : Read Val) → Within before (then o (λ v next. cond (every (λ x. ltb x types) (valNames v)) (cond (leb (before + k) 256) (got (k, v) next) (refused 4 at)) (refused 6 at)))
+    typed : (k : ℕ) (o : Read Val) → FewRead before (then o (λ v next. cond (every (λ x. ltb x types) (valNames v)) (cond (leb (before + k) mostLocals) (got (k, v) next) (refused oversize at)) (refused outOfReach at)))
     typed k (got v next) = reached k v next (every (λ x. ltb x types) (valNames v))
     typed k (refused n p) = none-read
 
-    go : (o : Read ℕ) → Within before (then o (λ k type. then (valAt s type) (λ v next. cond (every (λ x. ltb x types) (valNames v)) (cond (leb (before + k) 256) (got (k, v) next) (refused 4 at)) (refused 6 at))))
+    go : (o : Read ℕ) → FewRead before (then o (λ k type. then (valAt s type) (λ v next. cond (every (λ x. ltb x types) (valNames v)) (cond (leb (before + k) mostLocals) (got (k, v) next) (refused oversize at)) (refused outOfReach at))))
     go (got k type) = typed k (valAt s type)
     go (refused n p) = none-read
 
-entry-few : {before : ℕ} {o : Read (ℕ × Val)} {k : ℕ} {v : Val} {next : ℕ} → Within before o → o ≡ got (k, v) next → before + k ≤ 256
+entry-few : {before : ℕ} {o : Read (ℕ × Val)} {k : ℕ} {v : Val} {next : ℕ} → FewRead before o → o ≡ got (k, v) next → before + k ≤ mostLocals
 entry-few none-read q = impossible cc
-entry-few {before} {k = k} {v} {next} (within {k = j} {v = w} {next = n} h) q = let same : j ≡ k = ap counted q in omega arith
+entry-few {before} {k = k} {v} {next} (few-read {k = j} {v = w} {next = n} h) q = let same : j ≡ k = ap counted q in omega arith
   where
     counted : Read (ℕ × Val) → ℕ
     counted (got e m) = e .0
@@ -83,16 +84,16 @@ locals-entry types n before s at = go (u32 s at)
     more : ℕ × Val → ℕ → Read (List Val)
     more e next = then (localsAt types n (before + e .0) s next) (λ vs stop. got (replicate (e .0) (e .1) ++ vs) stop)
 
-    tested : (k : ℕ) (v : Val) (next : ℕ) (a b : Bool) → cond a (cond b (more (k, v) next) (refused 4 at)) (refused 6 at) ≡ then (cond a (cond b (got (k, v) next) (refused 4 at)) (refused 6 at)) more
+    tested : (k : ℕ) (v : Val) (next : ℕ) (a b : Bool) → cond a (cond b (more (k, v) next) (refused oversize at)) (refused outOfReach at) ≡ then (cond a (cond b (got (k, v) next) (refused oversize at)) (refused outOfReach at)) more
     tested k v next true true = refl
     tested k v next true false = refl
     tested k v next false b = refl
 
-    typed : (k : ℕ) (o : Read Val) → then o (λ v next. cond (every (λ x. ltb x types) (valNames v)) (cond (leb (before + k) 256) (more (k, v) next) (refused 4 at)) (refused 6 at)) ≡ then (then o (λ v next. cond (every (λ x. ltb x types) (valNames v)) (cond (leb (before + k) 256) (got (k, v) next) (refused 4 at)) (refused 6 at))) more
-    typed k (got v next) = tested k v next (every (λ x. ltb x types) (valNames v)) (leb (before + k) 256)
+    typed : (k : ℕ) (o : Read Val) → then o (λ v next. cond (every (λ x. ltb x types) (valNames v)) (cond (leb (before + k) mostLocals) (more (k, v) next) (refused oversize at)) (refused outOfReach at)) ≡ then (then o (λ v next. cond (every (λ x. ltb x types) (valNames v)) (cond (leb (before + k) mostLocals) (got (k, v) next) (refused oversize at)) (refused outOfReach at))) more
+    typed k (got v next) = tested k v next (every (λ x. ltb x types) (valNames v)) (leb (before + k) mostLocals)
     typed k (refused m p) = refl
 
-    go : (o : Read ℕ) → then o (λ k type. then (valAt s type) (λ v next. cond (every (λ x. ltb x types) (valNames v)) (cond (leb (before + k) 256) (more (k, v) next) (refused 4 at)) (refused 6 at))) ≡ then (then o (λ k type. then (valAt s type) (λ v next. cond (every (λ x. ltb x types) (valNames v)) (cond (leb (before + k) 256) (got (k, v) next) (refused 4 at)) (refused 6 at)))) more
+    go : (o : Read ℕ) → then o (λ k type. then (valAt s type) (λ v next. cond (every (λ x. ltb x types) (valNames v)) (cond (leb (before + k) mostLocals) (more (k, v) next) (refused oversize at)) (refused outOfReach at))) ≡ then (then o (λ k type. then (valAt s type) (λ v next. cond (every (λ x. ltb x types) (valNames v)) (cond (leb (before + k) mostLocals) (got (k, v) next) (refused oversize at)) (refused outOfReach at)))) more
     go (got k type) = typed k (valAt s type)
     go (refused m p) = refl
 
@@ -126,7 +127,7 @@ val-small v = val-code-small v
 pub record Listed (types n before : ℕ) (s : List ℕ) (at : ℕ) (work₀ work : List ℕ) (first next left count : ℕ) : Type 0 where
   pub done : List Val
   pub counted : before + length done ≡ count
-  pub few : count ≤ 256
+  pub few : count ≤ mostLocals
   pub same : localsAt types n before s at ≡ onto done (localsAt types left count s next)
   pub puts : Puts work₀ work (first + before) (map valCodeKept done)
 
@@ -170,9 +171,9 @@ module _ {types n before : ℕ} {s : List ℕ} {at : ℕ} {work₀ work : List �
           size = puts-length (p .puts);
         }
 
-    module _ {k code after : ℕ} (e : r ≡ Entry.the-variants.Is k code after) where
-      entry-most : count + k ≤ 256
-      entry-most = let (v, read, c) = entry-inv (entryAt types count s next) a e in entry-few (entry-within types count s next) read
+    module _ {k code following : ℕ} (e : r ≡ Entry.the-variants.Is k code following) where
+      entry-most : count + k ≤ mostLocals
+      entry-most = let (v, read, c) = entry-inv (entryAt types count s next) a e in entry-few (entry-few-read types count s next) read
 
       pub count-fits : Fits w64 (count + k)
       count-fits = let h = entry-most in record { fits = omega arith }
@@ -185,7 +186,7 @@ module _ {types n before : ℕ} {s : List ℕ} {at : ℕ} {work₀ work : List �
           let size : length work ≡ length work₀ = puts-length (p .puts) in
           record { room = omega (arith, lent .room); small = omega arith }
 
-      turn : {work′ : List ℕ} (v : Val) → entryAt types count s next ≡ got (k, v) after → code ≡ valCodeKept v → Puts work work′ (first + count) (replicate k code) → Listed types n before s at work₀ work′ first after (left - 1) (count + k)
+      turn : {work′ : List ℕ} (v : Val) → entryAt types count s next ≡ got (k, v) following → code ≡ valCodeKept v → Puts work work′ (first + count) (replicate k code) → Listed types n before s at work₀ work′ first following (left - 1) (count + k)
       turn {work′} v read c q =
           let h = entry-most in
           let where-put : first + before + length (map valCodeKept (p .done)) ≡ first + count = ap (λ (x : ℕ). first + before + x) (length-map (p .done) valCodeKept) ∙ (omega (arith, p .counted)) in
@@ -198,11 +199,11 @@ module _ {types n before : ℕ} {s : List ℕ} {at : ℕ} {work₀ work : List �
             same =
                 p .same
                 ∙ ap (onto (p .done)) (locals-more types left count s next more read)
-                ∙ onto-several (p .done) (replicate k v) (localsAt types (left - 1) (count + k) s after);
+                ∙ onto-several (p .done) (replicate k v) (localsAt types (left - 1) (count + k) s following);
             puts = rw (map-append) (puts-more (p .puts) later);
           }
 
-      pub listed-turn : {work′ : List ℕ} → Puts work work′ (first + count) (replicate k code) → Listed types n before s at work₀ work′ first after (left - 1) (count + k)
+      pub listed-turn : {work′ : List ℕ} → Puts work work′ (first + count) (replicate k code) → Listed types n before s at work₀ work′ first following (left - 1) (count + k)
       listed-turn q = let (v, read, c) = entry-inv (entryAt types count s next) a e in turn v read c q
 
 pub ruleset list-exits = (listed-first, listed-done, listed-size, listed-limits, place-fits, listed-refused, count-fits, listed-space, listed-turn)

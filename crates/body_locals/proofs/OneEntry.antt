@@ -9,6 +9,7 @@ use borrow.Author.Tests.{not-true, not-false, le-leb, lt-leb, leb-true}
 use mir.Syntax.{w64}
 use mir.Val.{Fits}
 use Rattle.scope.specs.Sizes.{mostTypes, mostLocals}
+use Rattle.scope.specs.Refusals.{oversize, outOfReach}
 use Rattle.scope.specs.Reading.{Read, got, refused, then}
 use Rattle.scope.specs.Numbers.{u32}
 use Rattle.scope.specs.Lists.{every}
@@ -52,22 +53,22 @@ module _ (types before : ℕ) (s : List ℕ) (at : ℕ) {r : Natural} (a : r ≡
       entry-untyped f = rw (natural-got (u32 s at) a e, coded-refused valCodeKept (valAt s from) b f)
 
       module _ {c next : ℕ} (f : q ≡ Coded.the-variants.Is c next) {t : Bool} (d : t ≡ allBelow types (valNames (valAtCode c))) (limits : Limits types before) where
-        entry-read : (v : Val) → valAt s from ≡ got v next → c ≡ valCodeKept v → entryAt types before s at ≡ cond t (cond (leb (before + k) mostLocals) (got (k, v) next) (refused 4 at)) (refused 6 at)
+        entry-read : (v : Val) → valAt s from ≡ got v next → c ≡ valCodeKept v → entryAt types before s at ≡ cond t (cond (leb (before + k) mostLocals) (got (k, v) next) (refused oversize at)) (refused outOfReach at)
         unfolding entryAt
         entry-read v read code =
             let same : every (λ x. ltb x types) (valNames v) ≡ t = sym (d ∙ ap (λ (u : ℕ). allBelow types (valNames (valAtCode u))) code ∙ code-reach (limits .few) v) in
             rw (natural-got (u32 s at) a e, read, same)
 
-        entry-with : {i : Entry} → ((v : Val) → c ≡ valCodeKept v → i ≡ entryIs (cond t (cond (leb (before + k) mostLocals) (got (k, v) next) (refused 4 at)) (refused 6 at))) → i ≡ entryIs (entryAt types before s at)
+        entry-with : {i : Entry} → ((v : Val) → c ≡ valCodeKept v → i ≡ entryIs (cond t (cond (leb (before + k) mostLocals) (got (k, v) next) (refused oversize at)) (refused outOfReach at))) → i ≡ entryIs (entryAt types before s at)
         entry-with f′ = let (v, read, code) = coded-got valCodeKept (valAt s from) b f in f′ v code ∙ sym (ap entryIs (entry-read v read code))
 
-        pub entry-out : not t ≡ true → Entry.the-variants.Refused 6 at ≡ entryIs (entryAt types before s at)
+        pub entry-out : not t ≡ true → Entry.the-variants.Refused outOfReach at ≡ entryIs (entryAt types before s at)
         entry-out g = entry-with (λ v code. rw (not-true t g))
 
-        pub entry-over : not t ≡ false → 256 < before + k → Entry.the-variants.Refused 4 at ≡ entryIs (entryAt types before s at)
-        entry-over g h = entry-with (λ v code. rw (not-false t g, lt-leb (before + k) 256 h))
+        pub entry-over : not t ≡ false → mostLocals < before + k → Entry.the-variants.Refused oversize at ≡ entryIs (entryAt types before s at)
+        entry-over g h = entry-with (λ v code. rw (not-false t g, lt-leb (before + k) mostLocals h))
 
-        pub entry-got : not t ≡ false → before + k ≤ 256 → Entry.the-variants.Is k c next ≡ entryIs (entryAt types before s at)
-        entry-got g h = entry-with (λ v code. rw (not-false t g, le-leb (before + k) 256 h, code))
+        pub entry-got : not t ≡ false → before + k ≤ mostLocals → Entry.the-variants.Is k c next ≡ entryIs (entryAt types before s at)
+        entry-got g h = entry-with (λ v code. rw (not-false t g, le-leb (before + k) mostLocals h, code))
 
 pub ruleset entry-exits = (entry-uncounted, count-fits, entry-untyped, entry-out, entry-over, entry-got)

@@ -1,5 +1,5 @@
 -- What the readers of locals answer and leave in the scratch, by the definitions of document 01.
-use Prim.Native.Nat.{ℕ, _+_, _<_, _≤_}
+use Prim.Native.Nat.{ℕ, _+_, _<_, _≤_, _^_}
 use mathlib.Core.Path.{_≡_}
 use mathlib.Core.Bool.{Bool, cond}
 use mathlib.Core.List.{List, map}
@@ -40,7 +40,7 @@ entryIs (refused n p) = Entry.the-variants.Refused n p
 -- k words of 32 bits fit from a place on
 pub record Space (work : List ℕ) (at k code : ℕ) : Type 0 where
   pub room : at + k ≤ length work
-  pub small : code < 4_294_967_296
+  pub small : code < 2 ^ 32
 
 -- The scratch has a word from `first` on for each of the most locals.
 pub record Lent (work : List ℕ) (types before first : ℕ) : Type 0 where

@@ -1,5 +1,7 @@
 // Reading a body's locals into lent scratch: a word for each local, the code of its type, after those of the parameters.
 use number::Natural;
+use scope::refusals;
+use scope::sizes;
 use type_read::Coded;
 ghost use mathlib.Core.Path.{_≡_};
 ghost use lib.ListN.{replicate};
@@ -27,10 +29,10 @@ fn entry_at(s: &[u8], at: usize, types: u64, before: u64) -> Entry
                 Coded::Is(code, next) => {
                     let reached = type_reach::val_in_reach(code, types);
                     if !reached {
-                        return Entry::Refused(6, at);
+                        return Entry::Refused(refusals::OUT_OF_REACH, at);
                     }
-                    if 256 < before + k {
-                        return Entry::Refused(4, at);
+                    if sizes::MOST_LOCALS < before + k {
+                        return Entry::Refused(refusals::OVERSIZE, at);
                     }
                     Entry::Is(k, code, next)
                 }
@@ -79,10 +81,10 @@ pub fn locals_at(
             Entry::Refused(number, place) => {
                 return LocalsRead::Refused(number, place);
             }
-            Entry::Is(k, code, after) => {
+            Entry::Is(k, code, following) => {
                 fill(work, first + count, k, code);
                 count = count + k;
-                next = after;
+                next = following;
                 left = left - 1;
             }
         }

@@ -9,19 +9,19 @@ use Rattle.scope.specs.BodyRules.{Context, Ruled, andRuled}
 use Rattle.scope.specs.Bodies.{State, Next, doPlan, judgeInstr}
 use Rattle.body_immediates.specs.declared.Instruction.{Instruction}
 use Rattle.body_decoded.specs.Decoded.{blockResults, instrOf}
-use Rattle.body_state.specs.declared.Stand.{Stand}
+use Rattle.body_state.specs.declared.Check.{Check}
 use Rattle.body_state.specs.declared.Scene.{Scene}
 use Rattle.body_state.specs.declared.Planned.{Planned}
 use Rattle.body_state.specs.declared.Step.{Step}
 use Rattle.body_state.specs.declared.Step
-use Rattle.body_state.specs.Standing.{plannedOf, contextAt, stateAt, Upright, Stepped}
+use Rattle.body_state.specs.State.{plannedOf, contextAt, stateAt, Upright, Stepped}
 use Rattle.body_plans.specs.declared.Act.{Act}
 use Rattle.body_plans.specs.declared.Act
 use Rattle.body_plans.specs.Acts.{actOf}
 use Rattle.body_frames.specs.Frames.{Opening, opens, Opened}
 use Rattle.body_loop.specs.Loop.{SteppedAt}
 
-pub still-upright : {work : List ℕ} {count at : ℕ} {st : Stand} → Opening work count st at → Upright work count st
+pub still-upright : {work : List ℕ} {count at : ℕ} {st : Check} → Opening work count st at → Upright work count st
 still-upright o = o .upright
 
 -- what is judged of block and loop
@@ -31,7 +31,7 @@ opens-is c st true w = refl
 opens-is c st false w = refl
 
 -- a step that made no stamp
-stepped-at : {work work′ : List ℕ} {count at : ℕ} {st : Stand} → Opening work count st at → {want want′ : Ruled Next} {r : Step} → want ≡ want′ → Stepped work work′ count (st .depth) want r → SteppedAt work work′ count at want′ r
+stepped-at : {work work′ : List ℕ} {count at : ℕ} {st : Check} → Opening work count st at → {want want′ : Ruled Next} {r : Step} → want ≡ want′ → Stepped work work′ count (st .depth) want r → SteppedAt work work′ count at want′ r
 stepped-at o e s =
     record {
       answer = s .answer ∙ e;
@@ -43,7 +43,7 @@ stepped-at o e s =
       size = s .size;
     }
 
-module _ (rows codes : List ℕ) {work : List ℕ} (k : Scene) {st : Stand} {at : ℕ} (o : Opening work (k .locals) st at) (i : Instruction) {act : Act} where
+module _ (rows codes : List ℕ) {work : List ℕ} (k : Scene) {st : Check} {at : ℕ} (o : Opening work (k .locals) st at) (i : Instruction) {act : Act} where
   module _ {isLoop : Bool} {w : ℕ} (e : act ≡ Act.the-variants.Opens isLoop w) (a : actOf codes (contextAt rows codes work k) (stateAt work (k .locals) st) act ≡ judgeInstr (contextAt rows codes work k) (stateAt work (k .locals) st) (instrOf i)) where
     pub step-opens : {work′ : List ℕ} {r : Step} → Opened work work′ k st isLoop w at r → SteppedAt work work′ (k .locals) at (judgeInstr (contextAt rows codes work k) (stateAt work (k .locals) st) (instrOf i)) r
     unfolding actOf contextAt

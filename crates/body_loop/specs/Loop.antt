@@ -4,35 +4,36 @@ use mathlib.Core.Path.{_≡_}
 use mathlib.Core.Bool.{false}
 use mathlib.Core.List.{List}
 use lib.ListN.{getD, length}
+use Rattle.scope.specs.Sizes.{mostBytes, mostTypes, mostLocals}
 use Rattle.scope.specs.Reading.{Read, got, refused}
 use Rattle.scope.specs.BodyRules.{Ruled}
 use Rattle.scope.specs.Bodies.{Next, Code, judgeFrom}
-use Rattle.body_state.specs.declared.Stand.{Stand}
+use Rattle.body_state.specs.declared.Check.{Check}
 use Rattle.body_state.specs.declared.Scene.{Scene}
 use Rattle.body_state.specs.declared.Step.{Step}
 use Rattle.body_state.specs.declared.Step
-use Rattle.body_state.specs.Standing.{contextAt, stateAt, Upright, Stamped, stepOf}
+use Rattle.body_state.specs.State.{contextAt, stateAt, Upright, Stamped, stepOf}
 use Rattle.body_loop.specs.declared.Ended.{Ended}
 use Rattle.body_loop.specs.declared.Ended
 
 -- the answer, and what the next instruction needs: it stands after the place `at`
 pub record SteppedAt (work work′ : List ℕ) (count at : ℕ) (want : Ruled Next) (r : Step) : Type 0 where
   pub answer : stepOf work′ count r ≡ want
-  pub upright : (st : Stand) → r ≡ Step.the-variants.On st → Upright work′ count st
-  pub stamped : (st : Stand) → r ≡ Step.the-variants.On st → Stamped work′ count (st .depth) (at + 1)
-  pub types : (i : ℕ) → i < 256 → getD work′ i 0 ≡ getD work i 0
+  pub upright : (st : Check) → r ≡ Step.the-variants.On st → Upright work′ count st
+  pub stamped : (st : Check) → r ≡ Step.the-variants.On st → Stamped work′ count (st .depth) (at + 1)
+  pub types : (i : ℕ) → i < mostLocals → getD work′ i 0 ≡ getD work i 0
   pub size : length work′ ≡ length work
 
 -- in the function's own frame, with no operand
-abbrev pub begin : Stand
+abbrev pub begin : Check
 begin = record { depth = 0; base = 0; height = 0; dead = false }
 
 pub record Begun (work : List ℕ) (k : Scene) (s : List ℕ) (at : ℕ) : Type 0 where
   pub upright : Upright work (k .locals) begin
   pub stamped : Stamped work (k .locals) 0 at
-  pub few : k .types ≤ 256
+  pub few : k .types ≤ mostTypes
   pub inside : at ≤ length s
-  pub short : length s ≤ 32_768
+  pub short : length s ≤ mostBytes
 
 -- so many instructions before, and those that were read
 abbrev pub endedIs : ℕ → Read Code → Ended

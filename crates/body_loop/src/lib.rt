@@ -2,17 +2,15 @@
 use body_immediates::Instruction;
 use body_immediates::InstructionRead;
 use body_plans::Act;
+use body_state::Check;
 use body_state::Scene;
-use body_state::Stand;
 use body_state::Step;
+use scope::refusals;
 ghost use Rattle.scope.specs.Bodies.{judgeInstr};
 ghost use Rattle.body_decoded.specs.Decoded.{instrOf};
-ghost use Rattle.body_state.specs.Standing.{contextAt, stateAt};
+ghost use Rattle.body_state.specs.State.{contextAt, stateAt};
 ghost use Rattle.body_frames.specs.Frames.{Opening};
 ghost use Rattle.body_loop.specs.Loop.{SteppedAt, Begun, JudgedFrom};
-
-// By which number the end of the bytes is refused.
-const BYTES_END: u64 = 1;
 
 // One instruction at the place `at`: its tests, its operands, 28 and 4.
 fn step(
@@ -20,18 +18,23 @@ fn step(
     codes: &[u16],
     work: &mut [u32],
     scene: Scene,
-    stand: Stand,
+    check: Check,
     at: u64,
     i: Instruction,
 ) -> Step
-    requires { ⌜ Opening (now work) (scene .locals) stand at ⌝ }
-    ensures { λ r. ⌜ SteppedAt (now (work .entry)) (now (work .exit)) (scene .locals) at (judgeInstr (contextAt (now (rows .entry)) (now (codes .entry)) (now (work .entry)) scene) (stateAt (now (work .entry)) (scene .locals) stand) (instrOf i)) r ⌝ }
+    requires { ⌜ Opening (now work) (scene .locals) check at ⌝ }
+    ensures { λ r.
+        let before = now (work .entry) in
+        let after = now (work .exit) in
+        let context = contextAt (now (rows .entry)) (now (codes .entry)) before scene in
+        let want = judgeInstr context (stateAt before (scene .locals) check) (instrOf i) in
+        ⌜ SteppedAt before after (scene .locals) at want r ⌝ }
 {
-    let act = body_plans::act_of(rows, codes, work, scene, stand, i);
+    let act = body_plans::act_of(rows, codes, work, scene, check, i);
     match act {
-        Act::Opens(is_loop, w) => body_frames::open(work, scene, stand, is_loop, w, at),
-        Act::Closes => body_end::close(rows, codes, work, scene, stand),
-        Act::Does(planned) => body_effects::do_planned(rows, codes, work, scene, stand, planned),
+        Act::Opens(is_loop, w) => body_frames::open(work, scene, check, is_loop, w, at),
+        Act::Closes => body_end::close(rows, codes, work, scene, check),
+        Act::Does(planned) => body_effects::do_planned(rows, codes, work, scene, check, planned),
     }
 }
 
@@ -56,7 +59,7 @@ pub fn judge_from(
     let mut next = at;
     let mut count: u64 = 0;
     let mut left = s.len();
-    let mut stand = Stand {
+    let mut check = Check {
         depth: 0,
         base: 0,
         height: 0,
@@ -68,18 +71,18 @@ pub fn judge_from(
             InstructionRead::Refused(number, place) => {
                 return Ended::Refused(number, place);
             }
-            InstructionRead::Is(i, after) => {
-                let stepped = step(rows, codes, work, scene, stand, next as u64, i);
+            InstructionRead::Is(i, following) => {
+                let stepped = step(rows, codes, work, scene, check, next as u64, i);
                 match stepped {
                     Step::Fault(number) => {
                         return Ended::Refused(number, next);
                     }
                     Step::Finished => {
-                        return Ended::Finished(count + 1, after);
+                        return Ended::Finished(count + 1, following);
                     }
                     Step::On(later) => {
-                        stand = later;
-                        next = after;
+                        check = later;
+                        next = following;
                         count = count + 1;
                         left = left - 1;
                     }
@@ -87,5 +90,5 @@ pub fn judge_from(
             }
         }
     }
-    Ended::Refused(BYTES_END, next)
+    Ended::Refused(refusals::BYTES_END, next)
 }

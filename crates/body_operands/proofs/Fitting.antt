@@ -13,7 +13,7 @@ use Rattle.scope.specs.Bodies.{Operand, known, unknown, unknownReference, isRef
 use Rattle.scope.proofs.Truths.{decided}
 use Rattle.type_table.specs.View.{valAtCode}
 use Rattle.type_table.proofs.Codes.{val-number, val-ref}
-use Rattle.body_state.specs.Standing.{operandAtCode, wantedAtCode}
+use Rattle.body_state.specs.State.{operandAtCode, wantedAtCode}
 use Rattle.body_operands.proofs.Laws.{known-word, value-word}
 
 -- the words of references begin at 6

@@ -15,7 +15,8 @@ use Rattle.scope.specs.BodyRules.{Wanted, value, Ruled, allowed, fault, test, a
 use Rattle.scope.specs.Bodies.{Operand, known, unknown, Taken, alsoTaken, fits, takeAll, onTop}
 use Rattle.scope.proofs.Impossible.{impossible}
 use Rattle.type_table.specs.View.{valAtCode}
-use Rattle.body_state.specs.Standing.{operandAtCode, wantedAtCode, mostCode, stack}
+use Rattle.body_state.specs.Layout.{operandsFrom, wordBound, codeBound}
+use Rattle.body_state.specs.State.{operandAtCode, wantedAtCode, stack}
 use Rattle.body_operands.specs.declared.Left.{Left}
 use Rattle.body_operands.specs.declared.Left
 use Rattle.body_operands.specs.Taking.{leftIn, leftOf, Pushed}
@@ -37,9 +38,9 @@ value-code c =
     let same : c + 2 - 2 ≡ c = omega arith in
     value-word (λ e. omega arith) (λ e. omega arith) ∙ ap (λ (k : ℕ). value (valAtCode k)) same
 
-pub known-kept : {c : ℕ} → c < mostCode → operandAtCode ((c + 2) % 4_294_967_296) ≡ known (valAtCode c)
+pub known-kept : {c : ℕ} → c < codeBound → operandAtCode ((c + 2) % wordBound) ≡ known (valAtCode c)
 known-kept {c} h =
-    let small : (c + 2) % 4_294_967_296 ≡ c + 2 = mod-eq-of-lt (omega arith) in
+    let small : (c + 2) % wordBound ≡ c + 2 = mod-eq-of-lt (omega arith) in
     let same : c + 2 - 2 ≡ c = omega arith in
     ap operandAtCode small ∙ known-word (λ e. omega arith) (λ e. omega arith) ∙ ap (λ (k : ℕ). known (valAtCode k)) same
 
@@ -64,11 +65,11 @@ module _ (work : List ℕ) (base : ℕ) where
   unfolding stack
   stack-none e = rw e
 
-  pub stack-more : (height : ℕ) → stack work base (height + 1) ≡ operandAtCode (getD work (768 + (base + height)) 0) ∷ stack work base height
+  pub stack-more : (height : ℕ) → stack work base (height + 1) ≡ operandAtCode (getD work (operandsFrom + (base + height)) 0) ∷ stack work base height
   unfolding stack
   stack-more height = let same : height + 1 ≡ suc height = omega arith in rw same
 
-  pub stack-some : {height : ℕ} → (height ≡ 0 → ⊥) → stack work base height ≡ operandAtCode (getD work (768 + (base + (height - 1))) 0) ∷ stack work base (height - 1)
+  pub stack-some : {height : ℕ} → (height ≡ 0 → ⊥) → stack work base height ≡ operandAtCode (getD work (operandsFrom + (base + (height - 1))) 0) ∷ stack work base (height - 1)
   stack-some {height} n = let same : height ≡ height - 1 + 1 = omega (arith, n) in ap (stack work base) same ∙ stack-more (height - 1)
 
 -- taking

@@ -3,4 +3,4 @@ pub mod Fitting
 pub mod OneTaken
 pub mod Several
 pub mod OnTop
-pub mod Standing
+pub mod PushedState

@@ -11,19 +11,20 @@ use Rattle.scope.specs.Syntax.{Val}
 use Rattle.scope.specs.Bodies.{Operand, known, onTop}
 use Rattle.type_table.specs.View.{valAtCode}
 use Rattle.body_state.specs.declared.Values.{Values}
-use Rattle.body_state.specs.Standing.{operandAtCode, valuesOf, LengthOf, CodeOf}
+use Rattle.body_state.specs.Layout.{operandsFrom, wordBound}
+use Rattle.body_state.specs.State.{operandAtCode, valuesOf, LengthOf, CodeOf}
 use Rattle.body_state.proofs.Alike.{stack-same}
 use Rattle.body_operands.specs.Taking.{Room, Pushed}
 use Rattle.body_operands.proofs.Laws.{known-kept, reverse-there, stack-more, pushed-none, pushed-more}
 
 -- one
 
-pub pushed-one : {work work′ : List ℕ} {base height : ℕ} (o : ℕ) → work′ ≡ set work (768 + (base + height)) (o % 4_294_967_296) → Room work base height 1 → Pushed work work′ base height (height + 1) (operandAtCode (o % 4_294_967_296) ∷ [])
+pub pushed-one : {work work′ : List ℕ} {base height : ℕ} (o : ℕ) → work′ ≡ set work (operandsFrom + (base + height)) (o % wordBound) → Room work base height 1 → Pushed work work′ base height (height + 1) (operandAtCode (o % wordBound) ∷ [])
 pushed-one {work} {work′} {base} {height} o e room =
-    let at = 768 + (base + height) in
+    let at = operandsFrom + (base + height) in
     let here : at < length work = omega (arith, room .room, room .few) in
-    let other : (i : ℕ) → (i ≡ at → ⊥) → getD work′ i 0 ≡ getD work i 0 = λ i n. rw e (getD-set-other work at i (o % 4_294_967_296) 0 n) in
-    let word : getD work′ at 0 ≡ o % 4_294_967_296 = rw e (getD-set-same work at (o % 4_294_967_296) 0 here) in
+    let other : (i : ℕ) → (i ≡ at → ⊥) → getD work′ i 0 ≡ getD work i 0 = λ i n. rw e (getD-set-other work at i (o % wordBound) 0 n) in
+    let word : getD work′ at 0 ≡ o % wordBound = rw e (getD-set-same work at (o % wordBound) 0 here) in
     let below : (i : ℕ) → i < at → getD work′ i 0 ≡ getD work i 0 = λ i h. other i (λ q. omega arith) in
     record {
       top = stack-more work′ base height ∙ ap₂ (λ (w : ℕ) (os : List Operand). operandAtCode w ∷ os) word (stack-same work work′ base height below);
@@ -36,13 +37,13 @@ pushed-one {work} {work′} {base} {height} o e room =
 
 pub record FirstOn (work₀ work : List ℕ) (base height : ℕ) (vs : List Val) (n i : ℕ) : Type 0 where
   pub long : length vs ≡ n
-  pub within : i ≤ n
+  pub upTo : i ≤ n
   pub pushed : Pushed work₀ work base height (height + i) (onTop (take i vs))
 
 pub on-first : (work : List ℕ) (base height : ℕ) (codes : List ℕ) {list : Values} {n : ℕ} → LengthOf list n → FirstOn work work base height (valuesOf codes list) n 0
 on-first work base height codes a =
     let same : height + 0 ≡ height = omega arith in
-    record { long = a .is codes; within = omega arith; pushed = rw same (pushed-none work base height) }
+    record { long = a .is codes; upTo = omega arith; pushed = rw same (pushed-none work base height) }
 
 module _ {work₀ work : List ℕ} {base height : ℕ} {vs : List Val} {n i : ℕ} (p : FirstOn work₀ work base height vs n i) where
   pub on-size : length work ≡ length work₀
@@ -50,7 +51,7 @@ module _ {work₀ work : List ℕ} {base height : ℕ} {vs : List Val} {n i : �
 
   pub on-all : n ≤ i → Pushed work₀ work base height (height + length vs) (onTop vs)
   on-all h =
-      let all : i ≡ length vs = omega (arith, p .within, p .long) in
+      let all : i ≡ length vs = omega (arith, p .upTo, p .long) in
       let done : take i vs ≡ vs = take-all i vs (omega arith) in
       let top : onTop (take i vs) ≡ onTop vs = ap onTop done in
       rw (← all, ← top) (p .pushed)
@@ -62,7 +63,7 @@ module _ {work₀ work : List ℕ} {base height : ℕ} {vs : List Val} {n i : �
     pub on-room : Room work base (height + i) 1
     on-room = record { room = omega (arith, room .room, p .pushed .size); few = omega (arith, room .few, p .long) }
 
-pub on-turn : {work₀ work : List ℕ} {base height : ℕ} {codes : List ℕ} {list : Values} {n i : ℕ} → FirstOn work₀ work base height (valuesOf codes list) n i → i < n → {c : ℕ} → CodeOf codes list i c → {work′ : List ℕ} → Pushed work work′ base (height + i) (height + i + 1) (operandAtCode ((c + 2) % 4_294_967_296) ∷ []) → FirstOn work₀ work′ base height (valuesOf codes list) n (i + 1)
+pub on-turn : {work₀ work : List ℕ} {base height : ℕ} {codes : List ℕ} {list : Values} {n i : ℕ} → FirstOn work₀ work base height (valuesOf codes list) n i → i < n → {c : ℕ} → CodeOf codes list i c → {work′ : List ℕ} → Pushed work work′ base (height + i) (height + i + 1) (operandAtCode ((c + 2) % wordBound) ∷ []) → FirstOn work₀ work′ base height (valuesOf codes list) n (i + 1)
 on-turn {height = height} {codes = codes} {list = list} {i = i} p h {c} a q =
     let vs = valuesOf codes list in
     let place : height + (i + 1) ≡ height + i + 1 = omega arith in
@@ -70,7 +71,7 @@ on-turn {height = height} {codes = codes} {list = list} {i = i} p h {c} a q =
     let last : onTop (take (i + 1) vs) ≡ known (valAtCode c) ∷ onTop (take i vs) = ap (λ (k : ℕ). onTop (take k vs)) more ∙ ap (map known) (reverse-there vs i (a .is (omega (arith, p .long)))) in
     record {
       long = p .long;
-      within = omega arith;
+      upTo = omega arith;
       pushed = rw (place, last, ← known-kept (a .small)) (pushed-more (omega arith) (p .pushed) q);
     }
 

@@ -7,7 +7,8 @@ use borrow.Author.Tests.{ne-eqb}
 use Rattle.scope.specs.Syntax.{Types}
 use Rattle.scope.specs.Bodies.{fits, takeAll}
 use Rattle.lent_u32.specs.Scratch.{Word32At}
-use Rattle.body_state.specs.Standing.{operandAtCode, wantedAtCode, wantsAt, stack}
+use Rattle.body_state.specs.Layout.{operandsFrom}
+use Rattle.body_state.specs.State.{operandAtCode, wantedAtCode, wantsAt, stack}
 use Rattle.body_operands.specs.declared.Take.{Take}
 use Rattle.body_operands.specs.declared.Take
 use Rattle.body_operands.specs.declared.Left.{Left}
@@ -26,7 +27,7 @@ module _ (ts : Types) (dead : Bool) (work : List ℕ) (w base : ℕ) {height : �
     pub took-nothing : dead ≡ false → tookOf work base Take.the-variants.Missing ≡ takeAll ts dead (wantedAtCode w ∷ []) (stack work base height)
     took-nothing d = rw (stack-none work base e, take-empty ts dead (wantedAtCode w), d)
 
-  module _ (n : height ≡ 0 → ⊥) {o : ℕ} (a : Word32At work (768 + (base + (height - 1))) o) {below : Bool} (b : below ≡ fits ts (operandAtCode o) (wantedAtCode w)) where
+  module _ (n : height ≡ 0 → ⊥) {o : ℕ} (a : Word32At work (operandsFrom + (base + (height - 1))) o) {below : Bool} (b : below ≡ fits ts (operandAtCode o) (wantedAtCode w)) where
     took : takeAll ts dead (wantedAtCode w ∷ []) (stack work base height) ≡ cond below (tookOf work base (Take.the-variants.Took o (height - 1))) (tookOf work base Take.the-variants.Missing)
     took = rw (stack-some work base n, ← a .is, take-top ts dead (wantedAtCode w) (operandAtCode o) (stack work base (height - 1)), ← b)
 

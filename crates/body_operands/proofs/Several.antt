@@ -12,7 +12,7 @@ use Rattle.scope.specs.Syntax.{Types, Val}
 use Rattle.scope.specs.BodyRules.{Wanted, value, Ruled, andRuled, fromTop}
 use Rattle.scope.specs.Bodies.{Operand, takeAll}
 use Rattle.body_state.specs.declared.Values.{Values}
-use Rattle.body_state.specs.Standing.{wantedAtCode, valuesOf, stack, LengthOf, CodeOf}
+use Rattle.body_state.specs.State.{wantedAtCode, valuesOf, stack, LengthOf, CodeOf}
 use Rattle.body_operands.specs.declared.Take.{Take}
 use Rattle.body_operands.specs.declared.Take
 use Rattle.body_operands.specs.declared.Left.{Left}
@@ -23,13 +23,13 @@ use Rattle.body_operands.proofs.Laws.{value-code, reverse-there, left-a
 -- a list
 
 pub record FromTop (ts : Types) (dead : Bool) (work : List ℕ) (base height : ℕ) (vs : List Val) (left i : ℕ) : Type 0 where
-  pub within : i ≤ length vs
+  pub upTo : i ≤ length vs
   pub same : leftIn (takeAll ts dead (fromTop vs) (stack work base height)) ≡ leftIn (takeAll ts dead (fromTop (take i vs)) (stack work base left))
 
 pub list-first : (ts : Types) (dead : Bool) (work : List ℕ) (base height : ℕ) (codes : List ℕ) {list : Values} {n : ℕ} → LengthOf list n → FromTop ts dead work base height (valuesOf codes list) height n
 list-first ts dead work base height codes {list} {n} a =
     let long : length (valuesOf codes list) ≡ n = a .is codes in
-    record { within = omega arith; same = rw (take-all n (valuesOf codes list) (omega arith)) }
+    record { upTo = omega arith; same = rw (take-all n (valuesOf codes list) (omega arith)) }
 
 module _ {ts : Types} {dead : Bool} {work : List ℕ} {base height : ℕ} {vs : List Val} {left i : ℕ} (p : FromTop ts dead work base height vs left i) where
   pub list-done : i ≤ 0 → leftOf work base (Left.the-variants.Is left) ≡ leftIn (takeAll ts dead (fromTop vs) (stack work base height))
@@ -47,13 +47,13 @@ module _ {ts : Types} {dead : Bool} {work : List ℕ} {base height : ℕ} {vs : 
 
 module _ {ts : Types} {dead : Bool} {work : List ℕ} {base height : ℕ} {codes : List ℕ} {list : Values} {left i : ℕ} (p : FromTop ts dead work base height (valuesOf codes list) left i) (h : 0 < i) {c : ℕ} (a : CodeOf codes list (i - 1) c) where
   list-one : (r : Take) → tookOf work base r ≡ takeAll ts dead (wantedAtCode (c + 2) ∷ []) (stack work base left) → leftIn (takeAll ts dead (fromTop (valuesOf codes list)) (stack work base height)) ≡ andRuled (leftIn (tookOf work base r)) (λ more. leftIn (takeAll ts dead (fromTop (take (i - 1) (valuesOf codes list))) more))
-  list-one r b = list-next p h (a .is (omega (arith, p .within))) ∙ rw (b, value-code c)
+  list-one r b = list-next p h (a .is (omega (arith, p .upTo))) ∙ rw (b, value-code c)
 
   pub list-missed : {r : Take} → r ≡ Take.the-variants.Missing → tookOf work base r ≡ takeAll ts dead (wantedAtCode (c + 2) ∷ []) (stack work base left) → leftOf work base Left.the-variants.Missing ≡ leftIn (takeAll ts dead (fromTop (valuesOf codes list)) (stack work base height))
   list-missed {r} e b = sym (rw e at (list-one r b))
 
   pub list-turn : {r : Take} {o fewer : ℕ} → r ≡ Take.the-variants.Took o fewer → tookOf work base r ≡ takeAll ts dead (wantedAtCode (c + 2) ∷ []) (stack work base left) → FromTop ts dead work base height (valuesOf codes list) fewer (i - 1)
-  list-turn {r} e b = record { within = omega (arith, p .within); same = rw e at (list-one r b) }
+  list-turn {r} e b = record { upTo = omega (arith, p .upTo); same = rw e at (list-one r b) }
 
 -- a plan
 

@@ -4,10 +4,12 @@ use Prim.Native.Nat.{ℕ, _+_, _<_, _≤_}
 use mathlib.Core.Path.{_≡_}
 use mathlib.Core.List.{List, [], _∷_, _++_}
 use lib.ListN.{length, getD}
+use Rattle.scope.specs.Sizes.{mostOperands}
 use Rattle.scope.specs.Refusals.{badOperand}
 use Rattle.scope.specs.BodyRules.{Ruled, allowed, fault, andRuled}
 use Rattle.scope.specs.Bodies.{Operand, Taken}
-use Rattle.body_state.specs.Standing.{operandAtCode, stack}
+use Rattle.body_state.specs.Layout.{operandsFrom, framesFrom, usedSize}
+use Rattle.body_state.specs.State.{operandAtCode, stack}
 use Rattle.body_operands.specs.declared.Take.{Take}
 use Rattle.body_operands.specs.declared.Take
 use Rattle.body_operands.specs.declared.Left.{Left}
@@ -28,12 +30,12 @@ leftOf work base Left.the-variants.Missing = fault badOperand
 
 -- n more operands are within the sizes
 pub record Room (work : List ℕ) (base height n : ℕ) : Type 0 where
-  pub room : 1_800 ≤ length work
-  pub few : base + height + n ≤ 512
+  pub room : usedSize ≤ length work
+  pub few : base + height + n ≤ mostOperands
 
 -- The operands stand on top of the others, and no word is changed but where operands above those may stand.
 pub record Pushed (work work′ : List ℕ) (base height height′ : ℕ) (os : List Operand) : Type 0 where
   pub top : stack work′ base height′ ≡ os ++ stack work base height
-  pub below : (i : ℕ) → i < 768 + (base + height) → getD work′ i 0 ≡ getD work i 0
-  pub beyond : (i : ℕ) → 1_280 ≤ i → getD work′ i 0 ≡ getD work i 0
+  pub below : (i : ℕ) → i < operandsFrom + (base + height) → getD work′ i 0 ≡ getD work i 0
+  pub beyond : (i : ℕ) → framesFrom ≤ i → getD work′ i 0 ≡ getD work i 0
   pub size : length work′ ≡ length work

@@ -8,7 +8,8 @@ ghost use lib.ListN.{length};
 ghost use Rattle.scope.specs.BodyRules.{fromTop};
 ghost use Rattle.scope.specs.Bodies.{fits, takeAll, onTop};
 ghost use Rattle.type_table.specs.View.{view};
-ghost use Rattle.body_state.specs.Standing.{operandAtCode, wantedAtCode, wantsAt, valuesOf, stack};
+ghost use Rattle.body_state.specs.Layout.{wordBound};
+ghost use Rattle.body_state.specs.State.{operandAtCode, wantedAtCode, wantsAt, valuesOf, stack};
 ghost use Rattle.body_operands.specs.Taking.{tookOf, leftOf, leftIn, Room, Pushed};
 
 // Two more than a type's code is its word; the two words below are an unknown, and a non-null reference of unknown heap.
@@ -70,7 +71,10 @@ pub fn take_one(
     height: u32,
     dead: bool,
 ) -> Take
-    ensures { λ r. ⌜ tookOf (now (work .entry)) base r ≡ takeAll (view (now (rows .entry)) (now (codes .entry))) dead (wantedAtCode w ∷ []) (stack (now (work .entry)) base height) ⌝ }
+    ensures { λ r.
+        let types = view (now (rows .entry)) (now (codes .entry)) in
+        let words = now (work .entry) in
+        ⌜ tookOf words base r ≡ takeAll types dead (wantedAtCode w ∷ []) (stack words base height) ⌝ }
 {
     if height == 0 {
         if dead {
@@ -97,7 +101,10 @@ fn take_some(
     height: u32,
     dead: bool,
 ) -> Left
-    ensures { λ r. ⌜ leftOf (now (work .entry)) base r ≡ leftIn (takeAll (view (now (rows .entry)) (now (codes .entry))) dead (wantsAt w) (stack (now (work .entry)) base height)) ⌝ }
+    ensures { λ r.
+        let types = view (now (rows .entry)) (now (codes .entry)) in
+        let words = now (work .entry) in
+        ⌜ leftOf words base r ≡ leftIn (takeAll types dead (wantsAt w) (stack words base height)) ⌝ }
 {
     if w == 0 {
         return Left::Is(height);
@@ -119,7 +126,11 @@ pub fn take_list(
     height: u32,
     dead: bool,
 ) -> Left
-    ensures { λ r. ⌜ leftOf (now (work .entry)) base r ≡ leftIn (takeAll (view (now (rows .entry)) (now (codes .entry))) dead (fromTop (valuesOf (now (codes .entry)) list)) (stack (now (work .entry)) base height)) ⌝ }
+    ensures { λ r.
+        let types = view (now (rows .entry)) (now (codes .entry)) in
+        let words = now (work .entry) in
+        let wants = fromTop (valuesOf (now (codes .entry)) list) in
+        ⌜ leftOf words base r ≡ leftIn (takeAll types dead wants (stack words base height)) ⌝ }
 {
     let mut i = body_state::length_of(list);
     let mut left = height;
@@ -148,7 +159,11 @@ pub fn take_plan(
     height: u32,
     dead: bool,
 ) -> Left
-    ensures { λ r. ⌜ leftOf (now (work .entry)) base r ≡ leftIn (takeAll (view (now (rows .entry)) (now (codes .entry))) dead (wantsAt top ++ (wantsAt second ++ fromTop (valuesOf (now (codes .entry)) rest))) (stack (now (work .entry)) base height)) ⌝ }
+    ensures { λ r.
+        let types = view (now (rows .entry)) (now (codes .entry)) in
+        let words = now (work .entry) in
+        let wants = wantsAt top ++ (wantsAt second ++ fromTop (valuesOf (now (codes .entry)) rest)) in
+        ⌜ leftOf words base r ≡ leftIn (takeAll types dead wants (stack words base height)) ⌝ }
 {
     let first = take_some(rows, codes, work, top, base, height, dead);
     let Left::Is(below) = first else {
@@ -164,7 +179,7 @@ pub fn take_plan(
 // An operand's word on top.
 pub fn push(work: &mut [u32], base: u32, height: u32, o: u64)
     requires { ⌜ Room (now work) base height 1 ⌝ }
-    ensures { λ r. ⌜ Pushed (now (work .entry)) (now (work .exit)) base height (height + 1) (operandAtCode (o % 4294967296) ∷ []) ⌝ }
+    ensures { λ r. ⌜ Pushed (now (work .entry)) (now (work .exit)) base height (height + 1) (operandAtCode (o % wordBound) ∷ []) ⌝ }
 {
     lent_u32::put32(
         work,
@@ -176,7 +191,9 @@ pub fn push(work: &mut [u32], base: u32, height: u32, o: u64)
 // The types of a list, the last on top.
 pub fn push_list(codes: &[u16], work: &mut [u32], list: Values, base: u32, height: u32)
     requires { ⌜ Room (now work) base height (length (valuesOf (now codes) list)) ⌝ }
-    ensures { λ r. ⌜ Pushed (now (work .entry)) (now (work .exit)) base height (height + length (valuesOf (now (codes .entry)) list)) (onTop (valuesOf (now (codes .entry)) list)) ⌝ }
+    ensures { λ r.
+        let vs = valuesOf (now (codes .entry)) list in
+        ⌜ Pushed (now (work .entry)) (now (work .exit)) base height (height + length vs) (onTop vs) ⌝ }
 {
     let n = body_state::length_of(list);
     let mut i: u32 = 0;

@@ -8,6 +8,7 @@ use lib.Dec.{ltb}
 use borrow.Author.Tests.{not-true, not-false}
 use mir.Syntax.{w16}
 use mir.Val.{Fits}
+use Rattle.scope.specs.Refusals.{outOfReach, absent, badStruct, badBranch}
 use Rattle.scope.specs.Lists.{every}
 use Rattle.scope.specs.Syntax.{Heap, Val, ref, nullable, Types}
 use Rattle.scope.specs.Order.{valBelow}
@@ -23,7 +24,7 @@ use Rattle.body_state.specs.declared.Scene.{Scene}
 use Rattle.body_state.specs.declared.Values.{Values}
 use Rattle.body_state.specs.declared.Planned.{Planned}
 use Rattle.body_state.specs.declared.Planned
-use Rattle.body_state.specs.Standing.{plainOf, plannedOf}
+use Rattle.body_state.specs.State.{plainOf, plannedOf}
 use Rattle.body_plan_parts.specs.Planning.{contextOn, CodeIs}
 use Rattle.body_plan_parts.proofs.Steps.{found-then}
 use Rattle.body_plan_parts.proofs.Words.{wants-none, wants-value, gives-value}
@@ -47,7 +48,7 @@ unfolding allBelow
 both-reached count xs ys a b = below-append count xs ys ∙ rw (← a, ← b)
 
 module _ (work : List ℕ) (k : Scene) (depth l source target : ℕ) {r : Bool} (a : r ≡ allBelow (k .types) (heapNames (heapAtCode source))) where
-  pub source-out : not r ≡ true → CastLabel work k depth l source target (Target.the-variants.Fault 6)
+  pub source-out : not r ≡ true → CastLabel work k depth l source target (Target.the-variants.Fault outOfReach)
   unfolding castLabelAt
   source-out t =
       record {
@@ -56,7 +57,7 @@ module _ (work : List ℕ) (k : Scene) (depth l source target : ℕ) {r : Bool} 
       }
 
   module _ (t : not r ≡ false) {s : Bool} (b : s ≡ allBelow (k .types) (heapNames (heapAtCode target))) where
-    pub target-out : not s ≡ true → CastLabel work k depth l source target (Target.the-variants.Fault 6)
+    pub target-out : not s ≡ true → CastLabel work k depth l source target (Target.the-variants.Fault outOfReach)
     unfolding castLabelAt
     target-out u =
         record {
@@ -65,7 +66,7 @@ module _ (work : List ℕ) (k : Scene) (depth l source target : ℕ) {r : Bool} 
         }
 
     module _ (u : not s ≡ false) {m : Label} (d : LabelOf work k depth l m) where
-      pub target-absent : m ≡ Label.the-variants.Absent → CastLabel work k depth l source target (Target.the-variants.Fault 21)
+      pub target-absent : m ≡ Label.the-variants.Absent → CastLabel work k depth l source target (Target.the-variants.Fault absent)
       unfolding castLabelAt
       target-absent q =
           record {
@@ -107,17 +108,17 @@ pub ruleset rest-exits = (rest-non-null, rest-as-source)
 -- carries
 
 module _ (codes : List ℕ) (ts : Types) (first source target carried falls : ℕ) (label : Values) {r : Bool} (a : r ≡ valBelow ts (valAtCode target) (valAtCode source)) where
-  pub target-not-below : not r ≡ true → Carries codes ts first source target carried falls label (Planned.the-variants.Fault 25)
+  pub target-not-below : not r ≡ true → Carries codes ts first source target carried falls label (Planned.the-variants.Fault badBranch)
   unfolding plannedOf
   target-not-below t = record { is = rw (← a, not-true r t) }
 
   module _ (t : not r ≡ false) {s : Split} (b : SplitOf codes label s) where
-    pub without-types : s ≡ Split.the-variants.Nothing → Carries codes ts first source target carried falls label (Planned.the-variants.Fault 25)
+    pub without-types : s ≡ Split.the-variants.Nothing → Carries codes ts first source target carried falls label (Planned.the-variants.Fault badBranch)
     unfolding plannedOf
     without-types q = record { is = rw (← a, not-false r t, ← b .is, q) }
 
     module _ {v : Values} {w : ℕ} (q : s ≡ Split.the-variants.Is v w) {u : Bool} (d : u ≡ valBelow ts (valAtCode carried) (valAtCode w)) where
-      pub carried-not-below : not u ≡ true → Carries codes ts first source target carried falls label (Planned.the-variants.Fault 25)
+      pub carried-not-below : not u ≡ true → Carries codes ts first source target carried falls label (Planned.the-variants.Fault badBranch)
       unfolding plannedOf
       carried-not-below f = record { is = rw (← a, not-false r t, ← b .is, q, ← d, not-true u f) }
 
@@ -188,7 +189,7 @@ module _ (codes : List ℕ) (ts : Types) (source target : Reference) (fail : Boo
         }
 
     module _ {d : Link} (b : DescriptorFor (descriptorFor ts (heapAtCode (target .heap))) d) where
-      pub desc-undescribed : d ≡ Link.the-variants.Nothing → Branching codes ts (k .types) (labelsAt codes work k depth) (descOp fail (castWith l source target)) (Planned.the-variants.Fault 23)
+      pub desc-undescribed : d ≡ Link.the-variants.Nothing → Branching codes ts (k .types) (labelsAt codes work k depth) (descOp fail (castWith l source target)) (Planned.the-variants.Fault badStruct)
       unfolding plannedOf
       desc-undescribed e =
           record {

@@ -7,6 +7,7 @@ use mathlib.Core.List.{List, [], _∷_, _++_, map, append-nil}
 use native.Mathlib.Omega.{arith}
 use lib.ListN.{getElem?}
 use borrow.Author.Tests.{eq-eqb, ne-eqb}
+use Rattle.scope.specs.Refusals.{absent}
 use Rattle.scope.specs.Syntax.{Val}
 use Rattle.scope.specs.Instructions.{br, br-if}
 use Rattle.scope.specs.BodyRules.{planOf}
@@ -18,7 +19,8 @@ use Rattle.body_state.specs.declared.Values.{Values}
 use Rattle.body_state.specs.declared.Values
 use Rattle.body_state.specs.declared.Planned.{Planned}
 use Rattle.body_state.specs.declared.Planned
-use Rattle.body_state.specs.Standing.{valuesOf, plainOf, plannedOf, frameAt, framesAt, ResultsOf}
+use Rattle.body_state.specs.Layout.{framesFrom, frameSpan, loopWord}
+use Rattle.body_state.specs.State.{valuesOf, plainOf, plannedOf, frameAt, framesAt, ResultsOf}
 use Rattle.body_plan_parts.specs.Planning.{Stops}
 use Rattle.body_plan_parts.proofs.Words.{wants-none, wants-i32, gives-none}
 use Rattle.body_plan_branches.specs.declared.Label.{Label}
@@ -27,7 +29,7 @@ use Rattle.body_plan_branches.specs.Branches.{labelsAt, BlockLabel, Labe
 
 -- block_label
 
-module _ {work : List ℕ} (m : ℕ) {w : ℕ} (a : Word32At work (1_280 + (8 * m + 0)) w) where
+module _ {work : List ℕ} (m : ℕ) {w : ℕ} (a : Word32At work (framesFrom + (frameSpan * m + loopWord)) w) where
   pub loop-label : w ≡ 1 → BlockLabel work m (Values.the-variants.Types 0 0)
   unfolding frameAt valuesOf codesAt
   loop-label e = record { is = λ codes count. rw (← a .is, eq-eqb w 1 e) }
@@ -71,8 +73,8 @@ module _ (work : List ℕ) (k : Scene) (depth l : ℕ) where
   pub label-block : l ≤ depth → (depth ≡ l → ⊥) → {r : Values} → BlockLabel work (depth - l + 1) r → LabelOf work k depth l (Label.the-variants.Is r)
   unfolding labelsAt
   label-block h other a =
-      let within : l < depth = omega (arith, other) in
-      record { is = λ codes. ap some (a .is codes (k .locals)) ∙ sym (frame-there work (k .locals) _ depth l within) }
+      let inside : l < depth = omega (arith, other) in
+      record { is = λ codes. ap some (a .is codes (k .locals)) ∙ sym (frame-there work (k .locals) _ depth l inside) }
 
 -- br and br_if
 
@@ -81,11 +83,11 @@ module _ {work : List ℕ} {k : Scene} {depth l : ℕ} {r : Label} (a : LabelOf 
     pub label-none : (codes : List ℕ) → getElem? (labelsAt codes work k depth) l ≡ none
     label-none codes = sym (a .is codes) ∙ rw e
 
-    pub br-absent : Goes work k depth (br l) (Planned.the-variants.Fault 21)
+    pub br-absent : Goes work k depth (br l) (Planned.the-variants.Fault absent)
     unfolding planOf plannedOf
     br-absent = record { is = λ codes c isSet. rw (label-none codes) }
 
-    pub br-if-absent : Goes work k depth (br-if l) (Planned.the-variants.Fault 21)
+    pub br-if-absent : Goes work k depth (br-if l) (Planned.the-variants.Fault absent)
     unfolding planOf plannedOf
     br-if-absent = record { is = λ codes c isSet. rw (label-none codes) }
 

@@ -14,7 +14,8 @@ use Rattle.type_table.specs.View.{valAtCode, fieldAtCode, codesAt}
 use Rattle.type_table.proofs.Laws.{no-codes}
 use Rattle.body_state.specs.declared.Values.{Values}
 use Rattle.body_state.specs.declared.Values
-use Rattle.body_state.specs.Standing.{valAtWord, valuesOf}
+use Rattle.body_state.specs.Layout.{codeBound}
+use Rattle.body_state.specs.State.{valAtWord, valuesOf}
 use Rattle.body_plan_branches.specs.declared.Split
 use Rattle.body_plan_branches.specs.Branches.{SplitOf}
 
@@ -56,7 +57,7 @@ module _ (codes : List ℕ) (values : Values) {first n : ℕ} where
     last-field some′ a =
         record { is = rw (e, held codes first n, held codes first (n - 1)) (sym (last-of (λ c. valAtCode (c / 2)) codes first n some′ a)) }
 
-pub only-type : (codes : List ℕ) (values : Values) {c : ℕ} → values ≡ Values.the-variants.One c → SplitOf codes values (Split.the-variants.Is (Values.the-variants.Types 0 0) (c % 1_048_576))
+pub only-type : (codes : List ℕ) (values : Values) {c : ℕ} → values ≡ Values.the-variants.One c → SplitOf codes values (Split.the-variants.Is (Values.the-variants.Types 0 0) (c % codeBound))
 unfolding valuesOf valAtWord lastOf codesAt
 only-type codes values e = record { is = rw e }
 

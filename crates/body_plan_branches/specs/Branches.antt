@@ -18,8 +18,9 @@ use Rattle.type_table.specs.View.{heapAtCode, valAtCode, codesAt}
 use Rattle.body_state.specs.declared.Scene.{Scene}
 use Rattle.body_state.specs.declared.Values.{Values}
 use Rattle.body_state.specs.declared.Planned.{Planned}
-use Rattle.body_state.specs.Standing.{wantsAt, valuesOf, plannedOf, frameAt, framesAt}
-use Rattle.body_plan_parts.specs.Planning.{contextOn}
+use Rattle.body_state.specs.Layout.{codeBound}
+use Rattle.body_state.specs.State.{wantsAt, valuesOf, plannedOf, frameAt, framesAt}
+use Rattle.body_plan_parts.specs.Planning.{contextOn, heapBound}
 use Rattle.body_plan_branches.specs.declared.Label.{Label}
 use Rattle.body_plan_branches.specs.declared.Label
 use Rattle.body_plan_branches.specs.declared.Target.{Target}
@@ -89,12 +90,12 @@ castLabelAt labels count l source target =
 
 -- two small codes of heap types, and two of value types
 pub record Low (a b : ℕ) : Type 0 where
-  pub first : a < 500_000
-  pub second : b < 500_000
+  pub first : a < heapBound
+  pub second : b < heapBound
 
 pub record Small (a b : ℕ) : Type 0 where
-  pub first : a < 1_048_576
-  pub second : b < 1_048_576
+  pub first : a < codeBound
+  pub second : b < codeBound
 
 pub record CastLabel (work : List ℕ) (k : Scene) (depth l source target : ℕ) (r : Target) : Type 0 where
   pub is : (codes : List ℕ) → targetRuled codes r

@@ -1,25 +1,22 @@
 // The rules of the instructions that branch: br, br_if and the branching casts. The tests stand in document 01's order:
 // 6, 21, 23, 25.
-use body_plan_parts::ABSENT;
-use body_plan_parts::BAD_BRANCH;
-use body_plan_parts::BAD_STRUCT;
 use body_plan_parts::GIVEN;
 use body_plan_parts::I32;
-use body_plan_parts::OUT_OF_REACH;
 use body_plan_parts::WANTED;
+use body_state::CODE_BOUND;
 use body_state::LOOP;
-use body_state::MOST;
 use body_state::Plain;
 use body_state::Planned;
 use body_state::Scene;
 use body_state::Values;
+use scope::refusals;
 use type_table::Link;
 ghost use mathlib.Core.Bool.{not, _&&_};
 ghost use Prim.Native.Nat.{_<_};
 ghost use Rattle.scope.specs.Instructions.{br, br-if};
 ghost use Rattle.scope.specs.Syntax.{ref};
 ghost use Rattle.type_table.specs.View.{heapAtCode, view};
-ghost use Rattle.body_plan_parts.specs.Planning.{CodeIs};
+ghost use Rattle.body_plan_parts.specs.Planning.{heapBound, CodeIs};
 ghost use Rattle.body_plan_branches.specs.Branches.{labelsAt, BlockLabel, LabelOf, SplitOf, Goes, castWith, castOp, descOp, CastLabel, Low, Small, Carries, Casts, Branching};
 
 // The types of a label.
@@ -80,7 +77,7 @@ pub fn br(work: &[u32], scene: Scene, depth: u16, l: u64) -> Planned
 {
     let label = label_of(work, scene, depth, l);
     match label {
-        Label::Absent => Planned::Fault(ABSENT),
+        Label::Absent => Planned::Fault(refusals::ABSENT),
         Label::Is(values) => body_plan_parts::stops(values),
     }
 }
@@ -91,7 +88,7 @@ pub fn br_if(work: &[u32], scene: Scene, depth: u16, l: u64) -> Planned
 {
     let label = label_of(work, scene, depth, l);
     match label {
-        Label::Absent => Planned::Fault(ABSENT),
+        Label::Absent => Planned::Fault(refusals::ABSENT),
         Label::Is(values) => {
             let top = I32 + WANTED;
             Planned::Plain(Plain {
@@ -129,7 +126,7 @@ fn split_last(codes: &[u16], values: Values) -> Split
             Split::Is(Values::Fields(first, before), field / 2)
         }
         Values::One(c) => {
-            let code = c as u64 % MOST;
+            let code = c as u64 % CODE_BOUND;
             Split::Is(Values::Types(0, 0), code)
         }
     }
@@ -141,21 +138,21 @@ fn cast_label(work: &[u32], scene: Scene, depth: u16, l: u64, source: u64, targe
 {
     let types = scene.types;
     if !type_reach::heap_in_reach(source, types as u64) {
-        return Target::Fault(OUT_OF_REACH);
+        return Target::Fault(refusals::OUT_OF_REACH);
     }
     if !type_reach::heap_in_reach(target, types as u64) {
-        return Target::Fault(OUT_OF_REACH);
+        return Target::Fault(refusals::OUT_OF_REACH);
     }
     let label = label_of(work, scene, depth, l);
     match label {
-        Label::Absent => Target::Fault(ABSENT),
+        Label::Absent => Target::Fault(refusals::ABSENT),
         Label::Is(values) => Target::Is(values),
     }
 }
 
 // The code of the rest: the source, not null where the target may be null.
 fn rest_code(source: bool, target: bool, heap: u64) -> u64
-    requires { ⌜ heap < 500000 ⌝ }
+    requires { ⌜ heap < heapBound ⌝ }
     ensures { λ r. ⌜ CodeIs (ref (source && not target) (heapAtCode heap)) r ⌝ }
 {
     if target {
@@ -181,14 +178,14 @@ fn carries(
     ensures { λ r. ⌜ Carries (now (codes .entry)) (view (now (rows .entry)) (now (codes .entry))) first source target carried falls label r ⌝ }
 {
     if !type_order::val_below(rows, codes, target, source) {
-        return Planned::Fault(BAD_BRANCH);
+        return Planned::Fault(refusals::BAD_BRANCH);
     }
     let split = split_last(codes, label);
     match split {
-        Split::Nothing => Planned::Fault(BAD_BRANCH),
+        Split::Nothing => Planned::Fault(refusals::BAD_BRANCH),
         Split::Is(before, last) => {
             if !type_order::val_below(rows, codes, carried, last) {
-                return Planned::Fault(BAD_BRANCH);
+                return Planned::Fault(refusals::BAD_BRANCH);
             }
             let second = source + WANTED;
             let gives = falls + GIVEN;
@@ -239,7 +236,11 @@ pub fn br_on_cast(
     target: Reference,
     fail: bool,
 ) -> Planned
-    ensures { λ r. ⌜ Branching (now (codes .entry)) (view (now (rows .entry)) (now (codes .entry))) (scene .types) (labelsAt (now (codes .entry)) (now (work .entry)) scene depth) (castOp fail (castWith l source target)) r ⌝ }
+    ensures { λ r.
+        let types = view (now (rows .entry)) (now (codes .entry)) in
+        let labels = labelsAt (now (codes .entry)) (now (work .entry)) scene depth in
+        let cast = castOp fail (castWith l source target) in
+        ⌜ Branching (now (codes .entry)) types (scene .types) labels cast r ⌝ }
 {
     let label = cast_label(work, scene, depth, l, source.heap, target.heap);
     match label {
@@ -260,7 +261,11 @@ pub fn br_on_cast_desc(
     target: Reference,
     fail: bool,
 ) -> Planned
-    ensures { λ r. ⌜ Branching (now (codes .entry)) (view (now (rows .entry)) (now (codes .entry))) (scene .types) (labelsAt (now (codes .entry)) (now (work .entry)) scene depth) (descOp fail (castWith l source target)) r ⌝ }
+    ensures { λ r.
+        let types = view (now (rows .entry)) (now (codes .entry)) in
+        let labels = labelsAt (now (codes .entry)) (now (work .entry)) scene depth in
+        let cast = descOp fail (castWith l source target) in
+        ⌜ Branching (now (codes .entry)) types (scene .types) labels cast r ⌝ }
 {
     let label = cast_label(work, scene, depth, l, source.heap, target.heap);
     match label {
@@ -268,7 +273,7 @@ pub fn br_on_cast_desc(
         Target::Is(values) => {
             let descriptor = body_plan_casts::descriptor_for(rows, codes, target.heap);
             match descriptor {
-                Link::Nothing => Planned::Fault(BAD_STRUCT),
+                Link::Nothing => Planned::Fault(refusals::BAD_STRUCT),
                 Link::To(d) => {
                     let top = body_plan_parts::ref_code(true, d);
                     casts(rows, codes, top + WANTED, source, target, fail, values)

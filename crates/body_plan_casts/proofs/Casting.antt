@@ -9,6 +9,7 @@ use borrow.Author.Tests.{lt-ltb, le-ltb, not-true, not-false}
 use lib.Dec.{ltb}
 use mir.Syntax.{w16}
 use mir.Val.{Fits}
+use Rattle.scope.specs.Refusals.{outOfReach, badStruct}
 use Rattle.scope.specs.Abstract.{Abstract}
 use Rattle.scope.specs.Syntax.{Heap, abstract, ref, Types}
 use Rattle.scope.specs.Memory.{abstractCode}
@@ -25,15 +26,15 @@ use Rattle.type_reach.specs.Names.{allBelow}
 use Rattle.body_state.specs.declared.Values
 use Rattle.body_state.specs.declared.Planned.{Planned}
 use Rattle.body_state.specs.declared.Planned
-use Rattle.body_state.specs.Standing.{valuesOf, plannedOf}
-use Rattle.body_plan_parts.specs.Planning.{Follows, Anywhere, Takes, CodeIs, DescriptorOf}
+use Rattle.body_state.specs.State.{valuesOf, plannedOf}
+use Rattle.body_plan_parts.specs.Planning.{Follows, Anywhere, Takes, CodeIs, DescriptorOf, heapBound}
 use Rattle.body_plan_parts.proofs.Words.{wants-none, wants-value, wants-any-ref, gives-i32, gives-value}
 use Rattle.body_plan_casts.specs.Casts.{Tests, DescriptorFor}
 use Rattle.body_plan_casts.proofs.Targets.{reach-small}
 
 -- the number of an abstract type is small
 
-pub top-small : (a : Abstract) {t : ℕ} → t ≡ abstractCode a → t < 500_000
+pub top-small : (a : Abstract) {t : ℕ} → t ≡ abstractCode a → t < heapBound
 top-small a e = rw e (let low = code-small a in omega arith)
 
 top-is : (a : Abstract) {t : ℕ} → t ≡ abstractCode a → heapAtCode t ≡ abstract a
@@ -47,28 +48,28 @@ module _ (count : ℕ) (h : Heap) {r : Bool} (e : r ≡ allBelow count (heapName
     unfolding allBelow
     unreached = sym e ∙ not-true r out
 
-    pub null-out : Anywhere count (ref-null h) (Planned.the-variants.Fault 6)
+    pub null-out : Anywhere count (ref-null h) (Planned.the-variants.Fault outOfReach)
     unfolding planOf plannedOf
     null-out = record { is = λ codes ts. record { is = λ locals results here. rw unreached } }
 
-    pub test-out : (codes : List ℕ) (ts : Types) → Tests codes ts count h (Planned.the-variants.Fault 6)
+    pub test-out : (codes : List ℕ) (ts : Types) → Tests codes ts count h (Planned.the-variants.Fault outOfReach)
     unfolding planOf plannedOf
     test-out codes ts = record { is = λ n. record { is = λ locals results here. rw unreached } }
 
-    pub cast-out : (codes : List ℕ) (ts : Types) (n : Bool) → Follows codes ts count (ref-cast n h) (Planned.the-variants.Fault 6)
+    pub cast-out : (codes : List ℕ) (ts : Types) (n : Bool) → Follows codes ts count (ref-cast n h) (Planned.the-variants.Fault outOfReach)
     unfolding planOf plannedOf
     cast-out codes ts n = record { is = λ locals results here. rw unreached }
 
-    pub desc-out : (codes : List ℕ) (ts : Types) (n : Bool) → Follows codes ts count (ref-cast-desc-eq n h) (Planned.the-variants.Fault 6)
+    pub desc-out : (codes : List ℕ) (ts : Types) (n : Bool) → Follows codes ts count (ref-cast-desc-eq n h) (Planned.the-variants.Fault outOfReach)
     unfolding planOf plannedOf
     desc-out codes ts n = record { is = λ locals results here. rw unreached }
 
   -- in reach
 
-  module _ (within : not r ≡ false) where
+  module _ (inside : not r ≡ false) where
     reached-is : every (λ x. ltb x count) (heapNames h) ≡ true
     unfolding allBelow
-    reached-is = sym e ∙ not-false r within
+    reached-is = sym e ∙ not-false r inside
 
     pub null-planned : {k : ℕ} → CodeIs (ref true h) k → {p : Planned} → Takes 0 0 (Values.the-variants.Types 0 0) (k + 1) p → Anywhere count (ref-null h) p
     unfolding planOf valuesOf codesAt
@@ -99,7 +100,7 @@ module _ (count : ℕ) (h : Heap) {r : Bool} (e : r ≡ allBelow count (heapName
           }
 
     module _ (codes : List ℕ) (ts : Types) {d : Link} (b : DescriptorFor (descriptorFor ts h) d) (n : Bool) where
-      pub desc-undescribed : d ≡ Link.the-variants.Nothing → Follows codes ts count (ref-cast-desc-eq n h) (Planned.the-variants.Fault 23)
+      pub desc-undescribed : d ≡ Link.the-variants.Nothing → Follows codes ts count (ref-cast-desc-eq n h) (Planned.the-variants.Fault badStruct)
       unfolding planOf plannedOf
       desc-undescribed q = record { is = λ locals results here. rw (reached-is, ← b .is, q) }
 
@@ -111,7 +112,7 @@ module _ (count : ℕ) (h : Heap) {r : Bool} (e : r ≡ allBelow count (heapName
                 rw (reached-is, ← b .is, q, takes .is codes, wants-value j, top .is, wants-any-ref, gives-value (made .small), made .is);
           }
 
-pub descriptor-small : {o : Option Heap} {d : Link} → DescriptorFor o d → {y : ℕ} → d ≡ Link.the-variants.To y → y < 500_000
+pub descriptor-small : {o : Option Heap} {d : Link} → DescriptorFor o d → {y : ℕ} → d ≡ Link.the-variants.To y → y < heapBound
 descriptor-small b {y} q = b .small y q
 
 pub ruleset casting-exits = (reach-small, top-small, descriptor-small, null-out, test-out, cast-out, desc-out, null-planned, test-planned, cast-planned, desc-undescribed, desc-planned)
@@ -119,12 +120,12 @@ pub ruleset casting-exits = (reach-small, top-small, descriptor-small, null-out,
 -- ref.get_desc
 
 module _ (codes : List ℕ) (ts : Types) (count x : ℕ) where
-  pub get-out : count ≤ x → Follows codes ts count (ref-get-desc x) (Planned.the-variants.Fault 6)
+  pub get-out : count ≤ x → Follows codes ts count (ref-get-desc x) (Planned.the-variants.Fault outOfReach)
   unfolding planOf plannedOf
   get-out h = record { is = λ locals results here. rw (le-ltb x count h) }
 
   module _ (h : x < count) {d : Link} (b : DescriptorOf (ts x .descriptor) d) where
-    pub get-undescribed : d ≡ Link.the-variants.Nothing → Follows codes ts count (ref-get-desc x) (Planned.the-variants.Fault 23)
+    pub get-undescribed : d ≡ Link.the-variants.Nothing → Follows codes ts count (ref-get-desc x) (Planned.the-variants.Fault badStruct)
     unfolding planOf plannedOf
     get-undescribed q = record { is = λ locals results here. rw (lt-ltb x count h, ← b .is, q) }
 

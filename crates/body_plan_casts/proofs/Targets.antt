@@ -1,5 +1,5 @@
 -- A target in reach has a small code; each way out of what is asked of a target: the top of its hierarchy, its descriptor.
-use Prim.Native.Nat.{ℕ, _+_, _*_, _<_}
+use Prim.Native.Nat.{ℕ, _+_, _*_, _<_, _^_}
 use mathlib.Core.Path.{_≡_, sym, ap, _∙_}
 use mathlib.Core.Bool.{Bool, false, not}
 use mathlib.Core.Option.{Option}
@@ -26,15 +26,15 @@ use Rattle.type_table.proofs.Codes.{heap-at-code}
 use Rattle.type_table.proofs.Laws.{is-abstract, is-defined, is-exact}
 use Rattle.type_reach.specs.Names.{allBelow}
 use Rattle.type_reach.proofs.Small.{heap-small}
-use Rattle.body_plan_parts.specs.Planning.{DescriptorOf}
+use Rattle.body_plan_parts.specs.Planning.{DescriptorOf, heapBound}
 use Rattle.body_plan_casts.specs.Casts.{DescriptorFor}
 
 -- in reach
 
-pub reach-small : (types heap : ℕ) {r : Bool} → r ≡ allBelow types (heapNames (heapAtCode heap)) → not r ≡ false → Fits w16 types → heap < 500_000
+pub reach-small : (types heap : ℕ) {r : Bool} → r ≡ allBelow types (heapNames (heapAtCode heap)) → not r ≡ false → Fits w16 types → heap < heapBound
 reach-small types heap {r} e t f =
     let low : heap < 12 + 2 * types = heap-small types heap (sym e ∙ not-false r t) in
-    let few : types < 65_536 = f .fits in
+    let few : types < 2 ^ 16 = f .fits in
     omega arith
 
 -- the top of a hierarchy

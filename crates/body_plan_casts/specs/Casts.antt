@@ -10,7 +10,7 @@ use Rattle.type_table.specs.View.{heapAtCode}
 use Rattle.type_table.specs.declared.Link.{Link}
 use Rattle.type_table.specs.declared.Link
 use Rattle.body_state.specs.declared.Planned.{Planned}
-use Rattle.body_plan_parts.specs.Planning.{Follows}
+use Rattle.body_plan_parts.specs.Planning.{Follows, heapBound}
 
 -- the plan of ref.test, null or not
 pub record Tests (codes : List ℕ) (ts : Types) (count : ℕ) (h : Heap) (r : Planned) : Type 0 where
@@ -23,4 +23,4 @@ heapOption (Link.the-variants.To k) = some (heapAtCode k)
 
 pub record DescriptorFor (o : Option Heap) (r : Link) : Type 0 where
   pub is : heapOption r ≡ o
-  pub small : (k : ℕ) → r ≡ Link.the-variants.To k → k < 500_000
+  pub small : (k : ℕ) → r ≡ Link.the-variants.To k → k < heapBound

@@ -1,13 +1,12 @@
 // The rules of the instructions that name a heap type and branch nowhere: ref.null, ref.test, ref.cast, ref.get_desc and
 // ref.cast_desc_eq. The tests stand in document 01's order: 6, 23.
 use body_plan_parts::ANY_REF;
-use body_plan_parts::BAD_STRUCT;
 use body_plan_parts::GIVEN;
 use body_plan_parts::I32;
-use body_plan_parts::OUT_OF_REACH;
 use body_plan_parts::WANTED;
 use body_state::Planned;
 use body_state::Values;
+use scope::refusals;
 use type_table::HeapKind;
 use type_table::Link;
 ghost use mathlib.Core.Path.{_≡_};
@@ -28,7 +27,7 @@ pub fn ref_null(types: u16, heap: u64) -> Planned
     ensures { λ r. ⌜ Anywhere types (ref-null (heapAtCode heap)) r ⌝ }
 {
     if !type_reach::heap_in_reach(heap, types as u64) {
-        return Planned::Fault(OUT_OF_REACH);
+        return Planned::Fault(refusals::OUT_OF_REACH);
     }
     let made = body_plan_parts::ref_code(true, heap);
     body_plan_parts::takes(0, 0, Values::Types(0, 0), made + GIVEN)
@@ -57,7 +56,7 @@ pub fn ref_test(rows: &[u16], codes: &[u16], types: u16, heap: u64) -> Planned
     ensures { λ r. ⌜ Tests (now (codes .entry)) (view (now (rows .entry)) (now (codes .entry))) types (heapAtCode heap) r ⌝ }
 {
     if !type_reach::heap_in_reach(heap, types as u64) {
-        return Planned::Fault(OUT_OF_REACH);
+        return Planned::Fault(refusals::OUT_OF_REACH);
     }
     let top = top_of(rows, codes, heap);
     let object = body_plan_parts::ref_code(true, top);
@@ -69,7 +68,7 @@ pub fn ref_cast(rows: &[u16], codes: &[u16], types: u16, null: bool, heap: u64) 
     ensures { λ r. ⌜ Follows (now (codes .entry)) (view (now (rows .entry)) (now (codes .entry))) types (ref-cast null (heapAtCode heap)) r ⌝ }
 {
     if !type_reach::heap_in_reach(heap, types as u64) {
-        return Planned::Fault(OUT_OF_REACH);
+        return Planned::Fault(refusals::OUT_OF_REACH);
     }
     let top = top_of(rows, codes, heap);
     let object = body_plan_parts::ref_code(true, top);
@@ -112,11 +111,11 @@ pub fn get_desc(rows: &[u16], codes: &[u16], types: u16, x: u64) -> Planned
     ensures { λ r. ⌜ Follows (now (codes .entry)) (view (now (rows .entry)) (now (codes .entry))) types (ref-get-desc x) r ⌝ }
 {
     if types as u64 <= x {
-        return Planned::Fault(OUT_OF_REACH);
+        return Planned::Fault(refusals::OUT_OF_REACH);
     }
     let descriptor = body_plan_parts::descriptor_of(rows, codes, x);
     match descriptor {
-        Link::Nothing => Planned::Fault(BAD_STRUCT),
+        Link::Nothing => Planned::Fault(refusals::BAD_STRUCT),
         Link::To(y) => {
             let object = x as u16;
             let its = y as u16;
@@ -130,11 +129,11 @@ pub fn cast_desc_eq(rows: &[u16], codes: &[u16], types: u16, null: bool, heap: u
     ensures { λ r. ⌜ Follows (now (codes .entry)) (view (now (rows .entry)) (now (codes .entry))) types (ref-cast-desc-eq null (heapAtCode heap)) r ⌝ }
 {
     if !type_reach::heap_in_reach(heap, types as u64) {
-        return Planned::Fault(OUT_OF_REACH);
+        return Planned::Fault(refusals::OUT_OF_REACH);
     }
     let descriptor = descriptor_for(rows, codes, heap);
     match descriptor {
-        Link::Nothing => Planned::Fault(BAD_STRUCT),
+        Link::Nothing => Planned::Fault(refusals::BAD_STRUCT),
         Link::To(d) => {
             let top = body_plan_parts::ref_code(true, d);
             let made = body_plan_parts::ref_code(null, heap);

@@ -21,8 +21,9 @@ use Rattle.type_table.proofs.Codes.{heap-code-at}
 use Rattle.type_table.proofs.CodesBack.{val-code}
 use Rattle.body_state.specs.declared.Values.{Values}
 use Rattle.body_state.specs.declared.Planned
-use Rattle.body_state.specs.Standing.{wantsAt, wantedAtCode, resultsAt, valAtWord, plainOf, plannedOf}
-use Rattle.body_plan_parts.specs.Planning.{Takes, Stops, CodeIs, DescriptorOf}
+use Rattle.body_state.specs.Layout.{codeBound}
+use Rattle.body_state.specs.State.{wantsAt, wantedAtCode, resultsAt, valAtWord, plainOf, plannedOf}
+use Rattle.body_plan_parts.specs.Planning.{Takes, Stops, CodeIs, DescriptorOf, heapBound}
 
 -- wanted
 
@@ -51,11 +52,11 @@ pub gives-none : resultsAt 0 ≡ []
 unfolding resultsAt
 gives-none = refl
 
-pub gives-value : {c : ℕ} → c < 1_048_576 → resultsAt (c + 1) ≡ valAtCode c ∷ []
+pub gives-value : {c : ℕ} → c < codeBound → resultsAt (c + 1) ≡ valAtCode c ∷ []
 unfolding resultsAt valAtWord
 gives-value {c} h =
     let less : c + 1 - 1 ≡ c = omega arith in
-    let same : c % 1_048_576 ≡ c = omega arith in
+    let same : c % codeBound ≡ c = omega arith in
     rw (ne-eqb (c + 1) 0 (λ e. omega arith), less, same)
 
 pub gives-i32 : resultsAt 1 ≡ num i32 ∷ []
@@ -82,23 +83,23 @@ stops-plain rest = record { is = λ codes. rw (wants-none, gives-none) }
 
 -- codes of references
 
-pub code-is : (v : Val) {r : ℕ} → r ≡ valCode v → r < 1_048_576 → CodeIs v r
+pub code-is : (v : Val) {r : ℕ} → r ≡ valCode v → r < codeBound → CodeIs v r
 code-is v e h = record { is = ap valAtCode e ∙ val-code v; small = h }
 
 module _ (null : Bool) where
-  pub nullable-code : (heap : ℕ) → heap < 500_000 → null ≡ true → CodeIs (ref null (heapAtCode heap)) (5 + 2 * heap)
+  pub nullable-code : (heap : ℕ) → heap < heapBound → null ≡ true → CodeIs (ref null (heapAtCode heap)) (5 + 2 * heap)
   nullable-code heap h e = rw e (code-is (ref true (heapAtCode heap)) (rw (heap-code-at heap) (omega arith)) (omega arith))
 
-  pub non-null-code : (heap : ℕ) → heap < 500_000 → null ≡ false → CodeIs (ref null (heapAtCode heap)) (4 + 2 * heap)
+  pub non-null-code : (heap : ℕ) → heap < heapBound → null ≡ false → CodeIs (ref null (heapAtCode heap)) (4 + 2 * heap)
   non-null-code heap h e = rw e (code-is (ref false (heapAtCode heap)) (rw (heap-code-at heap) (omega arith)) (omega arith))
 
-  pub nullable-exact-code : (x : ℕ) → x < 65_536 → null ≡ true → CodeIs (ref null (exact x)) (27 + 4 * x)
+  pub nullable-exact-code : (x : ℕ) → x < 2 ^ 16 → null ≡ true → CodeIs (ref null (exact x)) (27 + 4 * x)
   nullable-exact-code x h e = rw e (code-is (ref true (exact x)) (omega arith) (omega arith))
 
-  pub non-null-exact-code : (x : ℕ) → x < 65_536 → null ≡ false → CodeIs (ref null (exact x)) (26 + 4 * x)
+  pub non-null-exact-code : (x : ℕ) → x < 2 ^ 16 → null ≡ false → CodeIs (ref null (exact x)) (26 + 4 * x)
   non-null-exact-code x h e = rw e (code-is (ref false (exact x)) (omega arith) (omega arith))
 
-pub nullable-defined-code : (x : ℕ) → x < 65_536 → CodeIs (ref true (defined x)) (25 + 4 * x)
+pub nullable-defined-code : (x : ℕ) → x < 2 ^ 16 → CodeIs (ref true (defined x)) (25 + 4 * x)
 nullable-defined-code x h = code-is (ref true (defined x)) (omega arith) (omega arith)
 
 -- a descriptor: its number is one less than a word
@@ -115,7 +116,7 @@ descriptor-small rows codes x h e =
       small = λ y q.
           let w = getD rows (12 * x + 6) 0 in
           let same : w - 1 ≡ y = link-less w (eqb w 0) (link-to (linkAt w) e q) in
-          let few : w < 65_536 = h in
+          let few : w < 2 ^ 16 = h in
           rw (← same) (omega arith);
     }
 

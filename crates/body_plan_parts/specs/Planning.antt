@@ -1,5 +1,5 @@
 -- What plans are made of, and what it is that a plan follows the rule of an instruction.
-use Prim.Native.Nat.{ℕ, _<_}
+use Prim.Native.Nat.{ℕ, _<_, _^_}
 use mathlib.Core.Path.{_≡_}
 use mathlib.Core.Bool.{false}
 use mathlib.Core.Option.{Option, none}
@@ -13,7 +13,8 @@ use Rattle.type_table.specs.declared.Link
 use Rattle.type_table.specs.Answers.{linkOption}
 use Rattle.body_state.specs.declared.Values.{Values}
 use Rattle.body_state.specs.declared.Planned.{Planned}
-use Rattle.body_state.specs.Standing.{wantsAt, resultsAt, valuesOf, plannedOf}
+use Rattle.body_state.specs.Layout.{codeBound}
+use Rattle.body_state.specs.State.{wantsAt, resultsAt, valuesOf, plannedOf}
 
 -- a body's context over these types
 abbrev pub contextOn : Types → ℕ → List Val → List Val → Context
@@ -36,11 +37,15 @@ pub record Takes (top second : ℕ) (rest : Values) (gives : ℕ) (r : Planned) 
 pub record Stops (rest : Values) (r : Planned) : Type 0 where
   pub is : (codes : List ℕ) → plannedOf codes r ≡ takesAndStops (fromTop (valuesOf codes rest))
 
+-- no code of a heap type in reach is as great as this, so that a reference's code is below `codeBound`
+abbrev pub heapBound : ℕ
+heapBound = 500_000
+
 -- r is a value type's code
 pub record CodeIs (v : Val) (r : ℕ) : Type 0 where
   pub is : valAtCode r ≡ v
-  pub small : r < 1_048_576
+  pub small : r < codeBound
 
 pub record DescriptorOf (o : Option ℕ) (r : Link) : Type 0 where
   pub is : linkOption r ≡ o
-  pub small : (y : ℕ) → r ≡ Link.the-variants.To y → y < 65_536
+  pub small : (y : ℕ) → r ≡ Link.the-variants.To y → y < 2 ^ 16

@@ -1,29 +1,14 @@
-// What plans are made of: the refusals' numbers, the codes of reference types, and a plan that only takes and gives. The
-// rule of an instruction is in struct_plans, cast_plans, branch_plans and plans.
+// What plans are made of: the codes of reference types, and a plan that only takes and gives. The
+// rule of an instruction is in body_plan_structs, body_plan_casts, body_plan_branches and body_plans.
 use body_state::Plain;
 use body_state::Planned;
 use body_state::Values;
 use type_table::Link;
-ghost use Prim.Native.Nat.{_<_};
+ghost use Prim.Native.Nat.{_<_, _^_};
 ghost use mathlib.Core.Bool.{true};
 ghost use Rattle.scope.specs.Syntax.{defined, exact, ref};
 ghost use Rattle.type_table.specs.View.{heapAtCode, view};
-ghost use Rattle.body_plan_parts.specs.Planning.{Takes, Stops, CodeIs, DescriptorOf};
-
-// By which number each test is refused.
-pub const OUT_OF_REACH: u64 = 6;
-
-pub const ABSENT: u64 = 21;
-
-pub const NOT_SET: u64 = 22;
-
-pub const BAD_STRUCT: u64 = 23;
-
-pub const FIELD_FIXED: u64 = 24;
-
-pub const BAD_BRANCH: u64 = 25;
-
-pub const NO_DEFAULT: u64 = 29;
+ghost use Rattle.body_plan_parts.specs.Planning.{heapBound, Takes, Stops, CodeIs, DescriptorOf};
 
 // What a plan's `top` and `second` are beyond the code of the type that is wanted, and its `gives` beyond the code of the
 // type that is given.
@@ -75,7 +60,7 @@ pub fn stops(rest: Values) -> Planned
 
 // The code of a reference to a heap type with a small code.
 pub fn ref_code(null: bool, heap: u64) -> u64
-    requires { ⌜ heap < 500000 ⌝ }
+    requires { ⌜ heap < heapBound ⌝ }
     ensures { λ r. ⌜ CodeIs (ref null (heapAtCode heap)) r ⌝ }
 {
     if null { 5 + 2 * heap } else { 4 + 2 * heap }
@@ -83,7 +68,7 @@ pub fn ref_code(null: bool, heap: u64) -> u64
 
 // The code of (ref null x).
 pub fn defined_code(x: u64) -> u64
-    requires { ⌜ x < 65536 ⌝ }
+    requires { ⌜ x < 2 ^ 16 ⌝ }
     ensures { λ r. ⌜ CodeIs (ref true (defined x)) r ⌝ }
 {
     25 + 4 * x
@@ -91,7 +76,7 @@ pub fn defined_code(x: u64) -> u64
 
 // The code of a reference to exact x.
 pub fn exact_code(null: bool, x: u64) -> u64
-    requires { ⌜ x < 65536 ⌝ }
+    requires { ⌜ x < 2 ^ 16 ⌝ }
     ensures { λ r. ⌜ CodeIs (ref null (exact x)) r ⌝ }
 {
     if null { 27 + 4 * x } else { 26 + 4 * x }

@@ -8,6 +8,7 @@ use native.Mathlib.Omega.{arith}
 use borrow.Author.Tests.{not-true, not-false}
 use mir.Syntax.{w32, w64}
 use mir.Val.{Fits}
+use Rattle.scope.specs.Refusals.{noDefault}
 use Rattle.scope.specs.Syntax.{exact, Val, ref}
 use Rattle.scope.specs.BodyRules.{hasDefault}
 use Rattle.lent_u16.specs.Words.{WordAt}
@@ -19,7 +20,7 @@ use Rattle.type_table.proofs.Laws.{no-codes, first-code, is-number, is-ref}
 use Rattle.body_state.specs.declared.Values
 use Rattle.body_state.specs.declared.Planned.{Planned}
 use Rattle.body_state.specs.declared.Planned
-use Rattle.body_state.specs.Standing.{wantsAt, valuesOf, plannedOf}
+use Rattle.body_state.specs.State.{wantsAt, valuesOf, plannedOf}
 use Rattle.body_plan_parts.specs.Planning.{Takes, CodeIs}
 use Rattle.body_plan_parts.proofs.Words.{wants-none, gives-value}
 use Rattle.body_plan_structs.specs.Structs.{typeOf, allDefault, Defaulted}
@@ -81,7 +82,7 @@ module _ {fields : Bool} {codes : List ℕ} {first n at left : ℕ} (w : Walk fi
 -- defaulted
 
 module _ {codes : List ℕ} {first n : ℕ} (top x : ℕ) {r : Bool} (e : r ≡ allDefault true codes first n) where
-  pub defaulted-not : not r ≡ true → Defaulted codes first n top x (Planned.the-variants.Fault 29)
+  pub defaulted-not : not r ≡ true → Defaulted codes first n top x (Planned.the-variants.Fault noDefault)
   unfolding plannedOf
   defaulted-not t = record { is = rw (← e, not-true r t) }
 

@@ -1,5 +1,5 @@
 -- Each way out of the search for a struct's fields and for one of them, and of the plans that go to one field.
-use Prim.Native.Nat.{ℕ, _+_, _/_, _%_, _≤_, _<_}
+use Prim.Native.Nat.{ℕ, _+_, _/_, _%_, _≤_, _<_, _^_}
 use mathlib.Core.Path.{_≡_, sym, _∙_}
 use mathlib.Core.Bool.{true, _&&_}
 use mathlib.Core.List.{List, [], _∷_}
@@ -9,6 +9,7 @@ use lib.Dec.{ltb}
 use borrow.Author.Tests.{lt-ltb, le-ltb, eq-eqb, ne-eqb}
 use mir.Syntax.{w16}
 use mir.Val.{Fits}
+use Rattle.scope.specs.Refusals.{outOfReach, badStruct, fieldFixed}
 use Rattle.scope.specs.Syntax.{defined, ref, Val, nullable, Types}
 use Rattle.scope.specs.Instructions.{struct-get, struct-set}
 use Rattle.scope.specs.BodyRules.{Scope, value, values, allowed, fault, test, need, andRuled, takes, changeable, fieldsOf, planOf}
@@ -21,8 +22,9 @@ use Rattle.type_table.specs.Answers.{shapeForm}
 use Rattle.body_state.specs.declared.Values
 use Rattle.body_state.specs.declared.Planned.{Planned}
 use Rattle.body_state.specs.declared.Planned
-use Rattle.body_state.specs.Standing.{valuesOf, plannedOf}
-use Rattle.body_state.proofs.Answers.{codes-there, codes-past}
+use Rattle.body_state.specs.Layout.{codeBound}
+use Rattle.body_state.specs.State.{valuesOf, plannedOf}
+use Rattle.body_state.proofs.Answers.{codes-there, codes-beyond}
 use Rattle.body_plan_parts.specs.Planning.{contextOn, Follows, Takes, CodeIs}
 use Rattle.body_plan_parts.proofs.Steps.{found-then, need-then}
 use Rattle.body_plan_parts.proofs.Words.{wants-none, wants-value, gives-none, gives-value}
@@ -35,7 +37,7 @@ use Rattle.body_plan_structs.specs.Structs.{fieldsRuled, fieldRuled, str
 -- struct_of
 
 module _ (codes : List ℕ) (ts : Types) (count x : ℕ) where
-  pub struct-out : count ≤ x → StructOf codes ts count x (Fields.the-variants.Fault 6)
+  pub struct-out : count ≤ x → StructOf codes ts count x (Fields.the-variants.Fault outOfReach)
   unfolding structAt fieldsRuled
   struct-out h =
       record { is = rw (le-ltb x count h); low = λ first n e. impossible cc }
@@ -45,7 +47,7 @@ module _ (codes : List ℕ) (ts : Types) (count x : ℕ) where
     unfolding structAt fieldsRuled
     struct-there q = record { is = rw (lt-ltb x count h, e, q); low = λ first n f. h }
 
-    pub struct-func : {first n second m : ℕ} → s ≡ Shape.the-variants.Func first n second m → StructOf codes ts count x (Fields.the-variants.Fault 23)
+    pub struct-func : {first n second m : ℕ} → s ≡ Shape.the-variants.Func first n second m → StructOf codes ts count x (Fields.the-variants.Fault badStruct)
     unfolding structAt fieldsRuled
     struct-func q =
         record { is = rw (lt-ltb x count h, e, q); low = λ first n f. impossible cc }
@@ -72,11 +74,11 @@ module _ {codes : List ℕ} {ts : Types} {count x : ℕ} {r : Fields} (a : Struc
           low = λ k f. let same : c ≡ k = cc in (a .low first n q, rw (← same) (w .small));
         }
 
-    pub field-past : (i : ℕ) → n ≤ i → FieldOf ts count x i (Field.the-variants.Fault 23)
+    pub field-beyond : (i : ℕ) → n ≤ i → FieldOf ts count x i (Field.the-variants.Fault badStruct)
     unfolding fieldAt fieldRuled
-    field-past i h =
+    field-beyond i h =
         record {
-          is = rw (struct-found, codes-past fieldAtCode codes first n i h);
+          is = rw (struct-found, codes-beyond fieldAtCode codes first n i h);
           low = λ k f. impossible cc;
         }
 
@@ -85,7 +87,7 @@ module _ {codes : List ℕ} {ts : Types} {count x : ℕ} {r : Fields} (a : Struc
   field-refused i q =
       record { is = rw (struct-refused q); low = λ k f. impossible cc }
 
-pub ruleset finding-exits = (struct-out, struct-there, struct-func, field-there, field-past, field-refused)
+pub ruleset finding-exits = (struct-out, struct-there, struct-func, field-there, field-beyond, field-refused)
 
 -- struct.get and struct.set
 
@@ -93,13 +95,13 @@ get-is : (ts : Types) (count x i : ℕ) (locals results : List Val) (here : Scop
     ≡ andRuled (fieldAt ts count x i) (λ f. takes (value (nullable (defined x)) ∷ []) (values (f .holds ∷ [])))
 unfolding planOf fieldAt structAt
 get-is ts count x i locals results here =
-    found-then (ltb x count && true) 6 (fieldsOf (ts x .form)) 23 _ ∙ need-then (test (ltb x count && true) 6 (need (fieldsOf (ts x .form)) 23 allowed)) (λ fs. getElem? fs i) 23 _
+    found-then (ltb x count && true) outOfReach (fieldsOf (ts x .form)) badStruct _ ∙ need-then (test (ltb x count && true) outOfReach (need (fieldsOf (ts x .form)) badStruct allowed)) (λ fs. getElem? fs i) badStruct _
 
 set-is : (ts : Types) (count x i : ℕ) (locals results : List Val) (here : Scope) → planOf (contextOn ts count locals results) here (struct-set x i)
     ≡ andRuled (fieldAt ts count x i) (λ f. changeable f (takes (value (f .holds) ∷ value (nullable (defined x)) ∷ []) (values [])))
 unfolding planOf fieldAt structAt
 set-is ts count x i locals results here =
-    found-then (ltb x count && true) 6 (fieldsOf (ts x .form)) 23 _ ∙ need-then (test (ltb x count && true) 6 (need (fieldsOf (ts x .form)) 23 allowed)) (λ fs. getElem? fs i) 23 _
+    found-then (ltb x count && true) outOfReach (fieldsOf (ts x .form)) badStruct _ ∙ need-then (test (ltb x count && true) outOfReach (need (fieldsOf (ts x .form)) badStruct allowed)) (λ fs. getElem? fs i) badStruct _
 
 module _ {ts : Types} {count x i : ℕ} {r : Field} (a : FieldOf ts count x i r) where
   refused-is : {m : ℕ} → r ≡ Field.the-variants.Fault m → fieldAt ts count x i ≡ fault m
@@ -119,14 +121,14 @@ module _ {ts : Types} {count x i : ℕ} {r : Field} (a : FieldOf ts count x i r)
     unfolding fieldRuled
     found-is = sym (a .is) ∙ rw q
 
-    pub field-small : Fits w16 count → x < 65_536
-    field-small f = let low = a .low c q .0 in let few : count < 65_536 = f .fits in omega arith
+    pub field-small : Fits w16 count → x < 2 ^ 16
+    field-small f = let low = a .low c q .0 in let few : count < 2 ^ 16 = f .fits in omega arith
 
     module _ (codes : List ℕ) {k : ℕ} (object : CodeIs (ref true (defined x)) k) {p : Planned} where
       pub get-planned : Takes (k + 3) 0 (Values.the-variants.Types 0 0) (c / 2 + 1) p → Follows codes ts count (struct-get x i) p
       unfolding valuesOf codesAt fieldAtCode
       get-planned t =
-          let small : c / 2 < 1_048_576 = omega (arith, a .low c q .1) in
+          let small : c / 2 < codeBound = omega (arith, a .low c q .1) in
           record {
             is = λ locals results here.
                 rw (get-is ts count x i locals results here, found-is, t .is codes, wants-value k, object .is, wants-none, gives-value small);
@@ -140,7 +142,7 @@ module _ {ts : Types} {count x i : ℕ} {r : Field} (a : FieldOf ts count x i r)
                 rw (set-is ts count x i locals results here, found-is, eq-eqb (c % 2) 1 odd, t .is codes, wants-value k, wants-value (c / 2), object .is, gives-none);
           }
 
-    pub set-fixed : (codes : List ℕ) → (c % 2 ≡ 1 → ⊥) → Follows codes ts count (struct-set x i) (Planned.the-variants.Fault 24)
+    pub set-fixed : (codes : List ℕ) → (c % 2 ≡ 1 → ⊥) → Follows codes ts count (struct-set x i) (Planned.the-variants.Fault fieldFixed)
     unfolding plannedOf fieldAtCode
     set-fixed codes even = record { is = λ locals results here. rw (set-is ts count x i locals results here, found-is, ne-eqb (c % 2) 1 even) }
 

@@ -1,5 +1,5 @@
 -- Each way out of the plans that make a struct.
-use Prim.Native.Nat.{ℕ, _+_, _<_}
+use Prim.Native.Nat.{ℕ, _+_, _<_, _^_}
 use mathlib.Core.Path.{_≡_, sym, _∙_}
 use mathlib.Core.Bool.{true, false, _&&_}
 use mathlib.Core.Option.{none, some}
@@ -8,6 +8,7 @@ use native.Mathlib.Omega.{arith}
 use lib.Dec.{ltb}
 use mir.Syntax.{w16}
 use mir.Val.{Fits}
+use Rattle.scope.specs.Refusals.{outOfReach, badStruct}
 use Rattle.scope.specs.Lists.{isNone}
 use Rattle.scope.specs.Syntax.{exact, Val, ref, nullable, nonNull, Types}
 use Rattle.scope.specs.Instructions.{struct-new, struct-new-default, struct-new-desc, struct-new-default-desc}
@@ -19,7 +20,7 @@ use Rattle.type_table.specs.declared.Link
 use Rattle.body_state.specs.declared.Values
 use Rattle.body_state.specs.declared.Planned.{Planned}
 use Rattle.body_state.specs.declared.Planned
-use Rattle.body_state.specs.Standing.{valuesOf, plannedOf}
+use Rattle.body_state.specs.State.{valuesOf, plannedOf}
 use Rattle.body_plan_parts.specs.Planning.{contextOn, Follows, Takes, CodeIs, DescriptorOf}
 use Rattle.body_plan_parts.proofs.Steps.{found-then, test-then, pair-then}
 use Rattle.body_plan_parts.proofs.Words.{wants-none, wants-value, gives-value}
@@ -53,7 +54,7 @@ module _ {codes : List ℕ} {ts : Types} {count x : ℕ} {r : Fields} (a : Struc
       unfolding fieldsRuled undescribedAt
       undescribed-is = record { is = rw (struct-found a q, none-is); low = λ i k f. a .low first n q }
 
-      pub described-not : Described codes ts count x (Pair.the-variants.Fault 23)
+      pub described-not : Described codes ts count x (Pair.the-variants.Fault badStruct)
       unfolding pairRuled describedAt
       described-not =
           record {
@@ -65,7 +66,7 @@ module _ {codes : List ℕ} {ts : Types} {count x : ℕ} {r : Fields} (a : Struc
       some-is : ts x .descriptor ≡ some y
       some-is = sym (b .is) ∙ rw e
 
-      pub undescribed-not : Undescribed codes ts count x (Fields.the-variants.Fault 23)
+      pub undescribed-not : Undescribed codes ts count x (Fields.the-variants.Fault badStruct)
       unfolding fieldsRuled undescribedAt
       undescribed-not =
           record {
@@ -89,26 +90,26 @@ module _ (ts : Types) (count x : ℕ) (locals results : List Val) (here : Scope)
   new-is : planOf (contextOn ts count locals results) here (struct-new x)
       ≡ andRuled (undescribedAt ts count x) (λ fs. takes (fromTop (holdsOf fs)) (values (nonNull (exact x) ∷ [])))
   unfolding planOf structAt undescribedAt
-  new-is = found-then (ltb x count && true) 6 (fieldsOf (ts x .form)) 23 _ ∙ test-then (structAt ts count x) (isNone (ts x .descriptor)) 23 _
+  new-is = found-then (ltb x count && true) outOfReach (fieldsOf (ts x .form)) badStruct _ ∙ test-then (structAt ts count x) (isNone (ts x .descriptor)) badStruct _
 
   default-is : planOf (contextOn ts count locals results) here (struct-new-default x)
       ≡ andRuled (undescribedAt ts count x) (λ fs. defaulted fs (takes [] (values (nonNull (exact x) ∷ []))))
   unfolding planOf structAt undescribedAt
-  default-is = found-then (ltb x count && true) 6 (fieldsOf (ts x .form)) 23 _ ∙ test-then (structAt ts count x) (isNone (ts x .descriptor)) 23 _
+  default-is = found-then (ltb x count && true) outOfReach (fieldsOf (ts x .form)) badStruct _ ∙ test-then (structAt ts count x) (isNone (ts x .descriptor)) badStruct _
 
   desc-is : planOf (contextOn ts count locals results) here (struct-new-desc x)
       ≡ andRuled (describedAt ts count x) (λ p. takes (value (nullable (exact (p .1))) ∷ fromTop (holdsOf (p .0))) (values (nonNull (exact x) ∷ [])))
   unfolding planOf structAt describedAt
   desc-is =
-      found-then (ltb x count && true) 6 (fieldsOf (ts x .form)) 23 _
-      ∙ pair-then (structAt ts count x) (ts x .descriptor) 23 (λ fs y. takes (value (nullable (exact y)) ∷ fromTop (holdsOf fs)) (values (nonNull (exact x) ∷ [])))
+      found-then (ltb x count && true) outOfReach (fieldsOf (ts x .form)) badStruct _
+      ∙ pair-then (structAt ts count x) (ts x .descriptor) badStruct (λ fs y. takes (value (nullable (exact y)) ∷ fromTop (holdsOf fs)) (values (nonNull (exact x) ∷ [])))
 
   default-desc-is : planOf (contextOn ts count locals results) here (struct-new-default-desc x)
       ≡ andRuled (describedAt ts count x) (λ p. defaulted (p .0) (takes (value (nullable (exact (p .1))) ∷ []) (values (nonNull (exact x) ∷ []))))
   unfolding planOf structAt describedAt
   default-desc-is =
-      found-then (ltb x count && true) 6 (fieldsOf (ts x .form)) 23 _
-      ∙ pair-then (structAt ts count x) (ts x .descriptor) 23 (λ fs y. defaulted fs (takes (value (nullable (exact y)) ∷ []) (values (nonNull (exact x) ∷ []))))
+      found-then (ltb x count && true) outOfReach (fieldsOf (ts x .form)) badStruct _
+      ∙ pair-then (structAt ts count x) (ts x .descriptor) badStruct (λ fs y. defaulted fs (takes (value (nullable (exact y)) ∷ []) (values (nonNull (exact x) ∷ []))))
 
 -- struct.new and its default
 
@@ -131,8 +132,8 @@ module _ {codes : List ℕ} {ts : Types} {count x : ℕ} {r : Fields} (a : Undes
     unfolding fieldsRuled
     fields-are = sym (a .is) ∙ rw q
 
-    pub struct-small : Fits w16 count → x < 65_536
-    struct-small f = let low = a .low first n q in let few : count < 65_536 = f .fits in omega arith
+    pub struct-small : Fits w16 count → x < 2 ^ 16
+    struct-small f = let low = a .low first n q in let few : count < 2 ^ 16 = f .fits in omega arith
 
     pub new-planned : {k : ℕ} → CodeIs (ref false (exact x)) k → {p : Planned} → Takes 0 0 (Values.the-variants.Fields first n) (k + 1) p → Follows codes ts count (struct-new x) p
     unfolding valuesOf
@@ -168,10 +169,10 @@ module _ {codes : List ℕ} {ts : Types} {count x : ℕ} {r : Pair} (a : Describ
     unfolding pairRuled
     pair-is = sym (a .is) ∙ rw q
 
-    pub described-small : Fits w16 count → x < 65_536
-    described-small f = let low = a .low first n y q .0 in let few : count < 65_536 = f .fits in omega arith
+    pub described-small : Fits w16 count → x < 2 ^ 16
+    described-small f = let low = a .low first n y q .0 in let few : count < 2 ^ 16 = f .fits in omega arith
 
-    pub descriptor-small : y < 65_536
+    pub descriptor-small : y < 2 ^ 16
     descriptor-small = a .low first n y q .1
 
     module _ {j : ℕ} (top : CodeIs (ref true (exact y)) j) where

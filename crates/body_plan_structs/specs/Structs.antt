@@ -1,5 +1,5 @@
 -- What the questions about structs answer, by scope's BodyRules.antt over what the table says.
-use Prim.Native.Nat.{ℕ, _/_, _<_}
+use Prim.Native.Nat.{ℕ, _/_, _<_, _^_}
 use mathlib.Core.Path.{_≡_}
 use mathlib.Core.Bool.{Bool, true, false, cond, _&&_}
 use mathlib.Core.List.{List, [], _∷_}
@@ -12,7 +12,7 @@ use Rattle.scope.specs.Syntax
 use Rattle.scope.specs.BodyRules.{values, Ruled, allowed, fault, test, need, andRuled, takes, fieldsOf, holdsOf, hasDefault}
 use Rattle.type_table.specs.View.{valAtCode, fieldAtCode, codesAt}
 use Rattle.body_state.specs.declared.Planned.{Planned}
-use Rattle.body_state.specs.Standing.{wantsAt, plannedOf}
+use Rattle.body_state.specs.State.{wantsAt, plannedOf}
 use Rattle.body_plan_structs.specs.declared.Fields.{Fields}
 use Rattle.body_plan_structs.specs.declared.Fields
 use Rattle.body_plan_structs.specs.declared.Pair.{Pair}
@@ -42,7 +42,7 @@ pub record StructOf (codes : List ℕ) (ts : Types) (count x : ℕ) (r : Fields)
 
 pub record FieldOf (ts : Types) (count x i : ℕ) (r : Field) : Type 0 where
   pub is : fieldRuled r ≡ fieldAt ts count x i
-  pub low : (c : ℕ) → r ≡ Field.the-variants.Is c → (x < count) × (c < 65_536)
+  pub low : (c : ℕ) → r ≡ Field.the-variants.Is c → (x < count) × (c < 2 ^ 16)
 
 -- the fields of a struct without a descriptor
 unfoldable pub undescribedAt : Types → ℕ → ℕ → Ruled (List Syntax.Field)
@@ -62,7 +62,7 @@ pairRuled codes (Pair.the-variants.Are first n y) = allowed (codesAt fieldAtCode
 
 pub record Described (codes : List ℕ) (ts : Types) (count x : ℕ) (r : Pair) : Type 0 where
   pub is : pairRuled codes r ≡ describedAt ts count x
-  pub low : (first n y : ℕ) → r ≡ Pair.the-variants.Are first n y → (x < count) × (y < 65_536)
+  pub low : (first n y : ℕ) → r ≡ Pair.the-variants.Are first n y → (x < count) × (y < 2 ^ 16)
 
 -- the types of n fields, or n types
 abbrev pub typesIn : Bool → List ℕ → ℕ → ℕ → List Val

@@ -1,18 +1,15 @@
 // The rules of the instructions that make a struct or go to a field: struct.new and its default, both with a descriptor
 // too, struct.get and struct.set. The tests stand in document 01's order: 6, 23, 24, 29.
-use body_plan_parts::BAD_STRUCT;
-use body_plan_parts::FIELD_FIXED;
 use body_plan_parts::GIVEN;
-use body_plan_parts::NO_DEFAULT;
-use body_plan_parts::OUT_OF_REACH;
 use body_plan_parts::WANTED;
 use body_state::Planned;
 use body_state::Values;
+use scope::refusals;
 use type_table::Link;
 use type_table::Shape;
 use type_table::ValKind;
 ghost use mathlib.Core.Path.{_≡_};
-ghost use Prim.Native.Nat.{_<_};
+ghost use Prim.Native.Nat.{_<_, _^_};
 ghost use Rattle.scope.specs.Instructions.{struct-new, struct-new-default, struct-new-desc, struct-new-default-desc, struct-get, struct-set};
 ghost use Rattle.scope.specs.BodyRules.{hasDefault};
 ghost use Rattle.type_table.specs.View.{valAtCode, view};
@@ -45,10 +42,10 @@ fn struct_of(rows: &[u16], codes: &[u16], types: u16, x: u64) -> Fields
         let shape = type_table::shape_of(rows, codes, x);
         match shape {
             Shape::Struct(first, n) => Fields::Are(first, n),
-            Shape::Func(_, _, _, _) => Fields::Fault(BAD_STRUCT),
+            Shape::Func(_, _, _, _) => Fields::Fault(refusals::BAD_STRUCT),
         }
     } else {
-        Fields::Fault(OUT_OF_REACH)
+        Fields::Fault(refusals::OUT_OF_REACH)
     }
 }
 
@@ -64,7 +61,7 @@ fn field_of(rows: &[u16], codes: &[u16], types: u16, x: u64, i: u64) -> Field
                 let code = lent_u16::word(codes, first as u64 + i);
                 return Field::Is(code);
             }
-            Field::Fault(BAD_STRUCT)
+            Field::Fault(refusals::BAD_STRUCT)
         }
     }
 }
@@ -139,18 +136,18 @@ pub fn struct_set(rows: &[u16], codes: &[u16], types: u16, x: u64, i: u64) -> Pl
                     0,
                 );
             }
-            Planned::Fault(FIELD_FIXED)
+            Planned::Fault(refusals::FIELD_FIXED)
         }
     }
 }
 
 // What struct.new_default gives where each field has a default: it takes `top`.
 fn defaulted(codes: &[u16], first: u32, n: u32, top: u64, x: u64) -> Planned
-    requires { ⌜ x < 65536 ⌝ }
+    requires { ⌜ x < 2 ^ 16 ⌝ }
     ensures { λ r. ⌜ Defaulted (now (codes .entry)) first n top x r ⌝ }
 {
     if !all_default(codes, first, n, true) {
-        return Planned::Fault(NO_DEFAULT);
+        return Planned::Fault(refusals::NO_DEFAULT);
     }
     let made = body_plan_parts::exact_code(false, x);
     body_plan_parts::takes(top, 0, Values::Types(0, 0), made + GIVEN)
@@ -167,7 +164,7 @@ fn undescribed(rows: &[u16], codes: &[u16], types: u16, x: u64) -> Fields
             let descriptor = body_plan_parts::descriptor_of(rows, codes, x);
             match descriptor {
                 Link::Nothing => Fields::Are(first, n),
-                Link::To(_) => Fields::Fault(BAD_STRUCT),
+                Link::To(_) => Fields::Fault(refusals::BAD_STRUCT),
             }
         }
     }
@@ -183,7 +180,7 @@ fn described(rows: &[u16], codes: &[u16], types: u16, x: u64) -> Pair
         Fields::Are(first, n) => {
             let descriptor = body_plan_parts::descriptor_of(rows, codes, x);
             match descriptor {
-                Link::Nothing => Pair::Fault(BAD_STRUCT),
+                Link::Nothing => Pair::Fault(refusals::BAD_STRUCT),
                 Link::To(y) => Pair::Are(first, n, y),
             }
         }

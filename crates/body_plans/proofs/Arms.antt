@@ -10,11 +10,11 @@ use Rattle.type_table.specs.View.{heapAtCode, codesAt, view}
 use Rattle.body_immediates.specs.declared.Instruction.{Instruction}
 use Rattle.body_immediates.specs.declared.Instruction
 use Rattle.body_state.specs.declared.Scene.{Scene}
-use Rattle.body_state.specs.declared.Stand.{Stand}
+use Rattle.body_state.specs.declared.Check.{Check}
 use Rattle.body_state.specs.declared.Values
 use Rattle.body_state.specs.declared.Planned.{Planned}
 use Rattle.body_state.specs.declared.Planned
-use Rattle.body_state.specs.Standing.{valAtWord, valuesOf, plannedOf, setsAt, contextAt, stateAt}
+use Rattle.body_state.specs.State.{valAtWord, valuesOf, plannedOf, setsAt, contextAt, stateAt}
 use Rattle.body_plan_parts.specs.Planning.{Follows, Anywhere, Takes, Stops}
 use Rattle.body_plan_parts.proofs.Words.{wants-none, wants-any, wants-reference, wants-eq-ref, gives-none, gives-i32}
 use Rattle.body_plan_casts.specs.Casts.{Tests}
@@ -45,7 +45,7 @@ module _ (codes : List ℕ) (c : Context) (s : State) (i : Instruction) where
   unfolding actOf judgeInstr
   does e f p g = rw (e, f, g)
 
-module _ (rows codes work : List ℕ) (k : Scene) (st : Stand) (i : Instruction) {j : Instruction} (e : i ≡ j) {o : Op} {p : Planned} where
+module _ (rows codes work : List ℕ) (k : Scene) (st : Check) (i : Instruction) {j : Instruction} (e : i ≡ j) {o : Op} {p : Planned} where
   pub follows : Follows codes (view rows codes) (k .types) o p → instrOf j ≡ op o → actOf codes (contextAt rows codes work k) (stateAt work (k .locals) st) (Act.the-variants.Does p) ≡ judgeInstr (contextAt rows codes work k) (stateAt work (k .locals) st) (instrOf i)
   unfolding contextAt stateAt
   follows a f = does codes _ _ i e f p (a .is _ _ _)
@@ -68,7 +68,7 @@ module _ (rows codes work : List ℕ) (k : Scene) (st : Stand) (i : Instruction)
   pub sets : Sets (codesAt valAtWord work 0 (k .locals)) o p → instrOf j ≡ op o → actOf codes (contextAt rows codes work k) (stateAt work (k .locals) st) (Act.the-variants.Does p) ≡ judgeInstr (contextAt rows codes work k) (stateAt work (k .locals) st) (instrOf i)
   sets a f = uses (a .is _) f
 
-pub tests : (rows codes work : List ℕ) (k : Scene) (st : Stand) (i : Instruction) {n : Bool} {h : ℕ} → i ≡ Instruction.the-variants.RefTest n h → {p : Planned} → Tests codes (view rows codes) (k .types) (heapAtCode h) p → actOf codes (contextAt rows codes work k) (stateAt work (k .locals) st) (Act.the-variants.Does p) ≡ judgeInstr (contextAt rows codes work k) (stateAt work (k .locals) st) (instrOf i)
+pub tests : (rows codes work : List ℕ) (k : Scene) (st : Check) (i : Instruction) {n : Bool} {h : ℕ} → i ≡ Instruction.the-variants.RefTest n h → {p : Planned} → Tests codes (view rows codes) (k .types) (heapAtCode h) p → actOf codes (contextAt rows codes work k) (stateAt work (k .locals) st) (Act.the-variants.Does p) ≡ judgeInstr (contextAt rows codes work k) (stateAt work (k .locals) st) (instrOf i)
 unfolding instrOf
 tests rows codes work k st i {n} e a = follows rows codes work k st i e (a .is n) refl
 

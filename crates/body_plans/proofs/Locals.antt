@@ -1,5 +1,5 @@
 -- Each way out of the plans of local.get, local.set and local.tee.
-use Prim.Native.Nat.{ℕ, zero, suc, _+_, _-_, _<_}
+use Prim.Native.Nat.{ℕ, zero, suc, _+_, _-_, _<_, _^_}
 use mathlib.Core.Path.{_≡_, sym, ap, _∙_}
 use mathlib.Core.Bool.{Bool, true, false, not}
 use mathlib.Core.Logic.{_⊎_, inl, inr}
@@ -12,6 +12,7 @@ use lib.Dec.{ltb}
 use borrow.Author.Tests.{ltb-true, ltb-false, not-true, not-false, ne-eqb}
 use mir.Syntax.{w16, w32, w64}
 use mir.Val.{Fits}
+use Rattle.scope.specs.Refusals.{absent, notSet}
 use Rattle.scope.specs.Instructions.{local-get, local-set, local-tee}
 use Rattle.scope.specs.BodyRules.{planOf}
 use Rattle.scope.proofs.Truths.{decided, none-is-not-some}
@@ -21,8 +22,8 @@ use Rattle.body_state.specs.declared.Local
 use Rattle.body_state.specs.declared.Values
 use Rattle.body_state.specs.declared.Planned.{Planned}
 use Rattle.body_state.specs.declared.Planned
-use Rattle.body_state.specs.Standing.{valAtWord, valuesOf, plainOf, plannedOf, isSetAt, setsAt, LocalOf}
-use Rattle.body_state.proofs.Answers.{codes-past}
+use Rattle.body_state.specs.State.{valAtWord, valuesOf, plainOf, plannedOf, isSetAt, setsAt, LocalOf}
+use Rattle.body_state.proofs.Answers.{codes-beyond}
 use Rattle.body_plan_parts.specs.Planning.{Takes}
 use Rattle.body_plan_parts.proofs.Words.{wants-none, wants-value, gives-none, gives-value}
 use Rattle.body_plans.specs.Uses.{Uses, Sets}
@@ -43,15 +44,15 @@ module _ {work : List ℕ} {count x : ℕ} {r : Local} (a : LocalOf work count x
   absent-is e = sym (a .is) ∙ rw e
 
   module _ (e : r ≡ Local.the-variants.Absent) where
-    pub get-absent : (isSet : List Bool) → Uses (codesAt valAtWord work 0 count) isSet (local-get x) (Planned.the-variants.Fault 21)
+    pub get-absent : (isSet : List Bool) → Uses (codesAt valAtWord work 0 count) isSet (local-get x) (Planned.the-variants.Fault absent)
     unfolding planOf plannedOf
     get-absent isSet = record { is = λ codes ts count results labels. rw (absent-is e) }
 
-    pub set-absent : Sets (codesAt valAtWord work 0 count) (local-set x) (Planned.the-variants.Fault 21)
+    pub set-absent : Sets (codesAt valAtWord work 0 count) (local-set x) (Planned.the-variants.Fault absent)
     unfolding planOf plannedOf
     set-absent = record { is = λ isSet. record { is = λ codes ts count results labels. rw (absent-is e) } }
 
-    pub tee-absent : Sets (codesAt valAtWord work 0 count) (local-tee x) (Planned.the-variants.Fault 21)
+    pub tee-absent : Sets (codesAt valAtWord work 0 count) (local-tee x) (Planned.the-variants.Fault absent)
     unfolding planOf plannedOf
     tee-absent = record { is = λ isSet. record { is = λ codes ts count results labels. rw (absent-is e) } }
 
@@ -64,13 +65,13 @@ module _ {work : List ℕ} {count x : ℕ} {r : Local} (a : LocalOf work count x
       where
         go : (ltb x count ≡ true) ⊎ (ltb x count ≡ false) → x < count
         go (inl p) = ltb-true x count p
-        go (inr p) = absurd (none-is-not-some (sym (codes-past valAtWord work 0 count x (ltb-false x count p)) ∙ type-is))
+        go (inr p) = absurd (none-is-not-some (sym (codes-beyond valAtWord work 0 count x (ltb-false x count p)) ∙ type-is))
 
     pub local-fits : Fits w16 count → Fits w32 x
-    local-fits f = let few : count < 65_536 = f .fits in let low = local-low in record { fits = omega arith }
+    local-fits f = let few : count < 2 ^ 16 = f .fits in let low = local-low in record { fits = omega arith }
 
     pub mark-fits : Fits w16 count → Fits w64 (x + 1)
-    mark-fits f = let few : count < 65_536 = f .fits in let low = local-low in record { fits = omega arith }
+    mark-fits f = let few : count < 2 ^ 16 = f .fits in let low = local-low in record { fits = omega arith }
 
     pub given-fits : Fits w64 (c + 1)
     given-fits = let small = a .small c e in record { fits = omega arith }
@@ -82,7 +83,7 @@ module _ {work : List ℕ} {count x : ℕ} {r : Local} (a : LocalOf work count x
       set-is : getD (setsAt work m 0 count) x false ≡ s
       set-is = sets-there work m 0 count x local-low ∙ ap (isSetAt work m) (zero-add x) ∙ sym b
 
-      pub get-unset : not s ≡ true → Uses (codesAt valAtWord work 0 count) (setsAt work m 0 count) (local-get x) (Planned.the-variants.Fault 22)
+      pub get-unset : not s ≡ true → Uses (codesAt valAtWord work 0 count) (setsAt work m 0 count) (local-get x) (Planned.the-variants.Fault notSet)
       unfolding planOf plannedOf
       get-unset t = record { is = λ codes ts count results labels. rw (type-is, set-is, not-true s t) }
 

@@ -5,7 +5,7 @@ use mathlib.Core.List.{List}
 use Rattle.scope.specs.Instructions.{block, loop, end}
 use Rattle.scope.specs.BodyRules.{Context, Ruled, andRuled}
 use Rattle.scope.specs.Bodies.{State, Next, doPlan, judgeInstr}
-use Rattle.body_state.specs.Standing.{plannedOf}
+use Rattle.body_state.specs.State.{plannedOf}
 use Rattle.body_plans.specs.declared.Act.{Act}
 use Rattle.body_plans.specs.declared.Act
 use Rattle.body_decoded.specs.Decoded.{blockResults}

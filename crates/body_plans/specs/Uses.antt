@@ -8,7 +8,7 @@ use Rattle.scope.specs.Syntax.{Val, Types}
 use Rattle.scope.specs.Instructions.{Op}
 use Rattle.scope.specs.BodyRules.{planOf}
 use Rattle.body_state.specs.declared.Planned.{Planned}
-use Rattle.body_state.specs.Standing.{plannedOf}
+use Rattle.body_state.specs.State.{plannedOf}
 use Rattle.body_plan_parts.specs.Planning.{contextOn}
 
 -- their types and which of them are set

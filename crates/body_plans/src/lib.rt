@@ -1,28 +1,27 @@
 // The rule of each instruction: its tests in document 01's order (6, 21, 23, 24, 25, 29, 22), then what it takes and gives.
 // Nothing is written here. Each answer is that of scope's BodyRules.antt over what the table and the scratch say. The plans
-// of locals stand here; those of structs, casts and branches in struct_plans, cast_plans and branch_plans.
+// of locals stand here; those of structs, casts and branches in body_plan_structs, body_plan_casts and body_plan_branches.
 use body_immediates::Instruction;
 use body_plan_branches::Reference;
-use body_plan_parts::ABSENT;
 use body_plan_parts::ANY_REFERENCE;
 use body_plan_parts::ANY_VALUE;
 use body_plan_parts::EQ_REF;
 use body_plan_parts::GIVEN;
 use body_plan_parts::I32;
-use body_plan_parts::NOT_SET;
 use body_plan_parts::WANTED;
+use body_state::Check;
 use body_state::Local;
 use body_state::Plain;
 use body_state::Planned;
 use body_state::Scene;
-use body_state::Stand;
 use body_state::Values;
+use scope::refusals;
 ghost use mathlib.Core.Path.{_≡_};
 ghost use Prim.Native.Nat.{_+_};
 ghost use Rattle.scope.specs.Instructions.{local-get, local-set, local-tee};
 ghost use Rattle.scope.specs.Bodies.{judgeInstr};
 ghost use Rattle.type_table.specs.View.{codesAt};
-ghost use Rattle.body_state.specs.Standing.{valAtWord, setsAt, contextAt, stateAt};
+ghost use Rattle.body_state.specs.State.{valAtWord, setsAt, contextAt, stateAt};
 ghost use Rattle.body_decoded.specs.Decoded.{instrOf};
 ghost use Rattle.body_plans.specs.Acts.{actOf};
 ghost use Rattle.body_plans.specs.Uses.{Uses, Sets};
@@ -41,10 +40,10 @@ fn local_get(work: &[u32], locals: u16, depth: u16, x: u64) -> Planned
 {
     let local = body_state::local_of(work, locals, x);
     match local {
-        Local::Absent => Planned::Fault(ABSENT),
+        Local::Absent => Planned::Fault(refusals::ABSENT),
         Local::Is(code) => {
             if !body_state::is_set(work, depth as u32 + 1, x as u32) {
-                return Planned::Fault(NOT_SET);
+                return Planned::Fault(refusals::NOT_SET);
             }
             body_plan_parts::takes(0, 0, Values::Types(0, 0), code + GIVEN)
         }
@@ -57,7 +56,7 @@ fn local_set(work: &[u32], locals: u16, x: u64) -> Planned
 {
     let local = body_state::local_of(work, locals, x);
     match local {
-        Local::Absent => Planned::Fault(ABSENT),
+        Local::Absent => Planned::Fault(refusals::ABSENT),
         Local::Is(code) => {
             let top = code + WANTED;
             let marks = x + 1;
@@ -80,7 +79,7 @@ fn local_tee(work: &[u32], locals: u16, x: u64) -> Planned
 {
     let local = body_state::local_of(work, locals, x);
     match local {
-        Local::Absent => Planned::Fault(ABSENT),
+        Local::Absent => Planned::Fault(refusals::ABSENT),
         Local::Is(code) => {
             let top = code + WANTED;
             let gives = code + GIVEN;
@@ -104,16 +103,19 @@ pub fn act_of(
     codes: &[u16],
     work: &[u32],
     scene: Scene,
-    stand: Stand,
+    check: Check,
     i: Instruction,
 ) -> Act
-    ensures { λ r. ⌜ actOf (now (codes .entry)) (contextAt (now (rows .entry)) (now (codes .entry)) (now (work .entry)) scene) (stateAt (now (work .entry)) (scene .locals) stand) r ≡ judgeInstr (contextAt (now (rows .entry)) (now (codes .entry)) (now (work .entry)) scene) (stateAt (now (work .entry)) (scene .locals) stand) (instrOf i) ⌝ }
+    ensures { λ r.
+        let context = contextAt (now (rows .entry)) (now (codes .entry)) (now (work .entry)) scene in
+        let state = stateAt (now (work .entry)) (scene .locals) check in
+        ⌜ actOf (now (codes .entry)) context state r ≡ judgeInstr context state (instrOf i) ⌝ }
 {
     let types = scene.types;
     let locals = scene.locals;
     let first = scene.first;
     let results = scene.results;
-    let depth = stand.depth;
+    let depth = check.depth;
     match i {
         Instruction::Unreachable => {
             let plan = body_plan_parts::stops(Values::Types(0, 0));

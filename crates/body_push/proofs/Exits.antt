@@ -7,11 +7,13 @@ use mathlib.Core.List.{List, [], _∷_, _++_}
 use native.Mathlib.Omega.{arith}
 use lib.ListN.{length, length-append}
 use borrow.Author.Tests.{ne-eqb}
+use Rattle.scope.specs.Sizes.{mostOperands}
 use Rattle.scope.specs.Syntax.{Val}
 use Rattle.scope.specs.Bodies.{onTop}
 use Rattle.scope.proofs.Impossible.{impossible}
 use Rattle.body_state.specs.declared.Values.{Values}
-use Rattle.body_state.specs.Standing.{operandAtCode, valAtWord, resultsAt, valuesOf, LengthOf}
+use Rattle.body_state.specs.Layout.{wordBound, codeBound}
+use Rattle.body_state.specs.State.{operandAtCode, valAtWord, resultsAt, valuesOf, LengthOf}
 use Rattle.body_operands.specs.Taking.{Room, Pushed}
 use Rattle.body_operands.proofs.Laws.{known-kept, on-top-append, pushed-none, pushed-more}
 use Rattle.body_push.specs.declared.Given.{Given}
@@ -45,7 +47,7 @@ nothing-back list e = record { is = λ codes. rw (none-back codes list e) }
 module _ (codes : List ℕ) (list : Values) {back : Bool} {work : List ℕ} {base height : ℕ} where
   pub back-room : Space work base height (backOf codes list back) → back ≡ true → Room work base height (length (valuesOf codes list))
   back-room s e =
-      let few : base + height + length (valuesOf codes list) ≤ 512 = rw (all-back codes list e) at (s .few) in
+      let few : base + height + length (valuesOf codes list) ≤ mostOperands = rw (all-back codes list e) at (s .few) in
       record { room = s .room; few = few }
 
   pub back-put : {work′ : List ℕ} → back ≡ true → Pushed work work′ base height (height + length (valuesOf codes list)) (onTop (valuesOf codes list)) → PutBack work work′ base height (backOf codes list back)
@@ -74,12 +76,12 @@ module _ {gives : ℕ} where
   module _ {work : List ℕ} {base height : ℕ} where
     pub gives-room : Space work base height (resultsAt gives) → (gives ≡ 0 → ⊥) → Room work base height 1
     gives-room s n =
-        let few : base + height + 1 ≤ 512 = rw (names-one n) at (s .few) in
+        let few : base + height + 1 ≤ mostOperands = rw (names-one n) at (s .few) in
         record { room = s .room; few = few }
 
-    pub gives-put : {work′ : List ℕ} → Pushed work work′ base height (height + 1) (operandAtCode (((gives - 1) % 1_048_576 + 2) % 4_294_967_296) ∷ []) → (gives ≡ 0 → ⊥) → PutBack work work′ base height (resultsAt gives)
+    pub gives-put : {work′ : List ℕ} → Pushed work work′ base height (height + 1) (operandAtCode (((gives - 1) % codeBound + 2) % wordBound) ∷ []) → (gives ≡ 0 → ⊥) → PutBack work work′ base height (resultsAt gives)
     unfolding valAtWord
-    gives-put p n = rw (names-one n) (record { pushed = rw (← known-kept {c = (gives - 1) % 1_048_576} (omega arith)) p })
+    gives-put p n = rw (names-one n) (record { pushed = rw (← known-kept {c = (gives - 1) % codeBound} (omega arith)) p })
 
     pub gives-not : gives ≡ 0 → PutBack work work base height (resultsAt gives)
     gives-not e = put-none work base height (names-none e)
@@ -91,14 +93,14 @@ module _ (codes : List ℕ) {list : Values} {back : Bool} {gives n g : ℕ} (a :
   unfolding givenOf
   all-long = length-append (backOf codes list back) (resultsAt gives) ∙ rw (a .is codes, b .is)
 
-  pub give-full : (work : List ℕ) (base height : ℕ) {most : ℕ} → most < base + (height + n + g) → 512 ≤ most → GivenTo work work base height (givenOf codes list back gives) Given.the-variants.Full
+  pub give-full : (work : List ℕ) (base height : ℕ) {most : ℕ} → most < base + (height + n + g) → mostOperands ≤ most → GivenTo work work base height (givenOf codes list back gives) Given.the-variants.Full
   give-full work base height h limit =
       record {
         gave = λ k e. impossible cc;
         full = λ e. record { many = omega (arith, all-long); same = refl };
       }
 
-  module _ {work : List ℕ} (l : Long work) {base height : ℕ} (h : base + (height + n + g) ≤ 512) where
+  module _ {work : List ℕ} (l : Long work) {base height : ℕ} (h : base + (height + n + g) ≤ mostOperands) where
     pub space-back : Space work base height (backOf codes list back)
     space-back = record { room = l .room; few = omega (arith, a .is codes) }
 

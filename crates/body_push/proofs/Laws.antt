@@ -6,13 +6,14 @@ use mathlib.Core.List.{List, _++_, map, reverse, append-nil}
 use native.Mathlib.Omega.{arith}
 use lib.ListN.{length, length-append, length-map, length-reverse}
 use borrow.Author.Tests.{le-leb, lt-leb}
+use Rattle.scope.specs.Sizes.{mostOperands}
 use Rattle.scope.specs.Refusals.{oversize}
 use Rattle.scope.specs.Lists.{sum}
 use Rattle.scope.specs.Syntax.{Val}
 use Rattle.scope.specs.BodyRules.{allowed, fault}
 use Rattle.scope.specs.Bodies.{Operand, known, onTop, outerOf, State, operandsIn, goesOn, within}
 use Rattle.body_state.specs.declared.Values.{Values}
-use Rattle.body_state.specs.Standing.{valuesOf, resultsAt, stack, framesAt, Rests}
+use Rattle.body_state.specs.State.{valuesOf, resultsAt, stack, framesAt, Rests}
 use Rattle.body_state.proofs.Alike.{stack-length, below-all}
 use Rattle.body_push.specs.Gives.{backOf, givenOf, Gave, TooMany}
 
@@ -40,10 +41,10 @@ module _ {work : List ℕ} {d base : ℕ} (rests : Rests work d base) (count hei
 
     pub within-sizes : {work′ : List ℕ} {h : ℕ} → Gave work work′ base height vs h → within (onThose work count d base height (onTop vs) dead isSet) ≡ allowed (goesOn (onThose work count d base height (onTop vs) dead isSet))
     within-sizes g =
-        let l : operandsIn (onThose work count d base height (onTop vs) dead isSet) ≤ 512 = omega (arith, on-top-all, g .high, g .few) in
-        rw (le-leb (operandsIn (onThose work count d base height (onTop vs) dead isSet)) 512 l)
+        let l : operandsIn (onThose work count d base height (onTop vs) dead isSet) ≤ mostOperands = omega (arith, on-top-all, g .high, g .few) in
+        rw (le-leb (operandsIn (onThose work count d base height (onTop vs) dead isSet)) mostOperands l)
 
     pub beyond-sizes : {work′ : List ℕ} → TooMany work work′ base height vs → within (onThose work count d base height (onTop vs) dead isSet) ≡ fault oversize
     beyond-sizes t =
-        let l : 512 < operandsIn (onThose work count d base height (onTop vs) dead isSet) = omega (arith, on-top-all, t .many) in
-        rw (lt-leb (operandsIn (onThose work count d base height (onTop vs) dead isSet)) 512 l)
+        let l : mostOperands < operandsIn (onThose work count d base height (onTop vs) dead isSet) = omega (arith, on-top-all, t .many) in
+        rw (lt-leb (operandsIn (onThose work count d base height (onTop vs) dead isSet)) mostOperands l)

@@ -1,10 +1,8 @@
 // The values that an instruction gives, put on the stack.
 use body_state::Values;
-ghost use Rattle.body_state.specs.Standing.{resultsAt};
+use scope::sizes;
+ghost use Rattle.body_state.specs.State.{resultsAt};
 ghost use Rattle.body_push.specs.Gives.{Long, BackLength, GivesLength, backOf, givenOf, Space, PutBack, GivenTo};
-
-// The most operands in all frames.
-pub const MOST_OPERANDS: u64 = 512;
 
 // How many values are put back.
 fn back_length(list: Values, back: bool) -> u32
@@ -36,7 +34,7 @@ fn push_gives(work: &mut [u32], gives: u64, base: u32, height: u32)
     ensures { λ r. ⌜ PutBack (now (work .entry)) (now (work .exit)) base height (resultsAt gives) ⌝ }
 {
     if gives != 0 {
-        let code = (gives - 1) % body_state::MOST;
+        let code = (gives - 1) % body_state::CODE_BOUND;
         body_operands::push(work, base, height, code + 2);
     }
 }
@@ -64,7 +62,7 @@ pub fn give(
     let g = gives_length(gives);
     let last = height as u64 + n as u64;
     let top = last + g as u64;
-    if MOST_OPERANDS < base as u64 + top {
+    if sizes::MOST_OPERANDS < base as u64 + top {
         return Given::Full;
     }
     push_back(codes, work, list, back, base, height);

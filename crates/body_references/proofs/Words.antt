@@ -12,7 +12,7 @@ use Rattle.scope.specs.Memory.{valCode}
 use Rattle.type_table.specs.View.{isOdd, numberAt, heapAtCode, valAtCode}
 use Rattle.type_table.proofs.Codes.{val-number, val-ref}
 use Rattle.type_table.proofs.CodesBack.{val-code}
-use Rattle.body_state.specs.Standing.{operandAtCode, wantedAtCode}
+use Rattle.body_state.specs.State.{operandAtCode, wantedAtCode}
 use Rattle.body_operands.proofs.Laws.{known-word, value-word}
 
 -- a word of a reference

@@ -1,21 +1,18 @@
 // The two instructions whose result depends on the reference that they take: ref.as_non_null and ref.get_desc.
 use body_operands::Take;
+use body_state::Check;
 use body_state::Scene;
-use body_state::Stand;
 use body_state::Step;
+use scope::refusals;
+use scope::sizes;
 ghost use mathlib.Core.Path.{_≡_};
 ghost use mathlib.Core.Bool.{cond};
 ghost use Rattle.scope.specs.Syntax.{nullable, nonNull, defined, exact};
 ghost use Rattle.scope.specs.BodyRules.{value};
 ghost use Rattle.scope.specs.Bodies.{known, fits, nonNullOf, within};
 ghost use Rattle.type_table.specs.View.{view};
-ghost use Rattle.body_state.specs.Standing.{operandAtCode, stack, contextAt, stateAt, Upright, Stepped};
+ghost use Rattle.body_state.specs.State.{operandAtCode, stack, contextAt, stateAt, Upright, Stepped};
 ghost use Rattle.body_references.specs.OneMore.{withTop, nonNullDone, descriptorDone};
-
-// By which number each rule is refused.
-const OVERSIZE: u64 = 4;
-
-const BAD_OPERAND: u64 = 20;
 
 // A non-null reference of unknown heap, and where the words of references begin.
 const UNKNOWN_REFERENCE: u32 = 1;
@@ -26,18 +23,23 @@ const REFERENCES: u32 = 6;
 const ANY_REFERENCE: u64 = 1;
 
 // One operand on top of those that are left of the frame's.
-fn put_operand(work: &mut [u32], locals: u16, stand: Stand, left: u32, o: u32) -> Step
-    requires { ⌜ Upright (now work) locals stand ⌝ }
-    ensures { λ r. ⌜ Stepped (now (work .entry)) (now (work .exit)) locals (stand .depth) (within (withTop (stateAt (now (work .entry)) locals stand) (operandAtCode o) (stack (now (work .entry)) (stand .base) left))) r ⌝ }
+fn put_operand(work: &mut [u32], locals: u16, check: Check, left: u32, o: u32) -> Step
+    requires { ⌜ Upright (now work) locals check ⌝ }
+    ensures { λ r.
+        let before = now (work .entry) in
+        let after = now (work .exit) in
+        let state = stateAt before locals check in
+        let put = withTop state (operandAtCode o) (stack before (check .base) left) in
+        ⌜ Stepped before after locals (check .depth) (within put) r ⌝ }
 {
-    let depth = stand.depth;
-    let base = stand.base;
-    let dead = stand.dead;
-    if body_push::MOST_OPERANDS < base as u64 + (left as u64 + 1) {
-        return Step::Fault(OVERSIZE);
+    let depth = check.depth;
+    let base = check.base;
+    let dead = check.dead;
+    if sizes::MOST_OPERANDS < base as u64 + (left as u64 + 1) {
+        return Step::Fault(refusals::OVERSIZE);
     }
     body_operands::push(work, base, left, o as u64);
-    Step::On(Stand {
+    Step::On(Check {
         depth: depth,
         base: base,
         height: left + 1,
@@ -67,26 +69,34 @@ pub fn do_non_null(
     codes: &[u16],
     work: &mut [u32],
     scene: Scene,
-    stand: Stand,
+    check: Check,
 ) -> Step
-    requires { ⌜ Upright (now work) (scene .locals) stand ⌝ }
-    ensures { λ r. ⌜ Stepped (now (work .entry)) (now (work .exit)) (scene .locals) (stand .depth) (nonNullDone (contextAt (now (rows .entry)) (now (codes .entry)) (now (work .entry)) scene) (stateAt (now (work .entry)) (scene .locals) stand)) r ⌝ }
+    requires { ⌜ Upright (now work) (scene .locals) check ⌝ }
+    ensures { λ r.
+        let before = now (work .entry) in
+        let after = now (work .exit) in
+        let context = contextAt (now (rows .entry)) (now (codes .entry)) before scene in
+        let want = nonNullDone context (stateAt before (scene .locals) check) in
+        ⌜ Stepped before after (scene .locals) (check .depth) want r ⌝ }
 {
     let locals = scene.locals;
-    let base = stand.base;
-    let height = stand.height;
-    let dead = stand.dead;
+    let base = check.base;
+    let height = check.height;
+    let dead = check.dead;
     let taken = body_operands::take_one(rows, codes, work, ANY_REFERENCE, base, height, dead);
     let Take::Took(o, left) = taken else {
-        return Step::Fault(BAD_OPERAND);
+        return Step::Fault(refusals::BAD_OPERAND);
     };
     let word = non_null_word(o);
-    put_operand(work, locals, stand, left, word)
+    put_operand(work, locals, check, left, word)
 }
 
 // "(ref y), exact when the operand is below (ref null (exact x))."
 fn descriptor_word(rows: &[u16], codes: &[u16], o: u32, x: u16, y: u16) -> u32
-    ensures { λ r. ⌜ operandAtCode r ≡ known (nonNull (cond (fits (view (now (rows .entry)) (now (codes .entry))) (operandAtCode o) (value (nullable (exact x)))) (exact y) (defined y))) ⌝ }
+    ensures { λ r.
+        let types = view (now (rows .entry)) (now (codes .entry)) in
+        let exactly = fits types (operandAtCode o) (value (nullable (exact x))) in
+        ⌜ operandAtCode r ≡ known (nonNull (cond exactly (exact y) (defined y))) ⌝ }
 {
     let exact_x = 2 + (5 + 2 * (11 + 2 * x as u64));
     let exactly = body_operands::fits_word(rows, codes, o as u64, exact_x);
@@ -102,22 +112,27 @@ pub fn do_descriptor(
     codes: &[u16],
     work: &mut [u32],
     scene: Scene,
-    stand: Stand,
+    check: Check,
     x: u16,
     y: u16,
 ) -> Step
-    requires { ⌜ Upright (now work) (scene .locals) stand ⌝ }
-    ensures { λ r. ⌜ Stepped (now (work .entry)) (now (work .exit)) (scene .locals) (stand .depth) (descriptorDone x y (contextAt (now (rows .entry)) (now (codes .entry)) (now (work .entry)) scene) (stateAt (now (work .entry)) (scene .locals) stand)) r ⌝ }
+    requires { ⌜ Upright (now work) (scene .locals) check ⌝ }
+    ensures { λ r.
+        let before = now (work .entry) in
+        let after = now (work .exit) in
+        let context = contextAt (now (rows .entry)) (now (codes .entry)) before scene in
+        let want = descriptorDone x y context (stateAt before (scene .locals) check) in
+        ⌜ Stepped before after (scene .locals) (check .depth) want r ⌝ }
 {
     let locals = scene.locals;
-    let base = stand.base;
-    let height = stand.height;
-    let dead = stand.dead;
+    let base = check.base;
+    let height = check.height;
+    let dead = check.dead;
     let wanted = 2 + (5 + 2 * (10 + 2 * x as u64));
     let taken = body_operands::take_one(rows, codes, work, wanted, base, height, dead);
     let Take::Took(o, left) = taken else {
-        return Step::Fault(BAD_OPERAND);
+        return Step::Fault(refusals::BAD_OPERAND);
     };
     let word = descriptor_word(rows, codes, o, x, y);
-    put_operand(work, locals, stand, left, word)
+    put_operand(work, locals, check, left, word)
 }

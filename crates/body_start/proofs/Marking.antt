@@ -20,7 +20,8 @@ use Rattle.type_table.specs.Answers.{valIs}
 use Rattle.type_table.proofs.Laws.{is-number, is-ref}
 use Rattle.type_table.proofs.CodesBack.{flag-small}
 use Rattle.lent_u16.proofs.Stores.{Stored, stored}
-use Rattle.body_state.specs.Standing.{valAtWord}
+use Rattle.body_state.specs.Layout.{marksFrom, wordBound, codeBound}
+use Rattle.body_state.specs.State.{valAtWord}
 use Rattle.body_start.specs.Beginning.{startsSet, MarkRoom, MarksPut}
 
 -- one local
@@ -29,20 +30,20 @@ pub parameter-mark : (work : List ℕ) {params i : ℕ} → i < params → 1 ≡
 unfolding startsSet
 parameter-mark work {params} {i} h = rw (lt-ltb i params h)
 
-module _ (work : List ℕ) {params i : ℕ} (h : params ≤ i) {c : ℕ} (a : Word32At work i c) {r : ValKind} (v : r ≡ valIs (valAtCode (c % 1_048_576))) where
-  starts-by : startsSet work params i ≡ hasDefault (valAtCode (c % 1_048_576))
+module _ (work : List ℕ) {params i : ℕ} (h : params ≤ i) {c : ℕ} (a : Word32At work i c) {r : ValKind} (v : r ≡ valIs (valAtCode (c % codeBound))) where
+  starts-by : startsSet work params i ≡ hasDefault (valAtCode (c % codeBound))
   unfolding startsSet valAtWord
   starts-by = rw (le-ltb i params h, ← a .is)
 
   pub number-mark : {k : ℕ} → r ≡ ValKind.the-variants.Number k → 1 ≡ flag (startsSet work params i)
-  number-mark e = let (n, same, code) = is-number (valAtCode (c % 1_048_576)) v e in rw (starts-by, same)
+  number-mark e = let (n, same, code) = is-number (valAtCode (c % codeBound)) v e in rw (starts-by, same)
 
   module _ {n : Bool} {k : ℕ} (e : r ≡ ValKind.the-variants.Ref n k) where
     pub nullable-mark : n ≡ true → 1 ≡ flag (startsSet work params i)
-    nullable-mark t = let same = is-ref (valAtCode (c % 1_048_576)) v e in rw (starts-by, same, t)
+    nullable-mark t = let same = is-ref (valAtCode (c % codeBound)) v e in rw (starts-by, same, t)
 
     pub unset-mark : n ≡ false → 0 ≡ flag (startsSet work params i)
-    unset-mark t = let same = is-ref (valAtCode (c % 1_048_576)) v e in rw (starts-by, same, t)
+    unset-mark t = let same = is-ref (valAtCode (c % codeBound)) v e in rw (starts-by, same, t)
 
 pub ruleset mark-exits = (parameter-mark, number-mark, nullable-mark, unset-mark)
 
@@ -67,7 +68,7 @@ module _ {work₀ work : List ℕ} {params count i : ℕ} (p : MarkedSoFar work�
   marked-size = p .done .size
 
   module _ (h : i < count) where
-    pub marked-turn : {r : ℕ} → r ≡ flag (startsSet work params i) → {work′ : List ℕ} → work′ ≡ set work (256 + i) (r % 4_294_967_296) → MarkRoom work₀ count → MarkedSoFar work₀ work′ params count (i + 1)
+    pub marked-turn : {r : ℕ} → r ≡ flag (startsSet work params i) → {work′ : List ℕ} → work′ ≡ set work (marksFrom + i) (r % wordBound) → MarkRoom work₀ count → MarkedSoFar work₀ work′ params count (i + 1)
     unfolding startsSet
     marked-turn {r} a {work′} e room =
         record {
@@ -81,20 +82,20 @@ module _ {work₀ work : List ℕ} {params count i : ℕ} (p : MarkedSoFar work�
               };
         }
       where
-        low : r < 4_294_967_296
+        low : r < wordBound
         low = let f = flag-small (ltb i params || hasDefault (valAtWord (getD work i 0))) in rw a (omega arith)
 
-        store : Stored work work′ (256 + i) r
-        store = stored 4_294_967_296 e low (omega (arith, p .done .size, room .room, room .few))
+        store : Stored work work′ (marksFrom + i) r
+        store = stored wordBound e low (omega (arith, p .done .size, room .room, room .few))
 
         before : getD work i 0 ≡ getD work₀ i 0
         before = p .done .types i (omega (arith, room .few))
 
-        marks : (k : ℕ) → k < i + 1 → getD work′ (256 + k) 0 ≡ flag (ltb k params || hasDefault (valAtWord (getD work₀ k 0)))
+        marks : (k : ℕ) → k < i + 1 → getD work′ (marksFrom + k) 0 ≡ flag (ltb k params || hasDefault (valAtWord (getD work₀ k 0)))
         marks k l = go (decided (eqb k i))
           where
-            go : (eqb k i ≡ true) ⊎ (eqb k i ≡ false) → getD work′ (256 + k) 0 ≡ flag (ltb k params || hasDefault (valAtWord (getD work₀ k 0)))
+            go : (eqb k i ≡ true) ⊎ (eqb k i ≡ false) → getD work′ (marksFrom + k) 0 ≡ flag (ltb k params || hasDefault (valAtWord (getD work₀ k 0)))
             go (inl z) = let same : k ≡ i = eqb-true k i z in rw (same, store .here, a, before)
-            go (inr z) = let g = eqb-false k i z in store .others (256 + k) (λ y. g (omega arith)) ∙ p .done .marks k (omega arith)
+            go (inr z) = let g = eqb-false k i z in store .others (marksFrom + k) (λ y. g (omega arith)) ∙ p .done .marks k (omega arith)
 
 pub ruleset marking-exits = (marked-first, marked-all, marked-size, marked-turn)

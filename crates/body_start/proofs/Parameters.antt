@@ -13,7 +13,8 @@ use borrow.Author.Tests.{eqb-true, eqb-false}
 use Rattle.scope.proofs.Truths.{decided}
 use Rattle.lent_u16.specs.Words.{WordAt}
 use Rattle.type_table.specs.View.{valAtCode}
-use Rattle.body_state.specs.Standing.{valAtWord}
+use Rattle.body_state.specs.Layout.{wordBound, codeBound}
+use Rattle.body_state.specs.State.{valAtWord}
 use Rattle.body_start.specs.Beginning.{ParametersPut}
 
 pub record SoFar (codes work₀ work : List ℕ) (first n i : ℕ) : Type 0 where
@@ -24,7 +25,7 @@ pub so-far-first : (codes work : List ℕ) (first n : ℕ) → SoFar codes work 
 so-far-first codes work first n =
     record { most = omega arith; done = record { types = λ i h. absurd (omega arith); others = λ i h. refl; size = refl } }
 
-pub val-at-word : (w : ℕ) → w < 1_048_576 → valAtWord w ≡ valAtCode w
+pub val-at-word : (w : ℕ) → w < codeBound → valAtWord w ≡ valAtCode w
 unfolding valAtWord
 val-at-word w h = ap valAtCode (mod-eq-of-lt h)
 
@@ -36,15 +37,15 @@ module _ {codes work₀ work : List ℕ} {first n i : ℕ} (p : SoFar codes work
   parameters-size = p .done .size
 
   module _ (h : i < n) where
-    pub parameters-turn : {w : ℕ} → WordAt codes (first + i) w → {work′ : List ℕ} → work′ ≡ set work i (w % 4_294_967_296) → n ≤ length work₀ → SoFar codes work₀ work′ first n (i + 1)
+    pub parameters-turn : {w : ℕ} → WordAt codes (first + i) w → {work′ : List ℕ} → work′ ≡ set work i (w % wordBound) → n ≤ length work₀ → SoFar codes work₀ work′ first n (i + 1)
     parameters-turn {w} a {work′} e room =
-        record { most = omega arith; done = record { types = typed; others = λ k l. other k (λ z. omega arith) ∙ p .done .others k (omega arith); size = rw e (length-set work i (w % 4_294_967_296) ∙ p .done .size) } }
+        record { most = omega arith; done = record { types = typed; others = λ k l. other k (λ z. omega arith) ∙ p .done .others k (omega arith); size = rw e (length-set work i (w % wordBound) ∙ p .done .size) } }
       where
         other : (k : ℕ) → (k ≡ i → ⊥) → getD work′ k 0 ≡ getD work k 0
-        other k g = rw e (getD-set-other work i k (w % 4_294_967_296) 0 g)
+        other k g = rw e (getD-set-other work i k (w % wordBound) 0 g)
 
         here : getD work′ i 0 ≡ w
-        here = rw e (getD-set-same work i (w % 4_294_967_296) 0 (omega (arith, p .done .size)) ∙ mod-eq-of-lt (omega (arith, a .small)))
+        here = rw e (getD-set-same work i (w % wordBound) 0 (omega (arith, p .done .size)) ∙ mod-eq-of-lt (omega (arith, a .small)))
 
         typed : (k : ℕ) → k < i + 1 → valAtWord (getD work′ k 0) ≡ valAtCode (getD codes (first + k) 0)
         typed k l = go (decided (eqb k i))

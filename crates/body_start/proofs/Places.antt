@@ -28,8 +28,8 @@ module _ {m m′ : List ℕ} {at : ℕ} {ws : List ℕ} (p : Puts m m′ at ws) 
   put-before i h =
       early i (omega arith) ∙ List·getD-append (take at m) ws 0 i (omega (arith, front)) ∙ getD-take at m i 0 h
 
-  pub put-after : (i : ℕ) → at + length ws ≤ i → getD m′ i 0 ≡ getD m i 0
-  put-after i h =
+  pub put-beyond : (i : ℕ) → at + length ws ≤ i → getD m′ i 0 ≡ getD m i 0
+  put-beyond i h =
       let j : ℕ = i - (at + length ws) in
       let place : at + length ws + j ≡ i = omega arith in
       let there : getD m′ (at + length ws + j) 0 ≡ getD m (at + length ws + j) 0 =

@@ -8,6 +8,7 @@ use native.Mathlib.Omega.{arith}
 use lib.ListN.{length, replicate, length-append, length-replicate}
 use lib.Dec.{ltb, leb}
 use borrow.Author.Tests.{leb-true}
+use Rattle.scope.specs.Sizes.{mostTypes, mostLocals}
 use Rattle.scope.specs.Lists.{every}
 use Rattle.scope.specs.Reading.{Read}
 use Rattle.scope.specs.Numbers.{u32}
@@ -20,7 +21,7 @@ use Rattle.type_table.specs.Kept.{keptVal}
 use Rattle.type_table.proofs.KeptReach.{val-keeps}
 
 pub record Modest (before : ℕ) (vs : List Val) : Type 0 where
-  pub few : before + length vs ≤ 256
+  pub few : before + length vs ≤ mostLocals
   pub kept : map keptVal vs ≡ vs
 
 pub gives-tested : {A : Type 0} {P : A → Type 0} (t : Bool) {a b : Read A} → (t ≡ true → Gives P a) → Gives P b → Gives P (cond t a b)
@@ -38,15 +39,15 @@ modest-more {before} k {v} {vs} e m =
       kept = map-append keptVal (replicate k v) vs ∙ ap₂ _++_ (kept-several k e) (m .kept);
     }
 
-pub locals-modest : {types : ℕ} → types ≤ 256 → (n : ℕ) {before : ℕ} → before ≤ 256 → (s : List ℕ) (at : ℕ) → Gives (Modest before) (localsAt types n before s at)
+pub locals-modest : {types : ℕ} → types ≤ mostTypes → (n : ℕ) {before : ℕ} → before ≤ mostLocals → (s : List ℕ) (at : ℕ) → Gives (Modest before) (localsAt types n before s at)
 unfolding localsAt
 locals-modest h zero few s at = gives-this (record { few = omega arith; kept = refl })
 locals-modest {types} h (suc n) {before} few s at =
     gives-then (u32 s at) (λ k type e.
     gives-then (valAt s type) (λ v next f.
     gives-tested (every (λ x. ltb x types) (valNames v)) (λ reached.
-    gives-tested (leb (before + k) 256) (λ sized.
+    gives-tested (leb (before + k) mostLocals) (λ sized.
     gives-then (localsAt types n (before + k) s next) (λ vs stop g.
-    gives-this (modest-more k (val-keeps (omega arith) .same v reached) (locals-modest h n (leb-true (before + k) 256 sized) s next .tells vs stop g))))
+    gives-this (modest-more k (val-keeps (omega arith) .same v reached) (locals-modest h n (leb-true (before + k) mostLocals sized) s next .tells vs stop g))))
     gives-nothing)
     gives-nothing))

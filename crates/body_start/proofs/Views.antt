@@ -13,7 +13,8 @@ use Rattle.type_table.specs.Kept.{keptVal}
 use Rattle.type_table.specs.View.{codesAt}
 use Rattle.type_table.proofs.CodesBack.{val-code, val-code-small}
 use Rattle.type_read.specs.Codes.{valCodeKept}
-use Rattle.body_state.specs.Standing.{valAtWord, isSetAt, setsAt}
+use Rattle.body_state.specs.Layout.{marksFrom, stampsFrom}
+use Rattle.body_state.specs.State.{valAtWord, isSetAt, setsAt}
 use Rattle.body_start.proofs.Parameters.{val-at-word}
 
 -- types
@@ -62,7 +63,7 @@ sets-by g f m codes d i a (suc n) same =
     (sets-by g f m codes d (i + 1) (a + 1) n (λ k h. let l : i + suc k ≡ i + 1 + k = omega arith in let r : a + suc k ≡ a + 1 + k = omega arith in rw (l, r) at (same (suc k) (omega arith))))
 
 -- a mark, where no word from 512 on is set
-pub set-by-mark : (m : List ℕ) (i : ℕ) (b : Bool) → getD m (256 + i) 0 ≡ flag b → ((k : ℕ) → 512 ≤ k → getD m k 0 ≡ 0) → isSetAt m 1 i ≡ b
+pub set-by-mark : (m : List ℕ) (i : ℕ) (b : Bool) → getD m (marksFrom + i) 0 ≡ flag b → ((k : ℕ) → stampsFrom ≤ k → getD m k 0 ≡ 0) → isSetAt m 1 i ≡ b
 unfolding isSetAt
-set-by-mark m i true e blank = rw (e, blank 1_293 (omega arith), blank (512 + i) (omega arith))
+set-by-mark m i true e blank = rw (e, blank 1_293 (omega arith), blank (stampsFrom + i) (omega arith))
 set-by-mark m i false e blank = rw e

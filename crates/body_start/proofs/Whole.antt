@@ -10,6 +10,7 @@ use native.Mathlib.Nat.{zero-add}
 use lib.ListN.{length, getD, replicate, length-map, length-replicate, getD-replicate, List·getD-eq-default}
 use lib.Dec.{ltb}
 use borrow.Author.Tests.{lt-ltb, le-ltb, ltb-true, ltb-false}
+use Rattle.scope.specs.Sizes.{mostLocals}
 use Rattle.scope.specs.Reading.{got, refused}
 use Rattle.scope.specs.Numbers.{u32}
 use Rattle.scope.specs.Syntax.{Val}
@@ -24,7 +25,8 @@ use Rattle.number.proofs.Laws.{natural-got, natural-refused, natural-bounds}
 use Rattle.type_table.specs.View.{valAtCode, codesAt}
 use Rattle.type_table.proofs.Puts.{Puts}
 use Rattle.type_read.specs.Codes.{valCodeKept}
-use Rattle.body_state.specs.Standing.{valAtWord, isSetAt, setsAt}
+use Rattle.body_state.specs.Layout.{stampsFrom}
+use Rattle.body_state.specs.State.{valAtWord, isSetAt, setsAt}
 use Rattle.body_locals.specs.declared.LocalsRead.{LocalsRead}
 use Rattle.body_locals.specs.declared.LocalsRead
 use Rattle.body_locals.specs.Entries.{localsIs, LocalsPut}
@@ -32,7 +34,7 @@ use Rattle.body_locals.proofs.Laws.{locals-got, locals-refused, locals-inside}
 use Rattle.body_start.specs.declared.Started.{Started}
 use Rattle.body_start.specs.declared.Started
 use Rattle.body_start.specs.Beginning.{localsFirst, startedIs, ParametersPut, startsSet, MarksPut, Starting, StartingAt, Begun, StartedAs}
-use Rattle.body_start.proofs.Places.{put-here, put-before, put-after}
+use Rattle.body_start.proofs.Places.{put-here, put-before, put-beyond}
 use Rattle.body_start.proofs.Reached.{Modest, locals-modest}
 use Rattle.body_start.proofs.Views.{codes-append, codes-alike, words-kept, sets-append, sets-by, set-by-mark}
 
@@ -55,7 +57,7 @@ module _ {types n params : ℕ} {s : List ℕ} {entries : ℕ} {work₁ work₂ 
 
   module _ (vs : List Val) (next : ℕ) (read : localsAt types n params s entries ≡ got vs next) where
     modest : Modest params vs
-    modest = let fewer : params ≤ 256 = omega (arith, b .fresh .few) in locals-modest (b .fresh .known) n fewer s entries .tells vs next read
+    modest = let fewer : params ≤ mostLocals = omega (arith, b .starting .few) in locals-modest (b .starting .known) n fewer s entries .tells vs next read
 
     puts : Puts work₁ work₂ params (map valCodeKept vs)
     puts = rw zero-add at (l .memory vs next read)
@@ -63,20 +65,20 @@ module _ {types n params : ℕ} {s : List ℕ} {entries : ℕ} {work₁ work₂ 
     long : length (map valCodeKept vs) ≡ length vs
     long = length-map vs valCodeKept
 
-    high : (i : ℕ) → 512 ≤ i → getD work₂ i 0 ≡ 0
+    high : (i : ℕ) → stampsFrom ≤ i → getD work₂ i 0 ≡ 0
     high i h =
-        put-after puts i (omega (arith, long, modest .few))
-        ∙ ps .others i (omega (arith, b .fresh .few))
-        ∙ rw (b .fresh .zero) (zeros (length work) i)
+        put-beyond puts i (omega (arith, long, modest .few))
+        ∙ ps .others i (omega (arith, b .starting .few))
+        ∙ rw (b .starting .zero) (zeros (length work) i)
 
     module _ {work₃ : List ℕ} (q : MarksPut work₂ work₃ params (params + length vs)) where
-      blank : (i : ℕ) → 512 ≤ i → getD work₃ i 0 ≡ 0
+      blank : (i : ℕ) → stampsFrom ≤ i → getD work₃ i 0 ≡ 0
       blank i h = q .beyond i (omega (arith, modest .few)) ∙ high i h
 
       parameters : codesAt valAtWord work₃ 0 params ≡ codesAt valAtCode codes first params
       parameters =
           codes-alike valAtWord valAtCode work₃ codes 0 first params (λ i h.
-          ap valAtWord (ap (λ (k : ℕ). getD work₃ k 0) (zero-add i) ∙ q .types i (omega (arith, b .fresh .few)) ∙ put-before puts i h) ∙ ps .types i h)
+          ap valAtWord (ap (λ (k : ℕ). getD work₃ k 0) (zero-add i) ∙ q .types i (omega (arith, b .starting .few)) ∙ put-before puts i h) ∙ ps .types i h)
 
       own : codesAt valAtWord work₃ params (length vs) ≡ vs
       own =
@@ -114,7 +116,7 @@ module _ {types n params : ℕ} {s : List ℕ} {entries : ℕ} {work₁ work₂ 
         let same : LocalsRead.the-variants.Got count next ≡ LocalsRead.the-variants.Got (params + length vs) stop = sym e ∙ l .answer ∙ ap (localsIs params) f in
         cc
 
-    pub few-locals : count ≤ 256
+    pub few-locals : count ≤ mostLocals
     few-locals = let (vs, read, same) = locals-got params (localsAt types n params s entries) (l .answer) e in let m = modest vs next read in omega (arith, m .few)
 
     pub count-fits : count < 2 ^ 16
@@ -147,7 +149,7 @@ module _ {s : List ℕ} {r : Natural} (a : r ≡ naturalIs (u32 s 0)) where
 
   module _ {n entries : ℕ} (e : r ≡ Natural.the-variants.Is n entries) where
     pub may-start : {work : List ℕ} {types params : ℕ} → Starting work types params → StartingAt work types params s entries
-    may-start fresh = let m = natural-bounds {s = s} {at = 0} a e in record { fresh = fresh; forward = m .forward; inside = m .inside }
+    may-start starting = let m = natural-bounds {s = s} {at = 0} a e in record { starting = starting; forward = m .forward; inside = m .inside }
 
     pub start-counted : (types : ℕ) {codes work work′ : List ℕ} {first params : ℕ} {q : Started} → StartedAs (localsAt types n params s entries) s codes work work′ first params q → StartedAs (localsFirst types params s) s codes work work′ first params q
     unfolding localsFirst

@@ -5,6 +5,7 @@ use mathlib.Core.Bool.{Bool, true, _||_}
 use mathlib.Core.List.{List, _++_, map}
 use lib.ListN.{getD, length, replicate}
 use lib.Dec.{ltb}
+use Rattle.scope.specs.Sizes.{mostTypes, mostEach, mostLocals}
 use Rattle.scope.specs.Reading.{Read, got, refused, then}
 use Rattle.scope.specs.Numbers.{u32}
 use Rattle.scope.specs.Syntax.{Val}
@@ -12,7 +13,8 @@ use Rattle.scope.specs.Memory.{flag}
 use Rattle.scope.specs.BodyRules.{hasDefault}
 use Rattle.scope.specs.Bodies.{localsAt}
 use Rattle.type_table.specs.View.{valAtCode, codesAt}
-use Rattle.body_state.specs.Standing.{valAtWord, setsAt}
+use Rattle.body_state.specs.Layout.{marksFrom, stampsFrom, usedSize}
+use Rattle.body_state.specs.State.{valAtWord, setsAt}
 use Rattle.body_start.specs.declared.Started.{Started}
 use Rattle.body_start.specs.declared.Started
 
@@ -36,37 +38,37 @@ startsSet work params i = ltb i params || hasDefault (valAtWord (getD work i 0))
 
 -- each local has its mark's word
 pub record MarkRoom (work : List ℕ) (count : ℕ) : Type 0 where
-  pub room : 512 ≤ length work
-  pub few : count ≤ 256
+  pub room : stampsFrom ≤ length work
+  pub few : count ≤ mostLocals
 
 -- the marks of so many locals: 1 for those that are set, so in the function's own frame
 pub record MarksPut (work work′ : List ℕ) (params count : ℕ) : Type 0 where
-  pub marks : (i : ℕ) → i < count → getD work′ (256 + i) 0 ≡ flag (startsSet work params i)
-  pub types : (i : ℕ) → i < 256 → getD work′ i 0 ≡ getD work i 0
-  pub beyond : (i : ℕ) → 256 + count ≤ i → getD work′ i 0 ≡ getD work i 0
+  pub marks : (i : ℕ) → i < count → getD work′ (marksFrom + i) 0 ≡ flag (startsSet work params i)
+  pub types : (i : ℕ) → i < mostLocals → getD work′ i 0 ≡ getD work i 0
+  pub beyond : (i : ℕ) → marksFrom + count ≤ i → getD work′ i 0 ≡ getD work i 0
   pub size : length work′ ≡ length work
 
 -- the scratch is wiped, and the sizes hold
 pub record Starting (work : List ℕ) (types params : ℕ) : Type 0 where
   pub zero : work ≡ replicate (length work) 0
-  pub room : 1_800 ≤ length work
-  pub few : params ≤ 64
-  pub known : types ≤ 256
+  pub room : usedSize ≤ length work
+  pub few : params ≤ mostEach
+  pub known : types ≤ mostTypes
 
 -- and the entries stand after their count
 pub record StartingAt (work : List ℕ) (types params : ℕ) (s : List ℕ) (entries : ℕ) : Type 0 where
-  pub fresh : Starting work types params
+  pub starting : Starting work types params
   pub forward : 0 < entries
   pub inside : entries ≤ length s
 
 -- The locals were read: their types, with the parameters' before them; which of them are set; no stamp, operand or frame.
 pub record Begun (s codes work : List ℕ) (first params : ℕ) (vs : List Val) (next : ℕ) : Type 0 where
-  pub few : params + length vs ≤ 256
+  pub few : params + length vs ≤ mostLocals
   pub forward : 0 < next
   pub inside : next ≤ length s
   pub types : codesAt valAtWord work 0 (params + length vs) ≡ codesAt valAtCode codes first params ++ vs
   pub sets : setsAt work 1 0 (params + length vs) ≡ map (λ v. true) (codesAt valAtCode codes first params) ++ map hasDefault vs
-  pub blank : (i : ℕ) → 512 ≤ i → getD work i 0 ≡ 0
+  pub blank : (i : ℕ) → stampsFrom ≤ i → getD work i 0 ≡ 0
 
 -- the answer is that of a reading of the locals; where it gives them, they stand in the scratch
 pub record StartedAs (o : Read (List Val)) (s codes work work′ : List ℕ) (first params : ℕ) (r : Started) : Type 0 where

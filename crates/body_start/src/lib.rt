@@ -30,7 +30,7 @@ fn start_mark(work: &[u32], params: u32, i: u64) -> u64
         return 1;
     }
     let code = lent_u32::word32(work, i);
-    let val = type_table::val_of(code % body_state::MOST);
+    let val = type_table::val_of(code % body_state::CODE_BOUND);
     match val {
         ValKind::Number(_) => 1,
         ValKind::Ref(nullable, _) => { if nullable { 1 } else { 0 } }
@@ -68,7 +68,11 @@ fn start_at(
     params: u32,
 ) -> Started
     requires { ⌜ StartingAt (now work) types params (now s) entries ⌝ }
-    ensures { λ r. ⌜ StartedAs (localsAt types n params (now (s .entry)) entries) (now (s .entry)) (now (codes .entry)) (now (work .entry)) (now (work .exit)) first params r ⌝ }
+    ensures { λ r.
+        let before = now (work .entry) in
+        let after = now (work .exit) in
+        let read = localsAt types n params (now (s .entry)) entries in
+        ⌜ StartedAs read (now (s .entry)) (now (codes .entry)) before after first params r ⌝ }
 {
     put_parameters(codes, work, first, params);
     let read = body_locals::locals_at(s, entries, n, types as u64, work, 0, params as u64);
@@ -91,7 +95,11 @@ pub fn start(
     params: u32,
 ) -> Started
     requires { ⌜ Starting (now work) types params ⌝ }
-    ensures { λ r. ⌜ StartedAs (localsFirst types params (now (s .entry))) (now (s .entry)) (now (codes .entry)) (now (work .entry)) (now (work .exit)) first params r ⌝ }
+    ensures { λ r.
+        let before = now (work .entry) in
+        let after = now (work .exit) in
+        let read = localsFirst types params (now (s .entry)) in
+        ⌜ StartedAs read (now (s .entry)) (now (codes .entry)) before after first params r ⌝ }
 {
     let counted = number::u32_at(s, 0);
     match counted {

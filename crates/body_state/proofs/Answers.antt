@@ -19,7 +19,8 @@ use Rattle.body_state.specs.declared.Values.{Values}
 use Rattle.body_state.specs.declared.Values
 use Rattle.body_state.specs.declared.Local.{Local}
 use Rattle.body_state.specs.declared.Local
-use Rattle.body_state.specs.Standing.{valAtWord, resultsAt, valuesOf, isSetAt, LocalOf, LengthOf, CodeOf, ResultsOf}
+use Rattle.body_state.specs.Layout.{marksFrom, stampsFrom, framesFrom, frameSpan, resultWord, stampWord, codeBound}
+use Rattle.body_state.specs.State.{valAtWord, resultsAt, valuesOf, isSetAt, LocalOf, LengthOf, CodeOf, ResultsOf}
 
 -- codes from a place on
 
@@ -36,11 +37,11 @@ codes-there f codes at (suc n) (suc i) h =
     let same : at + 1 + i ≡ at + suc i = omega arith in
     codes-there f codes (at + 1) n i (omega arith) ∙ ap (λ (k : ℕ). some (f (getD codes k 0))) same
 
-pub codes-past : {A : Type 0} (f : ℕ → A) (codes : List ℕ) (at n i : ℕ) → n ≤ i → getElem? (codesAt f codes at n) i ≡ none
+pub codes-beyond : {A : Type 0} (f : ℕ → A) (codes : List ℕ) (at n i : ℕ) → n ≤ i → getElem? (codesAt f codes at n) i ≡ none
 unfolding codesAt
-codes-past f codes at zero i h = refl
-codes-past f codes at (suc n) zero h = absurd (omega arith)
-codes-past f codes at (suc n) (suc i) h = codes-past f codes (at + 1) n i (omega arith)
+codes-beyond f codes at zero i h = refl
+codes-beyond f codes at (suc n) zero h = absurd (omega arith)
+codes-beyond f codes at (suc n) (suc i) h = codes-beyond f codes (at + 1) n i (omega arith)
 
 map-there : {A B : Type 0} (f : A → B) (xs : List A) (i : ℕ) {x : A} → getElem? xs i ≡ some x → getElem? (map f xs) i ≡ some (f x)
 map-there f [] i e = impossible cc
@@ -49,7 +50,7 @@ map-there f (y ∷ ys) (suc i) e = map-there f ys i e
 
 -- a local's mark
 
-module _ {work : List ℕ} (m i : ℕ) {n : ℕ} (a : Word32At work (256 + i) n) where
+module _ {work : List ℕ} (m i : ℕ) {n : ℕ} (a : Word32At work (marksFrom + i) n) where
   pub never-set : n ≡ 0 → false ≡ isSetAt work m i
   unfolding isSetAt
   never-set e = rw (← a .is, e)
@@ -58,23 +59,23 @@ module _ {work : List ℕ} (m i : ℕ) {n : ℕ} (a : Word32At work (256 + i) n)
   unfolding isSetAt
   set-inside h = rw (← a .is, lt-ltb 0 n (omega arith), lt-leb n m h)
 
-  pub set-around : (n ≡ 0 → ⊥) → n ≤ m → {stamp : ℕ} → Word32At work (1_280 + (8 * n + 5)) stamp → {kept : ℕ} → Word32At work (512 + i) kept → eqb stamp kept ≡ isSetAt work m i
+  pub set-around : (n ≡ 0 → ⊥) → n ≤ m → {stamp : ℕ} → Word32At work (framesFrom + (frameSpan * n + stampWord)) stamp → {kept : ℕ} → Word32At work (stampsFrom + i) kept → eqb stamp kept ≡ isSetAt work m i
   unfolding isSetAt
   set-around some′ h {stamp} b {kept} d = rw (← a .is, lt-ltb 0 n (omega (arith, some′)), le-leb n m h, b .is, d .is)
 
 -- a local's type
 
 module _ {work : List ℕ} {count x : ℕ} where
-  pub local-there : x < count → {c : ℕ} → Word32At work x c → LocalOf work count x (Local.the-variants.Is (c % 1_048_576))
+  pub local-there : x < count → {c : ℕ} → Word32At work x c → LocalOf work count x (Local.the-variants.Is (c % codeBound))
   unfolding valAtWord
   local-there h {c} a =
       record {
         is = ap (λ (k : ℕ). some (valAtWord k)) (a .is) ∙ sym (codes-there valAtWord work 0 count x h ∙ ap (λ (k : ℕ). some (valAtWord (getD work k 0))) (zero-add x));
-        small = λ k e. let same : c % 1_048_576 ≡ k = cc in rw (← same) (omega arith);
+        small = λ k e. let same : c % codeBound ≡ k = cc in rw (← same) (omega arith);
       }
 
   pub local-absent : count ≤ x → LocalOf work count x Local.the-variants.Absent
-  local-absent h = record { is = sym (codes-past valAtWord work 0 count x h); small = λ k e. impossible cc }
+  local-absent h = record { is = sym (codes-beyond valAtWord work 0 count x h); small = λ k e. impossible cc }
 
 -- lists
 
@@ -88,8 +89,8 @@ module _ {values : Values} {first n : ℕ} (e : values ≡ Values.the-variants.T
   type-code {codes} i a =
       record {
         is = λ h.
-            let within : i < n = rw (e, codes-length valAtCode codes first n) at h in
-            rw e (codes-there valAtCode codes first n i within ∙ ap (λ (k : ℕ). some (valAtCode k)) (sym (a .is)));
+            let inside : i < n = rw (e, codes-length valAtCode codes first n) at h in
+            rw e (codes-there valAtCode codes first n i inside ∙ ap (λ (k : ℕ). some (valAtCode k)) (sym (a .is)));
         small = omega (arith, a .small);
       }
 
@@ -105,9 +106,9 @@ module _ {values : Values} {first n : ℕ} (e : values ≡ Values.the-variants.F
       record {
         is = λ h.
             let long : length (holdsOf (codesAt fieldAtCode codes first n)) ≡ n = length-map (codesAt fieldAtCode codes first n) (λ f. f .holds) ∙ codes-length fieldAtCode codes first n in
-            let within : i < n = rw (e, long) at h in
+            let inside : i < n = rw (e, long) at h in
             rw e
-            (map-there (λ f. f .holds) (codesAt fieldAtCode codes first n) i (codes-there fieldAtCode codes first n i within)
+            (map-there (λ f. f .holds) (codesAt fieldAtCode codes first n) i (codes-there fieldAtCode codes first n i inside)
             ∙ ap (λ (k : ℕ). some (valAtCode (k / 2))) (sym (a .is)));
         small = omega (arith, a .small);
       }
@@ -121,13 +122,13 @@ module _ {values : Values} {c : ℕ} (e : values ≡ Values.the-variants.One c) 
   unfolding valuesOf
   one-long = record { is = λ codes. rw e refl }
 
-  pub one-code : (codes : List ℕ) (i : ℕ) → CodeOf codes values i (c % 1_048_576)
+  pub one-code : (codes : List ℕ) (i : ℕ) → CodeOf codes values i (c % codeBound)
   unfolding valuesOf valAtWord
   one-code codes i = record { is = λ h. rw e (one-there (valAtWord c) i (rw e at h)); small = omega arith }
 
 -- a frame's results
 
-module _ {work : List ℕ} (m : ℕ) {w : ℕ} (a : Word32At work (1_280 + (8 * m + 1)) w) where
+module _ {work : List ℕ} (m : ℕ) {w : ℕ} (a : Word32At work (framesFrom + (frameSpan * m + resultWord)) w) where
   pub no-results : w ≡ 0 → ResultsOf work m (Values.the-variants.Types 0 0)
   unfolding valuesOf codesAt resultsAt
   no-results e = record { is = λ codes. rw (← a .is, e) refl }

@@ -5,17 +5,19 @@ use mathlib.Core.Bool.{Bool}
 use mathlib.Core.List.{List, map}
 use lib.ListN.{getD, length}
 use borrow.Author.Tests.{lt-leb, le-leb}
+use Rattle.scope.specs.Sizes.{mostLocals, mostOperands}
+use Rattle.scope.specs.Refusals.{oversize}
 use Rattle.scope.specs.Lists.{sum}
 use Rattle.scope.specs.BodyRules.{Ruled, allowed, fault}
 use Rattle.scope.specs.Bodies.{Operand, outerOf, Next, goesOn, within}
 use Rattle.scope.proofs.Impossible.{contradiction}
-use Rattle.body_state.specs.declared.Stand.{Stand}
+use Rattle.body_state.specs.declared.Check.{Check}
 use Rattle.body_state.specs.declared.Step.{Step}
 use Rattle.body_state.specs.declared.Step
-use Rattle.body_state.specs.Standing.{framesAt, stateAt, Rests, Upright, Stamped, stepOf, Stepped}
+use Rattle.body_state.specs.State.{framesAt, stateAt, Rests, Upright, Stamped, stepOf, Stepped}
 use Rattle.body_state.proofs.Alike.{below-all}
 
-pub stepped-on : {work work′ : List ℕ} {count depth : ℕ} {want : Ruled Next} (st : Stand) → allowed (goesOn (stateAt work′ count st)) ≡ want → Upright work′ count st → ((at : ℕ) → Stamped work count depth at → Stamped work′ count (st .depth) at) → ((i : ℕ) → i < 256 → getD work′ i 0 ≡ getD work i 0) → length work′ ≡ length work → Stepped work work′ count depth want (Step.the-variants.On st)
+pub stepped-on : {work work′ : List ℕ} {count depth : ℕ} {want : Ruled Next} (st : Check) → allowed (goesOn (stateAt work′ count st)) ≡ want → Upright work′ count st → ((at : ℕ) → Stamped work count depth at → Stamped work′ count (st .depth) at) → ((i : ℕ) → i < mostLocals → getD work′ i 0 ≡ getD work i 0) → length work′ ≡ length work → Stepped work work′ count depth want (Step.the-variants.On st)
 stepped-on {work} {work′} {count} st e u s t l =
     record {
       answer = e;
@@ -26,7 +28,7 @@ stepped-on {work} {work′} {count} st e u s t l =
     }
 
 -- nothing is written, and the check does not go on
-pub stepped-stop : {work work′ : List ℕ} (count depth : ℕ) {want : Ruled Next} (r : Step) → ((st : Stand) → r ≡ Step.the-variants.On st → ⊥) → work′ ≡ work → stepOf work count r ≡ want → Stepped work work′ count depth want r
+pub stepped-stop : {work work′ : List ℕ} (count depth : ℕ) {want : Ruled Next} (r : Step) → ((st : Check) → r ≡ Step.the-variants.On st → ⊥) → work′ ≡ work → stepOf work count r ≡ want → Stepped work work′ count depth want r
 stepped-stop count depth r never e want =
     record {
       answer = rw e want;
@@ -49,8 +51,8 @@ module _ {work : List ℕ} (count depth : ℕ) {base : ℕ} (r : Rests work dept
   all-operands : length os + sum (map (λ f. length (outerOf f)) (framesAt work count depth)) ≡ length os + base
   all-operands = ap (λ (n : ℕ). length os + n) (below-all count depth r)
 
-  pub within-on : length os + base ≤ 512 → within (record { frames = framesAt work count depth; operands = os; dead = dead; isSet = isSet }) ≡ allowed (goesOn (record { frames = framesAt work count depth; operands = os; dead = dead; isSet = isSet }))
-  within-on h = rw (all-operands, le-leb (length os + base) 512 h)
+  pub within-on : length os + base ≤ mostOperands → within (record { frames = framesAt work count depth; operands = os; dead = dead; isSet = isSet }) ≡ allowed (goesOn (record { frames = framesAt work count depth; operands = os; dead = dead; isSet = isSet }))
+  within-on h = rw (all-operands, le-leb (length os + base) mostOperands h)
 
-  pub within-full : 512 < length os + base → within (record { frames = framesAt work count depth; operands = os; dead = dead; isSet = isSet }) ≡ fault 4
-  within-full h = rw (all-operands, lt-leb (length os + base) 512 h)
+  pub within-full : mostOperands < length os + base → within (record { frames = framesAt work count depth; operands = os; dead = dead; isSet = isSet }) ≡ fault oversize
+  within-full h = rw (all-operands, lt-leb (length os + base) mostOperands h)

@@ -1,19 +1,21 @@
 // Where a body's check stands, kept in lent scratch: the locals and which of them are set, the operands, the open blocks.
-// Each answer is what the scratch's words say (specs/Standing.antt), for any words.
+// Each answer is what the scratch's words say (specs/State.antt), for any words.
+use scope::sizes;
 ghost use mathlib.Core.Path.{_≡_};
 ghost use Prim.Native.Nat.{_+_, _*_};
 ghost use Rattle.lent_u32.specs.Scratch.{Word32At};
-ghost use Rattle.body_state.specs.Standing.{isSetAt, LocalOf, LengthOf, CodeOf, ResultsOf};
+ghost use Rattle.body_state.specs.Layout.{operandsFrom, framesFrom, frameSpan};
+ghost use Rattle.body_state.specs.State.{isSetAt, LocalOf, LengthOf, CodeOf, ResultsOf};
 
-// A local's type stands at its number. Where in the scratch the other words begin: the frame in which a local was set, by
-// its number; that frame's stamp; the operands; eight words for each frame.
-pub const MARKS: u64 = 256;
+// Where in the scratch the words begin, as specs/Layout.antt has it. A local's type stands at its number; then, by the number
+// of a local, the frame in which it was set, and that frame's stamp; then the operands; then the frames.
+pub const MARKS: u64 = sizes::MOST_LOCALS;
 
-pub const STAMPS: u64 = 512;
+pub const STAMPS: u64 = MARKS + sizes::MOST_LOCALS;
 
-pub const OPERANDS: u64 = 768;
+pub const OPERANDS: u64 = STAMPS + sizes::MOST_LOCALS;
 
-pub const FRAMES: u64 = 1280;
+pub const FRAMES: u64 = OPERANDS + sizes::MOST_OPERANDS;
 
 // The words of a frame: 1 for a loop, its result (0 none, else one more than its code), and of what stands around it the
 // operands below, how many there are, whether they may be unknown; the stamp.
@@ -31,9 +33,12 @@ pub const DEAD: u8 = 4;
 
 pub const STAMP: u8 = 5;
 
+// No code of a type is as great as this.
+pub const CODE_BOUND: u64 = 1048576;
+
 // How many blocks are open; how many operands lie below the innermost frame, and how many in it; whether unknowns lie
 // below those.
-pub struct Stand {
+pub struct Check {
     pub depth: u16,
     pub base: u32,
     pub height: u32,
@@ -48,9 +53,6 @@ pub struct Scene {
     pub first: u32,
     pub results: u32,
 }
-
-// No code of a type is as great as this.
-pub const MOST: u64 = 1048576;
 
 // A list of value types: that many codes of the table, the types of that many fields, or one type.
 pub enum Values {
@@ -84,21 +86,21 @@ pub enum Planned {
 
 // What comes of an instruction: the check goes on; the last `end` was read; or a refusal's number.
 pub enum Step {
-    On(Stand),
+    On(Check),
     Finished,
     Fault(u64),
 }
 
 // A word of frame m: the function's own is 1, that of the outermost block 2.
 pub fn frame_word(work: &[u32], m: u32, k: u8) -> u64
-    ensures { λ r. ⌜ Word32At (now (work .entry)) (1280 + (8 * m + k)) r ⌝ }
+    ensures { λ r. ⌜ Word32At (now (work .entry)) (framesFrom + (frameSpan * m + k)) r ⌝ }
 {
     lent_u32::word32(work, FRAMES + (FRAME * m as u64 + k as u64))
 }
 
 // The operand at a place from the bottom of the stack.
 pub fn operand_word(work: &[u32], base: u32, i: u32) -> u64
-    ensures { λ r. ⌜ Word32At (now (work .entry)) (768 + (base + i)) r ⌝ }
+    ensures { λ r. ⌜ Word32At (now (work .entry)) (operandsFrom + (base + i)) r ⌝ }
 {
     lent_u32::word32(work, OPERANDS + (base as u64 + i as u64))
 }
@@ -130,7 +132,7 @@ pub fn local_of(work: &[u32], locals: u16, x: u64) -> Local
 {
     if x < locals as u64 {
         let code = lent_u32::word32(work, x);
-        return Local::Is(code % MOST);
+        return Local::Is(code % CODE_BOUND);
     }
     Local::Absent
 }
@@ -156,7 +158,7 @@ pub fn code_of(codes: &[u16], values: Values, i: u32) -> u64
             let field = lent_u16::word(codes, first as u64 + i as u64);
             field / 2
         }
-        Values::One(c) => c as u64 % MOST,
+        Values::One(c) => c as u64 % CODE_BOUND,
     }
 }
 

@@ -17,7 +17,7 @@ use Rattle.type_table.specs.declared.Shape.{Shape}
 use Rattle.type_table.specs.declared.Shape
 use Rattle.type_table.specs.Answers.{shapeForm}
 use Rattle.type_table.specs.View.{valAtCode, codesAt, view}
-use Rattle.body_state.specs.Standing.{valAtWord}
+use Rattle.body_state.specs.State.{valAtWord}
 use Rattle.body_state.proofs.Answers.{codes-length}
 use Rattle.body_start.specs.declared.Started.{Started}
 use Rattle.body_start.specs.declared.Started

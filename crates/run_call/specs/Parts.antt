@@ -10,7 +10,7 @@ use Rattle.scope.specs.Syntax.{func, typesOf}
 use Rattle.scope.specs.Judging.{accepted, judgeSection}
 use Rattle.scope.specs.Bodies.{Body}
 use Rattle.type_table.specs.View.{valAtCode, codesAt, view}
-use Rattle.body_state.specs.Standing.{valAtWord}
+use Rattle.body_state.specs.State.{valAtWord}
 use Rattle.body_start.specs.Beginning.{localsFirst}
 use Rattle.run_ends.specs.Matching.{codeAt, Balanced}
 

@@ -352,7 +352,7 @@ fn scratch_enough(rows: &[u16], codes: &[u16], work: &[u32], ends: &[u16]) -> bo
     if codes.len() < section_call::CODES {
         return false;
     }
-    if work.len() < body_call::WORK {
+    if work.len() < scope::sizes::WORK {
         return false;
     }
     ENDS <= ends.len()

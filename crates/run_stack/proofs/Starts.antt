@@ -16,7 +16,7 @@ use Rattle.run_values.specs.Layout.{bitsPlace, noValue, nullKind}
 use Rattle.type_table.specs.View.{numberAt, valAtCode, heapAtCode, codesAt}
 use Rattle.type_table.proofs.Codes.{val-number, val-ref}
 use Rattle.lent_u32.specs.Scratch.{Word32At}
-use Rattle.body_state.specs.Standing.{valAtWord}
+use Rattle.body_state.specs.State.{valAtWord}
 use Rattle.run_values.specs.Values.{numbered, valueAt, heldFrom, setValue, AllHeldCanon, entryIn, heldAt}
 use Rattle.run_values.proofs.Laws.{value-number, value-null, held-none, held-some, held-canon-none, held-canon-some, canon-number, canon-null, put-long}
 use Rattle.run_stack.specs.Pile.{LocalRoom, StartKind, Started}

@@ -11,7 +11,7 @@ use Rattle.scope.specs.Machine.{Value, defaultOf}
 use Rattle.run_values.specs.Layout.{kindPlace, bitsPlace}
 use Rattle.type_table.specs.View.{valAtCode, codesAt}
 use Rattle.run_values.specs.Values.{valueAt, heldAt, heldFrom, setValue, Canon, HeldCanon, AllCanon, AllHeldCanon, entryIn}
-use Rattle.body_state.specs.Standing.{valAtWord}
+use Rattle.body_state.specs.State.{valAtWord}
 use Rattle.run_stack.specs.declared.Topmost.{Topmost}
 use Rattle.run_stack.specs.declared.Topmost
 use Rattle.run_stack.specs.declared.HeldLocal.{HeldLocal}

@@ -110,7 +110,7 @@ pub fn start_locals(work: &[u32], locals: &mut [u64], count: u16)
     let mut i: u16 = 0;
     while i < count {
         let code = lent_u32::word32(work, i as u64);
-        let kind = start_kind(code % body_state::MOST);
+        let kind = start_kind(code % body_state::CODE_BOUND);
         run_values::put_value(locals, i as u32, kind, 0);
         i = i + 1;
     }

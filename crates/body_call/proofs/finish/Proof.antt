@@ -1,4 +1,4 @@
--- `checker::finish` meets its contract.
+-- `body_call::finish` meets its contract.
 use borrow.Author.Needs.{needs}
 use Rattle.body_call.proofs.Typing.{typed-exits}
 use Rattle.body_call.proofs.finish.Statement.{statement}

@@ -1,4 +1,4 @@
--- `checker::judge_body` meets its contract.
+-- `body_call::judge_body` meets its contract.
 use borrow.Author.Needs.{needs}
 use Rattle.body_call.proofs.Lending.{lent-exits}
 use Rattle.body_call.proofs.judge_body.Statement.{statement}

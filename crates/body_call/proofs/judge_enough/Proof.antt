@@ -1,4 +1,4 @@
--- `checker::judge_enough` meets its contract.
+-- `body_call::judge_enough` meets its contract.
 use borrow.Author.Needs.{needs}
 use Rattle.body_call.proofs.Lending.{lent-exits}
 use Rattle.body_call.proofs.judge_enough.Statement.{statement}

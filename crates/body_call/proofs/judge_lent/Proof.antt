@@ -1,4 +1,4 @@
--- `checker::judge_lent` meets its contract.
+-- `body_call::judge_lent` meets its contract.
 use borrow.Author.Needs.{needs}
 use Rattle.body_call.proofs.Lending.{lent-exits}
 use Rattle.body_call.proofs.judge_lent.Statement.{statement}

@@ -1,4 +1,4 @@
--- `checker::judge_typed` meets its contract.
+-- `body_call::judge_typed` meets its contract.
 use borrow.Author.Needs.{needs}
 use Rattle.body_call.proofs.Typing.{typed-exits}
 use Rattle.body_call.proofs.judge_typed.Statement.{statement}

@@ -1,4 +1,4 @@
--- `effects::give_plain` meets its contract.
+-- `body_effects::give_plain` meets its contract.
 use borrow.Author.Needs.{needs}
 use Rattle.body_effects.proofs.Giving.{give-exits}
 use Rattle.body_effects.proofs.give_plain.Statement.{statement}

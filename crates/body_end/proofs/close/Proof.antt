@@ -1,4 +1,4 @@
--- `blocks::close` meets its contract.
+-- `body_end::close` meets its contract.
 use borrow.Author.Needs.{needs}
 use Rattle.body_end.proofs.Ending.{end-exits}
 use Rattle.body_end.proofs.close.Statement.{statement}
@@ -43,8 +43,8 @@ enum-known-ended-2 c = search (end-exits, needs)
 enum-told-2 : tie.Need-enum-told-2
 enum-told-2 c = search (end-exits, needs)
 
-leave-requires : tie.Need-leave-requires
-leave-requires c κs = search (end-exits, needs)
+step-out-requires : tie.Need-step-out-requires
+step-out-requires c κs = search (end-exits, needs)
 
 same-length-3 : tie.Need-same-length-3
 same-length-3 c = search (end-exits, needs)
@@ -75,7 +75,7 @@ close-spec =
     end-with-requires-2
     enum-known-ended-2
     enum-told-2
-    leave-requires
+    step-out-requires
     same-length-3
     returns-3
     same-length-4

@@ -1,4 +1,4 @@
--- `blocks::end_with` meets its contract.
+-- `body_end::end_with` meets its contract.
 use borrow.Author.Needs.{needs}
 use Rattle.body_end.proofs.Ending.{end-exits}
 use Rattle.body_end.proofs.end_with.Statement.{statement}

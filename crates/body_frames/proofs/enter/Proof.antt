@@ -1,4 +1,4 @@
--- `frames::enter` meets its contract.
+-- `body_frames::enter` meets its contract.
 use borrow.Author.Needs.{needs}
 use Rattle.body_frames.proofs.Inside.{inside-exits}
 use Rattle.body_frames.proofs.enter.Statement.{statement}

@@ -1,4 +1,4 @@
--- `frames::mark` meets its contract.
+-- `body_frames::mark` meets its contract.
 use borrow.Author.Needs.{needs}
 use Rattle.body_frames.proofs.Setting.{mark-exits}
 use Rattle.body_frames.proofs.mark.Statement.{statement}

@@ -1,4 +1,4 @@
--- `frames::open` meets its contract.
+-- `body_frames::open` meets its contract.
 use borrow.Author.Needs.{needs}
 use Rattle.body_frames.proofs.Inside.{open-exits}
 use Rattle.body_frames.proofs.open.Statement.{statement}

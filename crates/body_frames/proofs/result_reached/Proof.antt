@@ -1,4 +1,4 @@
--- `frames::result_reached` meets its contract.
+-- `body_frames::result_reached` meets its contract.
 use borrow.Author.Needs.{needs}
 use Rattle.body_frames.proofs.Inside.{inside-exits}
 use Rattle.body_frames.proofs.result_reached.Statement.{statement}

@@ -1,4 +1,4 @@
--- `immediates::block_type_at` meets its contract: 40 or a value type, by the first byte.
+-- `body_immediates::block_type_at` meets its contract: 40 or a value type, by the first byte.
 use borrow.Author.Needs.{needs}
 use Rattle.body_immediates.proofs.Typing.{block-exits}
 use Rattle.body_immediates.proofs.block_type_at.Statement.{statement}

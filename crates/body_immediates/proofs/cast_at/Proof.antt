@@ -1,4 +1,4 @@
--- `immediates::cast_at` meets its contract: each of the four flags, then the rest.
+-- `body_immediates::cast_at` meets its contract: each of the four flags, then the rest.
 use borrow.Author.Needs.{needs}
 use Rattle.body_immediates.proofs.Branching.{cast-exits}
 use Rattle.body_immediates.proofs.cast_at.Statement.{statement}

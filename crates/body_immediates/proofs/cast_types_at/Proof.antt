@@ -1,4 +1,4 @@
--- `immediates::cast_types_at` meets its contract: label, source and target, one after the other.
+-- `body_immediates::cast_types_at` meets its contract: label, source and target, one after the other.
 use borrow.Author.Needs.{needs}
 use Rattle.body_immediates.proofs.Branching.{cast-types-exits}
 use Rattle.body_immediates.proofs.cast_types_at.Statement.{statement}

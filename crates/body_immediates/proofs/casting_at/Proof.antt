@@ -1,4 +1,4 @@
--- `immediates::casting_at` meets its contract: a cast, and the instruction by its code.
+-- `body_immediates::casting_at` meets its contract: a cast, and the instruction by its code.
 use borrow.Author.Needs.{needs}
 use Rattle.body_immediates.specs.Coding.{operationOf}
 use Rattle.body_immediates.proofs.Branching.{casting-exits}

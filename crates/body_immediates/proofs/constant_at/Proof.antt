@@ -1,4 +1,4 @@
--- `immediates::constant_at` meets its contract: an s32, one below zero by what it lacks of 2 to the 32.
+-- `body_immediates::constant_at` meets its contract: an s32, one below zero by what it lacks of 2 to the 32.
 use borrow.Author.Needs.{needs}
 use Rattle.body_immediates.proofs.Counting.{constant-exits}
 use Rattle.body_immediates.proofs.constant_at.Statement.{statement}

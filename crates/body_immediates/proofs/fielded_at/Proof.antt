@@ -1,4 +1,4 @@
--- `immediates::fielded_at` meets its contract: a type number and a field, and the instruction by its code.
+-- `body_immediates::fielded_at` meets its contract: a type number and a field, and the instruction by its code.
 use borrow.Author.Needs.{needs}
 use Rattle.body_immediates.proofs.Counting.{fielded-exits}
 use Rattle.body_immediates.proofs.fielded_at.Statement.{statement}

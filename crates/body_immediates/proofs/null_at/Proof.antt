@@ -1,4 +1,4 @@
--- `immediates::null_at` meets its contract: a heap type.
+-- `body_immediates::null_at` meets its contract: a heap type.
 use borrow.Author.Needs.{needs}
 use Rattle.body_immediates.proofs.Typing.{null-exits}
 use Rattle.body_immediates.proofs.null_at.Statement.{statement}

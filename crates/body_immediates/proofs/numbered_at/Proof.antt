@@ -1,4 +1,4 @@
--- `immediates::numbered_at` meets its contract: a u32, and the instruction by its code.
+-- `body_immediates::numbered_at` meets its contract: a u32, and the instruction by its code.
 use borrow.Author.Needs.{needs}
 use Rattle.body_immediates.specs.Coding.{operationOf}
 use Rattle.body_immediates.proofs.Counting.{numbered-exits}

@@ -1,4 +1,4 @@
--- `immediates::opening_at` meets its contract: a block type, and the instruction by its code.
+-- `body_immediates::opening_at` meets its contract: a block type, and the instruction by its code.
 use borrow.Author.Needs.{needs}
 use Rattle.body_immediates.proofs.Typing.{opening-exits}
 use Rattle.body_immediates.proofs.opening_at.Statement.{statement}

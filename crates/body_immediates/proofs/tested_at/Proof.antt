@@ -1,4 +1,4 @@
--- `immediates::tested_at` meets its contract: a heap type, and the instruction by its code.
+-- `body_immediates::tested_at` meets its contract: a heap type, and the instruction by its code.
 use borrow.Author.Needs.{needs}
 use Rattle.body_immediates.specs.Coding.{operationOf}
 use Rattle.body_immediates.proofs.Typing.{tested-exits}

@@ -1,4 +1,4 @@
--- `immediates::typed_at` meets its contract: a type number, kept, and the instruction by its code.
+-- `body_immediates::typed_at` meets its contract: a type number, kept, and the instruction by its code.
 use borrow.Author.Needs.{needs}
 use Rattle.body_immediates.specs.Coding.{operationOf}
 use Rattle.body_immediates.proofs.Counting.{typed-exits}

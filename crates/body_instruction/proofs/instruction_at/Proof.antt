@@ -1,4 +1,4 @@
--- `instructions::instruction_at` meets its contract: FB or any other byte.
+-- `body_instruction::instruction_at` meets its contract: FB or any other byte.
 use borrow.Author.Needs.{needs}
 use Rattle.body_instruction.proofs.Codes.{instruction-exits}
 use Rattle.body_instruction.proofs.instruction_at.Statement.{statement}

@@ -1,4 +1,4 @@
--- `instructions::listed_at` meets its contract: the number picks its row, or none.
+-- `body_instruction::listed_at` meets its contract: the number picks its row, or none.
 use borrow.Author.Needs.{needs}
 use Rattle.body_instruction.proofs.Codes.{rows, listed-exits}
 use Rattle.body_instruction.proofs.listed_at.Statement.{statement}

@@ -1,4 +1,4 @@
--- `instructions::prefixed_at` meets its contract: a u32, then its row.
+-- `body_instruction::prefixed_at` meets its contract: a u32, then its row.
 use borrow.Author.Needs.{needs}
 use Rattle.body_instruction.proofs.Codes.{prefixed-exits}
 use Rattle.body_instruction.proofs.prefixed_at.Statement.{statement}

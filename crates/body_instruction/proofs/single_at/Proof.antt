@@ -1,4 +1,4 @@
--- `instructions::single_at` meets its contract: the byte picks its row, or none.
+-- `body_instruction::single_at` meets its contract: the byte picks its row, or none.
 use borrow.Author.Needs.{needs}
 use Rattle.body_instruction.proofs.Codes.{rows, single-exits}
 use Rattle.body_instruction.proofs.single_at.Statement.{statement}

@@ -1,4 +1,4 @@
--- `locals::entry_at` meets its contract: count, type, reach and size, each refused in its turn.
+-- `body_locals::entry_at` meets its contract: count, type, reach and size, each refused in its turn.
 use borrow.Author.Needs.{needs}
 use Rattle.body_locals.proofs.OneEntry.{entry-exits}
 use Rattle.body_locals.proofs.entry_at.Statement.{statement}

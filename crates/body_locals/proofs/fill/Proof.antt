@@ -1,4 +1,4 @@
--- `locals::fill` meets its contract: each turn writes the word once more.
+-- `body_locals::fill` meets its contract: each turn writes the word once more.
 use Prim.Native.Nat.{_-_}
 use borrow.Author.Needs.{needs}
 use Rattle.body_locals.proofs.Filling.{Filled, fill-exits}

@@ -1,4 +1,4 @@
--- `locals::locals_at` meets its contract: each turn takes one entry from what the definition still has to read.
+-- `body_locals::locals_at` meets its contract: each turn takes one entry from what the definition still has to read.
 use borrow.Author.Needs.{needs}
 use Rattle.body_locals.proofs.Listing.{Listed, list-exits}
 use Rattle.body_locals.proofs.locals_at.Statement.{statement}

@@ -1,14 +1,14 @@
--- `bodies::judge_from` meets its contract: each turn takes one instruction from what the definition still has to judge.
+-- `body_loop::judge_from` meets its contract: each turn takes one instruction from what the definition still has to judge.
 use borrow.Author.Needs.{needs}
 use Rattle.body_loop.proofs.Looping.{Going, loop-exits}
 use Rattle.body_loop.proofs.judge_from.Statement.{statement}
 use Rattle.body_loop.proofs.judge_from.Tie as tie
 
 abbrev Inv-loop : tie.InvT-loop
-Inv-loop rows codes work₀ scene s at next₀ count₀ left₀ stand₀ work next count left stand = Going rows codes work₀ scene s at work next count left stand
+Inv-loop rows codes work₀ scene s at next₀ count₀ left₀ check₀ work next count left check = Going rows codes work₀ scene s at work next count left check
 
 abbrev μ-loop : tie.MeasureT-loop
-μ-loop rows codes work₀ scene s at next₀ count₀ left₀ stand₀ work next count left stand = left
+μ-loop rows codes work₀ scene s at next₀ count₀ left₀ check₀ work next count left check = left
 
 loop-holds : tie.Need-loop-holds Inv-loop μ-loop
 loop-holds c = search (loop-exits, needs)

@@ -1,4 +1,4 @@
--- `bodies::step` meets its contract.
+-- `body_loop::step` meets its contract.
 use borrow.Author.Needs.{needs}
 use Rattle.body_loop.proofs.OneStep.{step-exits}
 use Rattle.body_loop.proofs.step.Statement.{statement}

@@ -1,4 +1,4 @@
--- `operands::fits_word` meets its contract.
+-- `body_operands::fits_word` meets its contract.
 use borrow.Author.Needs.{needs}
 use Rattle.body_operands.proofs.Fitting.{fit-exits}
 use Rattle.body_operands.proofs.fits_word.Statement.{statement}

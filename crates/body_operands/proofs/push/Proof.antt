@@ -1,4 +1,4 @@
--- `operands::push` meets its contract.
+-- `body_operands::push` meets its contract.
 use borrow.Author.Needs.{needs}
 use Rattle.body_operands.proofs.OnTop.{on-exits}
 use Rattle.body_operands.proofs.push.Statement.{statement}

@@ -1,7 +1,7 @@
--- `operands::push_list` meets its contract: each turn puts the next type on top.
+-- `body_operands::push_list` meets its contract: each turn puts the next type on top.
 use Prim.Native.Nat.{_-_}
 use borrow.Author.Needs.{needs}
-use Rattle.body_state.specs.Standing.{valuesOf}
+use Rattle.body_state.specs.State.{valuesOf}
 use Rattle.body_operands.proofs.OnTop.{FirstOn, on-exits}
 use Rattle.body_operands.proofs.push_list.Statement.{statement}
 use Rattle.body_operands.proofs.push_list.Tie as tie

@@ -1,7 +1,7 @@
--- `operands::take_list` meets its contract: each turn takes the last of the types that are not taken yet.
+-- `body_operands::take_list` meets its contract: each turn takes the last of the types that are not taken yet.
 use borrow.Author.Needs.{needs}
 use Rattle.type_table.specs.View.{view}
-use Rattle.body_state.specs.Standing.{valuesOf}
+use Rattle.body_state.specs.State.{valuesOf}
 use Rattle.body_operands.proofs.Several.{FromTop, several-exits}
 use Rattle.body_operands.proofs.take_list.Statement.{statement}
 use Rattle.body_operands.proofs.take_list.Tie as tie

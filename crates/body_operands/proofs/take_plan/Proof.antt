@@ -1,4 +1,4 @@
--- `operands::take_plan` meets its contract.
+-- `body_operands::take_plan` meets its contract.
 use borrow.Author.Needs.{needs}
 use Rattle.body_operands.proofs.Several.{several-exits}
 use Rattle.body_operands.proofs.take_plan.Statement.{statement}

@@ -1,4 +1,4 @@
--- `branch_plans::block_label` meets its contract.
+-- `body_plan_branches::block_label` meets its contract.
 use borrow.Author.Needs.{needs}
 use Rattle.body_plan_branches.proofs.Labels.{label-exits}
 use Rattle.body_plan_branches.proofs.block_label.Statement.{statement}

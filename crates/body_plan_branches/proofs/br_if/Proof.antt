@@ -1,4 +1,4 @@
--- `branch_plans::br_if` meets its contract.
+-- `body_plan_branches::br_if` meets its contract.
 use borrow.Author.Needs.{needs}
 use Rattle.body_plan_branches.proofs.Labels.{label-exits}
 use Rattle.body_plan_branches.proofs.br_if.Statement.{statement}

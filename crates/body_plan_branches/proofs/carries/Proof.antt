@@ -1,4 +1,4 @@
--- `branch_plans::carries` meets its contract.
+-- `body_plan_branches::carries` meets its contract.
 use borrow.Author.Needs.{needs}
 use Rattle.body_plan_branches.proofs.Casting.{carry-exits}
 use Rattle.body_plan_branches.proofs.carries.Statement.{statement}

@@ -1,4 +1,4 @@
--- `branch_plans::cast_label` meets its contract.
+-- `body_plan_branches::cast_label` meets its contract.
 use borrow.Author.Needs.{needs}
 use Rattle.body_plan_branches.proofs.Casting.{target-exits}
 use Rattle.body_plan_branches.proofs.cast_label.Statement.{statement}

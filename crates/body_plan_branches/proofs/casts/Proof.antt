@@ -1,4 +1,4 @@
--- `branch_plans::casts` meets its contract.
+-- `body_plan_branches::casts` meets its contract.
 use borrow.Author.Needs.{needs}
 use Rattle.body_plan_branches.proofs.Casting.{cast-exits}
 use Rattle.body_plan_branches.proofs.casts.Statement.{statement}

@@ -1,4 +1,4 @@
--- `branch_plans::label_of` meets its contract.
+-- `body_plan_branches::label_of` meets its contract.
 use borrow.Author.Needs.{needs}
 use Rattle.body_plan_branches.proofs.Labels.{label-exits}
 use Rattle.body_plan_branches.proofs.label_of.Statement.{statement}

@@ -1,4 +1,4 @@
--- `branch_plans::rest_code` meets its contract.
+-- `body_plan_branches::rest_code` meets its contract.
 use borrow.Author.Needs.{needs}
 use Rattle.body_plan_branches.proofs.Casting.{rest-exits}
 use Rattle.body_plan_branches.proofs.rest_code.Statement.{statement}

@@ -1,4 +1,4 @@
--- `branch_plans::split_last` meets its contract.
+-- `body_plan_branches::split_last` meets its contract.
 use borrow.Author.Needs.{needs}
 use Rattle.body_plan_branches.proofs.Lasts.{last-exits}
 use Rattle.body_plan_branches.proofs.split_last.Statement.{statement}

@@ -1,4 +1,4 @@
--- `cast_plans::cast_desc_eq` meets its contract.
+-- `body_plan_casts::cast_desc_eq` meets its contract.
 use borrow.Author.Needs.{needs}
 use Rattle.body_plan_casts.proofs.Casting.{casting-exits}
 use Rattle.body_plan_casts.proofs.cast_desc_eq.Statement.{statement}

@@ -1,4 +1,4 @@
--- `cast_plans::descriptor_for` meets its contract.
+-- `body_plan_casts::descriptor_for` meets its contract.
 use borrow.Author.Needs.{needs}
 use Rattle.body_plan_casts.proofs.Targets.{target-exits}
 use Rattle.body_plan_casts.proofs.descriptor_for.Statement.{statement}

@@ -1,4 +1,4 @@
--- `cast_plans::get_desc` meets its contract.
+-- `body_plan_casts::get_desc` meets its contract.
 use borrow.Author.Needs.{needs}
 use Rattle.body_plan_casts.proofs.Casting.{getting-exits}
 use Rattle.body_plan_casts.proofs.get_desc.Statement.{statement}

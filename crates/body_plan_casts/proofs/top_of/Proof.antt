@@ -1,4 +1,4 @@
--- `cast_plans::top_of` meets its contract.
+-- `body_plan_casts::top_of` meets its contract.
 use borrow.Author.Needs.{needs}
 use Rattle.body_plan_casts.proofs.Targets.{target-exits}
 use Rattle.body_plan_casts.proofs.top_of.Statement.{statement}

@@ -1,4 +1,4 @@
--- `planning::defined_code` meets its contract.
+-- `body_plan_parts::defined_code` meets its contract.
 use borrow.Author.Needs.{needs}
 use Rattle.body_plan_parts.proofs.Words.{planning-exits}
 use Rattle.body_plan_parts.proofs.defined_code.Statement.{statement}

@@ -1,4 +1,4 @@
--- `planning::descriptor_of` meets its contract: the table's words have 16 bits.
+-- `body_plan_parts::descriptor_of` meets its contract: the table's words have 16 bits.
 use Prim.Native.Nat.{_+_, _*_}
 use native.Mathlib.Omega.{arith}
 use borrow.Author.Needs.{needs}

@@ -1,4 +1,4 @@
--- `planning::exact_code` meets its contract.
+-- `body_plan_parts::exact_code` meets its contract.
 use borrow.Author.Needs.{needs}
 use Rattle.body_plan_parts.proofs.Words.{planning-exits}
 use Rattle.body_plan_parts.proofs.exact_code.Statement.{statement}

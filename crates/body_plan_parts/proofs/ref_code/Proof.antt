@@ -1,4 +1,4 @@
--- `planning::ref_code` meets its contract.
+-- `body_plan_parts::ref_code` meets its contract.
 use borrow.Author.Needs.{needs}
 use Rattle.body_plan_parts.proofs.Words.{planning-exits}
 use Rattle.body_plan_parts.proofs.ref_code.Statement.{statement}

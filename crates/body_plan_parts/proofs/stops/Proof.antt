@@ -1,4 +1,4 @@
--- `planning::stops` meets its contract.
+-- `body_plan_parts::stops` meets its contract.
 use borrow.Author.Needs.{needs}
 use Rattle.body_plan_parts.proofs.Words.{planning-exits}
 use Rattle.body_plan_parts.proofs.stops.Statement.{statement}

@@ -1,4 +1,4 @@
--- `planning::takes` meets its contract.
+-- `body_plan_parts::takes` meets its contract.
 use borrow.Author.Needs.{needs}
 use Rattle.body_plan_parts.proofs.Words.{planning-exits}
 use Rattle.body_plan_parts.proofs.takes.Statement.{statement}

@@ -1,4 +1,4 @@
--- `struct_plans::all_default` meets its contract: each turn takes the first type off.
+-- `body_plan_structs::all_default` meets its contract: each turn takes the first type off.
 use borrow.Author.Needs.{needs}
 use Rattle.body_plan_structs.proofs.Defaults.{Walk, default-exits}
 use Rattle.body_plan_structs.proofs.all_default.Statement.{statement}

@@ -1,4 +1,4 @@
--- `struct_plans::defaulted` meets its contract.
+-- `body_plan_structs::defaulted` meets its contract.
 use borrow.Author.Needs.{needs}
 use Rattle.body_plan_structs.proofs.Defaults.{default-exits}
 use Rattle.body_plan_structs.proofs.defaulted.Statement.{statement}

@@ -1,4 +1,4 @@
--- `struct_plans::described` meets its contract.
+-- `body_plan_structs::described` meets its contract.
 use borrow.Author.Needs.{needs}
 use Rattle.body_plan_structs.proofs.Making.{describing-exits}
 use Rattle.body_plan_structs.proofs.described.Statement.{statement}

@@ -1,4 +1,4 @@
--- `struct_plans::field_of` meets its contract.
+-- `body_plan_structs::field_of` meets its contract.
 use borrow.Author.Needs.{needs}
 use Rattle.body_plan_structs.proofs.Finding.{finding-exits}
 use Rattle.body_plan_structs.proofs.field_of.Statement.{statement}

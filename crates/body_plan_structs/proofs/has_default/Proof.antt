@@ -1,4 +1,4 @@
--- `struct_plans::has_default` meets its contract.
+-- `body_plan_structs::has_default` meets its contract.
 use borrow.Author.Needs.{needs}
 use Rattle.body_plan_structs.proofs.Defaults.{default-exits}
 use Rattle.body_plan_structs.proofs.has_default.Statement.{statement}

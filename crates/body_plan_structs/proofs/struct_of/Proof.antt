@@ -1,4 +1,4 @@
--- `struct_plans::struct_of` meets its contract.
+-- `body_plan_structs::struct_of` meets its contract.
 use borrow.Author.Needs.{needs}
 use Rattle.body_plan_structs.proofs.Finding.{finding-exits}
 use Rattle.body_plan_structs.proofs.struct_of.Statement.{statement}

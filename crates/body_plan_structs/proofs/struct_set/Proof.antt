@@ -1,4 +1,4 @@
--- `struct_plans::struct_set` meets its contract.
+-- `body_plan_structs::struct_set` meets its contract.
 use borrow.Author.Needs.{needs}
 use Rattle.body_plan_structs.proofs.Finding.{field-exits}
 use Rattle.body_plan_structs.proofs.struct_set.Statement.{statement}

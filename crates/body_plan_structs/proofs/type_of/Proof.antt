@@ -1,4 +1,4 @@
--- `struct_plans::type_of` meets its contract.
+-- `body_plan_structs::type_of` meets its contract.
 use borrow.Author.Needs.{needs}
 use Rattle.body_plan_structs.proofs.Defaults.{default-exits}
 use Rattle.body_plan_structs.proofs.type_of.Statement.{statement}

@@ -1,4 +1,4 @@
--- `struct_plans::undescribed` meets its contract.
+-- `body_plan_structs::undescribed` meets its contract.
 use borrow.Author.Needs.{needs}
 use Rattle.body_plan_structs.proofs.Making.{describing-exits}
 use Rattle.body_plan_structs.proofs.undescribed.Statement.{statement}

@@ -1,4 +1,4 @@
--- `plans::act_of` meets its contract: each arm's instruction is the one whose rule its plan follows.
+-- `body_plans::act_of` meets its contract: each arm's instruction is the one whose rule its plan follows.
 use borrow.Author.Needs.{needs}
 use Rattle.body_plan_branches.specs.Branches.{castOp, descOp}
 use Rattle.body_decoded.specs.Decoded.{instrOf}

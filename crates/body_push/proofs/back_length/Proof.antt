@@ -1,4 +1,4 @@
--- `gives::back_length` meets its contract.
+-- `body_push::back_length` meets its contract.
 use borrow.Author.Needs.{needs}
 use Rattle.body_push.proofs.Exits.{give-exits}
 use Rattle.body_push.proofs.back_length.Statement.{statement}

@@ -1,4 +1,4 @@
--- `gives::give` meets its contract.
+-- `body_push::give` meets its contract.
 use borrow.Author.Needs.{needs}
 use Rattle.body_push.proofs.Exits.{give-exits}
 use Rattle.body_push.proofs.give.Statement.{statement}

@@ -1,4 +1,4 @@
--- `gives::gives_length` meets its contract.
+-- `body_push::gives_length` meets its contract.
 use borrow.Author.Needs.{needs}
 use Rattle.body_push.proofs.Exits.{give-exits}
 use Rattle.body_push.proofs.gives_length.Statement.{statement}

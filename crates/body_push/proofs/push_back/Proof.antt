@@ -1,4 +1,4 @@
--- `gives::push_back` meets its contract.
+-- `body_push::push_back` meets its contract.
 use borrow.Author.Needs.{needs}
 use Rattle.body_push.proofs.Exits.{give-exits}
 use Rattle.body_push.proofs.push_back.Statement.{statement}

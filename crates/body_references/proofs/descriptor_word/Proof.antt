@@ -1,4 +1,4 @@
--- `references::descriptor_word` meets its contract.
+-- `body_references::descriptor_word` meets its contract.
 use borrow.Author.Needs.{needs}
 use Rattle.body_references.proofs.Words.{word-exits}
 use Rattle.body_references.proofs.descriptor_word.Statement.{statement}

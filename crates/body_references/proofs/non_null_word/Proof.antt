@@ -1,4 +1,4 @@
--- `references::non_null_word` meets its contract.
+-- `body_references::non_null_word` meets its contract.
 use borrow.Author.Needs.{needs}
 use Rattle.body_references.proofs.Words.{word-exits}
 use Rattle.body_references.proofs.non_null_word.Statement.{statement}

@@ -1,4 +1,4 @@
--- `references::put_operand` meets its contract.
+-- `body_references::put_operand` meets its contract.
 use borrow.Author.Needs.{needs}
 use Rattle.body_references.proofs.Doing.{do-exits}
 use Rattle.body_references.proofs.put_operand.Statement.{statement}

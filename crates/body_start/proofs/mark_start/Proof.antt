@@ -1,4 +1,4 @@
--- `starting::mark_start` meets its contract: each turn writes one mark more.
+-- `body_start::mark_start` meets its contract: each turn writes one mark more.
 use Prim.Native.Nat.{_-_}
 use borrow.Author.Needs.{needs}
 use Rattle.body_start.proofs.Marking.{MarkedSoFar, marking-exits}

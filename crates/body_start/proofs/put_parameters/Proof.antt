@@ -1,4 +1,4 @@
--- `starting::put_parameters` meets its contract: each turn writes one type more.
+-- `body_start::put_parameters` meets its contract: each turn writes one type more.
 use Prim.Native.Nat.{_-_}
 use borrow.Author.Needs.{needs}
 use Rattle.body_start.proofs.Parameters.{SoFar, parameter-exits}

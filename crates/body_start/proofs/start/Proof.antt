@@ -1,4 +1,4 @@
--- `starting::start` meets its contract.
+-- `body_start::start` meets its contract.
 use borrow.Author.Needs.{needs}
 use Rattle.body_start.proofs.Whole.{start-exits}
 use Rattle.body_start.proofs.start.Statement.{statement}

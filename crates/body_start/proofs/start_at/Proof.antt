@@ -1,4 +1,4 @@
--- `starting::start_at` meets its contract.
+-- `body_start::start_at` meets its contract.
 use borrow.Author.Needs.{needs}
 use Rattle.body_start.proofs.Whole.{start-at-exits}
 use Rattle.body_start.proofs.start_at.Statement.{statement}

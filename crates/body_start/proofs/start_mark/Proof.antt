@@ -1,4 +1,4 @@
--- `starting::start_mark` meets its contract: a parameter first, then by the type.
+-- `body_start::start_mark` meets its contract: a parameter first, then by the type.
 use borrow.Author.Needs.{needs}
 use Rattle.body_start.proofs.Marking.{mark-exits}
 use Rattle.body_start.proofs.start_mark.Statement.{statement}

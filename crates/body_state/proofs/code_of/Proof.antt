@@ -1,4 +1,4 @@
--- `standing::code_of` meets its contract.
+-- `body_state::code_of` meets its contract.
 use borrow.Author.Needs.{needs}
 use Rattle.body_state.proofs.Answers.{answer-exits}
 use Rattle.body_state.proofs.code_of.Statement.{statement}

@@ -1,4 +1,4 @@
--- `standing::is_set` meets its contract.
+-- `body_state::is_set` meets its contract.
 use borrow.Author.Needs.{needs}
 use Rattle.body_state.proofs.Answers.{answer-exits}
 use Rattle.body_state.proofs.is_set.Statement.{statement}

@@ -1,4 +1,4 @@
--- `standing::length_of` meets its contract.
+-- `body_state::length_of` meets its contract.
 use borrow.Author.Needs.{needs}
 use Rattle.body_state.proofs.Answers.{answer-exits}
 use Rattle.body_state.proofs.length_of.Statement.{statement}

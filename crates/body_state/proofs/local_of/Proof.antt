@@ -1,4 +1,4 @@
--- `standing::local_of` meets its contract.
+-- `body_state::local_of` meets its contract.
 use borrow.Author.Needs.{needs}
 use Rattle.body_state.proofs.Answers.{answer-exits}
 use Rattle.body_state.proofs.local_of.Statement.{statement}

@@ -1,4 +1,4 @@
--- `standing::results_of` meets its contract.
+-- `body_state::results_of` meets its contract.
 use borrow.Author.Needs.{needs}
 use Rattle.body_state.proofs.Answers.{answer-exits}
 use Rattle.body_state.proofs.results_of.Statement.{statement}

@@ -1,8 +1,8 @@
--- `blocks::leave` meets its contract.
+-- `body_end::step_out` meets its contract.
 use borrow.Author.Needs.{needs}
 use Rattle.body_end.proofs.Ending.{end-exits}
-use Rattle.body_end.proofs.leave.Statement.{statement}
-use Rattle.body_end.proofs.leave.Tie as tie
+use Rattle.body_end.proofs.step_out.Statement.{statement}
+use Rattle.body_end.proofs.step_out.Tie as tie
 
 frame-word-requires : tie.Need-frame-word-requires
 frame-word-requires c κs = search (end-exits, needs)
@@ -43,8 +43,8 @@ same-length-2 c = search (end-exits, needs)
 returns-2 : tie.Need-returns-2
 returns-2 c = search (end-exits, needs)
 
-pub leave-spec : {M : Type 1} → statement M
-leave-spec =
+pub step-out-spec : {M : Type 1} → statement M
+step-out-spec =
     tie.close
     (tie.spec
     frame-word-requires

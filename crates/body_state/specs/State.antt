@@ -8,11 +8,12 @@ use mathlib.Core.List.{List, [], _∷_, _++_}
 use mathlib.Core.Option.{Option, none, some}
 use lib.ListN.{getD, getElem?, length}
 use lib.Dec.{eqb, ltb, leb}
+use Rattle.scope.specs.Sizes.{mostLocals, mostOperands, mostFrames}
 use Rattle.scope.specs.Syntax.{Val, defined, nullable}
 use Rattle.scope.specs.BodyRules.{Context, Wanted, value, anyValue, anyReference, values, itNonNull, itsDescriptor, Plan, Ruled, allowed, fault, fromTop, holdsOf}
 use Rattle.scope.specs.Bodies.{Operand, known, unknown, unknownReference, Frame, ofBlock, ofLoop, State, Next, goesOn, finished}
 use Rattle.type_table.specs.View.{valAtCode, fieldAtCode, codesAt, linkAt, view}
-use Rattle.body_state.specs.declared.Stand.{Stand}
+use Rattle.body_state.specs.declared.Check.{Check}
 use Rattle.body_state.specs.declared.Scene.{Scene}
 use Rattle.body_state.specs.declared.Values.{Values}
 use Rattle.body_state.specs.declared.Values
@@ -23,6 +24,7 @@ use Rattle.body_state.specs.declared.Step.{Step}
 use Rattle.body_state.specs.declared.Step
 use Rattle.body_state.specs.declared.Local.{Local}
 use Rattle.body_state.specs.declared.Local
+use Rattle.body_state.specs.Layout.{marksFrom, stampsFrom, operandsFrom, framesFrom, frameSpan, loopWord, resultWord, baseWord, heightWord, deadWord, stampWord, usedSize, codeBound}
 
 -- words
 
@@ -34,12 +36,9 @@ operandAtCode c = cond (eqb c 0) unknown (cond (eqb c 1) unknownReference (known
 unfoldable pub wantedAtCode : ℕ → Wanted
 wantedAtCode c = cond (eqb c 0) anyValue (cond (eqb c 1) anyReference (value (valAtCode (c - 2))))
 
--- no code of a type is as great as this: what is greater is read by its remainder, so that a word and two more fit 32 bits
-abbrev pub mostCode : ℕ
-mostCode = 1_048_576
-
+-- a code that is too great is read by its remainder
 unfoldable pub valAtWord : ℕ → Val
-valAtWord w = valAtCode (w % mostCode)
+valAtWord w = valAtCode (w % codeBound)
 
 -- 0 none, else one more than a type's code
 unfoldable pub resultsAt : ℕ → List Val
@@ -76,21 +75,21 @@ plannedOf codes (Planned.the-variants.Fault n) = fault n
 
 -- word k of frame m
 abbrev pub frameWord : List ℕ → ℕ → ℕ → ℕ
-frameWord work m k = getD work (1_280 + (8 * m + k)) 0
+frameWord work m k = getD work (framesFrom + (frameSpan * m + k)) 0
 
 -- operands
 
 -- so many operands above the lowest `base`, the top first
 unfoldable pub stack : List ℕ → ℕ → ℕ → List Operand
 stack work base zero = []
-stack work base (suc h) = operandAtCode (getD work (768 + (base + h)) 0) ∷ stack work base h
+stack work base (suc h) = operandAtCode (getD work (operandsFrom + (base + h)) 0) ∷ stack work base h
 
 -- locals
 
 -- whether local i was set in one of the frames up to number m
 unfoldable pub isSetAt : List ℕ → ℕ → ℕ → Bool
 isSetAt work m i =
-    let n = getD work (256 + i) 0 in ltb 0 n && (leb n m && eqb (frameWord work n 5) (getD work (512 + i) 0))
+    let n = getD work (marksFrom + i) 0 in ltb 0 n && (leb n m && eqb (frameWord work n stampWord) (getD work (stampsFrom + i) 0))
 
 -- of so many locals from i on
 unfoldable pub setsAt : List ℕ → ℕ → ℕ → ℕ → List Bool
@@ -106,10 +105,10 @@ frameOf isLoop rs os dead isSet = cond isLoop (ofLoop rs os dead isSet) (ofBlock
 unfoldable pub frameAt : List ℕ → ℕ → ℕ → Frame
 frameAt work count m =
     frameOf
-    (eqb (frameWord work m 0) 1)
-    (resultsAt (frameWord work m 1))
-    (stack work (frameWord work m 2) (frameWord work m 3))
-    (eqb (frameWord work m 4) 1)
+    (eqb (frameWord work m loopWord) 1)
+    (resultsAt (frameWord work m resultWord))
+    (stack work (frameWord work m baseWord) (frameWord work m heightWord))
+    (eqb (frameWord work m deadWord) 1)
     (setsAt work (m - 1) 0 count)
 
 -- the open blocks, innermost first: the outermost is frame 2
@@ -119,7 +118,7 @@ framesAt work count (suc d) = frameAt work count (d + 2) ∷ framesAt work count
 
 -- the whole
 
-unfoldable pub stateAt : List ℕ → ℕ → Stand → State
+unfoldable pub stateAt : List ℕ → ℕ → Check → State
 stateAt work count st =
     record {
       frames = framesAt work count (st .depth);
@@ -142,20 +141,20 @@ contextAt rows codes work k =
 -- Frame by frame, the operands below a frame are those of the frames around it: `base` of them below frame d + 1.
 pub data Rests (work : List ℕ) : ℕ → ℕ → Type 0 where
   floor : Rests work 0 0
-  above : {d base : ℕ} → Rests work d (frameWord work (d + 2) 2) → base ≡ frameWord work (d + 2) 2 + frameWord work (d + 2) 3 → Rests work (suc d) base
+  above : {d base : ℕ} → Rests work d (frameWord work (d + 2) baseWord) → base ≡ frameWord work (d + 2) baseWord + frameWord work (d + 2) heightWord → Rests work (suc d) base
 
 -- the sizes hold
-pub record Upright (work : List ℕ) (count : ℕ) (st : Stand) : Type 0 where
-  pub room : 1_800 ≤ length work
-  pub few : count ≤ 256
-  pub deep : st .depth < 64
-  pub low : st .base + st .height ≤ 512
+pub record Upright (work : List ℕ) (count : ℕ) (st : Check) : Type 0 where
+  pub room : usedSize ≤ length work
+  pub few : count ≤ mostLocals
+  pub deep : st .depth < mostFrames
+  pub low : st .base + st .height ≤ mostOperands
   pub rests : Rests work (st .depth) (st .base)
 
 -- Every stamp is the place of an instruction that was read before: it lies below `at`.
 pub record Stamped (work : List ℕ) (count depth at : ℕ) : Type 0 where
-  pub locals : (i : ℕ) → i < count → getD work (512 + i) 0 < at
-  pub frames : (m : ℕ) → m ≤ depth + 1 → frameWord work m 5 < at
+  pub locals : (i : ℕ) → i < count → getD work (stampsFrom + i) 0 < at
+  pub frames : (m : ℕ) → m ≤ depth + 1 → frameWord work m stampWord < at
 
 -- what comes of an instruction
 
@@ -167,9 +166,9 @@ stepOf work count (Step.the-variants.Fault n) = fault n
 -- The answer is `want`; the sizes hold as before, no stamp is new, and the locals' types stand as they stood.
 pub record Stepped (work work′ : List ℕ) (count depth : ℕ) (want : Ruled Next) (r : Step) : Type 0 where
   pub answer : stepOf work′ count r ≡ want
-  pub upright : (st : Stand) → r ≡ Step.the-variants.On st → Upright work′ count st
-  pub stamped : (st : Stand) → r ≡ Step.the-variants.On st → (at : ℕ) → Stamped work count depth at → Stamped work′ count (st .depth) at
-  pub types : (i : ℕ) → i < 256 → getD work′ i 0 ≡ getD work i 0
+  pub upright : (st : Check) → r ≡ Step.the-variants.On st → Upright work′ count st
+  pub stamped : (st : Check) → r ≡ Step.the-variants.On st → (at : ℕ) → Stamped work count depth at → Stamped work′ count (st .depth) at
+  pub types : (i : ℕ) → i < mostLocals → getD work′ i 0 ≡ getD work i 0
   pub size : length work′ ≡ length work
 
 -- what the questions answer
@@ -180,14 +179,14 @@ localOption (Local.the-variants.Is c) = some (valAtCode c)
 
 pub record LocalOf (work : List ℕ) (count x : ℕ) (r : Local) : Type 0 where
   pub is : localOption r ≡ getElem? (codesAt valAtWord work 0 count) x
-  pub small : (c : ℕ) → r ≡ Local.the-variants.Is c → c < mostCode
+  pub small : (c : ℕ) → r ≡ Local.the-variants.Is c → c < codeBound
 
 pub record LengthOf (values : Values) (r : ℕ) : Type 0 where
   pub is : (codes : List ℕ) → length (valuesOf codes values) ≡ r
 
 pub record CodeOf (codes : List ℕ) (values : Values) (i r : ℕ) : Type 0 where
   pub is : i < length (valuesOf codes values) → getElem? (valuesOf codes values) i ≡ some (valAtCode r)
-  pub small : r < mostCode
+  pub small : r < codeBound
 
 pub record ResultsOf (work : List ℕ) (m : ℕ) (r : Values) : Type 0 where
-  pub is : (codes : List ℕ) → valuesOf codes r ≡ resultsAt (frameWord work m 1)
+  pub is : (codes : List ℕ) → valuesOf codes r ≡ resultsAt (frameWord work m resultWord)
