@@ -94,8 +94,8 @@ module _ (s : List ℕ) (at : ℕ) {r : Front} (a : r ≡ frontIs (frontAt s at)
         answer = rw none;
         rowPut = λ d end g. impossible cc;
         codesPut = λ d end g. impossible cc;
-        rowsSize = refl;
-        codesSize = refl;
+        rowsKept = refl;
+        codesKept = refl;
       }
 
   module _ {i f g d e n : ℕ} (is : r ≡ Front.the-variants.Got i f g d e n) where
@@ -124,8 +124,8 @@ module _ (s : List ℕ) (at : ℕ) {r : Front} (a : r ≡ frontIs (frontAt s at)
           answer = b .answer ∙ told (formAt s n) ∙ ap (definitionIs used) (sym whole);
           rowPut = λ y end h. put (formAt s n) refl y end (sym whole ∙ h);
           codesPut = λ y end h. coded (formAt s n) refl y end (sym whole ∙ h);
-          rowsSize = b .rowsSize;
-          codesSize = b .codesSize;
+          rowsKept = b .rowsKept;
+          codesKept = b .codesKept;
         }
       where
         whole : definitionAt reach s at ≡ then (formAt s n) (λ k end. got (defined x k at end reach) end)

@@ -30,8 +30,8 @@ module _ {s : List ℕ} {at : ℕ} {codes codes′ : List ℕ} {used : ℕ} {r :
         answer = rw none;
         rowPut = λ f end g. impossible cc;
         codesPut = a .memory;
-        rowsSize = refl;
-        codesSize = a .size;
+        rowsKept = refl;
+        codesKept = a .size;
       }
 
   formed : (made : Form → ℕ → List ℕ) {rows rows′ : List ℕ} {row n end : ℕ} (f : Form) → formAt s at ≡ got f end → n ≡ length (formCodes (keptForm f)) → Puts rows rows′ row (made (keptForm f) end) → FormedRead made s at rows rows′ row codes codes′ used (DefinitionRead.the-variants.Got end (used + n))
@@ -40,8 +40,8 @@ module _ {s : List ℕ} {at : ℕ} {codes codes′ : List ℕ} {used : ℕ} {r :
         answer = rw (read, count);
         rowPut = λ g stop e. let same : f ≡ g = cc in let there : end ≡ stop = cc in rw (← same, ← there) put;
         codesPut = a .memory;
-        rowsSize = puts-length put;
-        codesSize = a .size;
+        rowsKept = puts-length put;
+        codesKept = a .size;
       }
 
   module _ (opens first described describing from reach further : ℕ) {rows rows′ : List ℕ} {row : ℕ} where

@@ -44,8 +44,8 @@ pub record FormedRead (made : Form → ℕ → List ℕ) (s : List ℕ) (at : �
   pub answer : r ≡ formedIs used (formAt s at)
   pub rowPut : (f : Form) (end : ℕ) → formAt s at ≡ got f end → Puts rows rows′ row (made (keptForm f) end)
   pub codesPut : (f : Form) (end : ℕ) → formAt s at ≡ got f end → Puts codes codes′ used (formCodes (keptForm f))
-  pub rowsSize : length rows′ ≡ length rows
-  pub codesSize : length codes′ ≡ length codes
+  pub rowsKept : length rows′ ≡ length rows
+  pub codesKept : length codes′ ≡ length codes
 
 abbrev pub definitionIs : ℕ → Read Definition → DefinitionRead
 definitionIs used (got d end) = DefinitionRead.the-variants.Got end (used + length (formCodes (keptForm (d .form))))
@@ -55,5 +55,5 @@ pub record DefinitionPut (reach : ℕ) (s : List ℕ) (at : ℕ) (rows rows′ :
   pub answer : r ≡ definitionIs used (definitionAt reach s at)
   pub rowPut : (d : Definition) (end : ℕ) → definitionAt reach s at ≡ got d end → Puts rows rows′ line (map low (row used (keptDefinition d)))
   pub codesPut : (d : Definition) (end : ℕ) → definitionAt reach s at ≡ got d end → Puts codes codes′ used (formCodes (keptForm (d .form)))
-  pub rowsSize : length rows′ ≡ length rows
-  pub codesSize : length codes′ ≡ length codes
+  pub rowsKept : length rows′ ≡ length rows
+  pub codesKept : length codes′ ≡ length codes

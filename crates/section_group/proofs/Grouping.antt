@@ -98,8 +98,8 @@ module _ {reach first n : ℕ} {s : List ℕ} {at : ℕ} {rows₀ rows codes₀ 
         answer = rw (whole, p .takes, p .counted);
         rowsPut = λ ds stop e. let same : p .done ≡ ds = cc in rw (← same) (p .rowsPut);
         codesPut = λ ds stop e. let same : p .done ≡ ds = cc in rw (← same) (p .codesPut);
-        rowsSize = grouped-rows-size;
-        codesSize = grouped-codes-size;
+        rowsKept = grouped-rows-size;
+        codesKept = grouped-codes-size;
       }
 
   pub grouped-number-fits : Fits w64 (first + count)
@@ -112,8 +112,8 @@ module _ {reach first n : ℕ} {s : List ℕ} {at : ℕ} {rows₀ rows codes₀ 
           answer = rw e;
           rowsPut = λ ds stop f. impossible cc;
           codesPut = λ ds stop f. impossible cc;
-          rowsSize = a;
-          codesSize = b;
+          rowsKept = a;
+          codesKept = b;
         }
 
     pub grouped-over : mostTypes ≤ first + count → GroupPut (entriesAt reach first n) s at rows₀ rows codes₀ codes used (GroupRead.the-variants.Refused oversize next)
@@ -136,10 +136,10 @@ module _ {reach first n : ℕ} {s : List ℕ} {at : ℕ} {rows₀ rows codes₀ 
 
       module _ {rows′ codes′ : List ℕ} {r : DefinitionRead} (a : DefinitionPut reach s next rows rows′ (rowSpan * count) codes codes′ taken r) where
         pub grouped-rows-kept : length rows′ ≡ length rows₀
-        grouped-rows-kept = a .rowsSize ∙ grouped-rows-size
+        grouped-rows-kept = a .rowsKept ∙ grouped-rows-size
 
         pub grouped-codes-kept : length codes′ ≡ length codes₀
-        grouped-codes-kept = a .codesSize ∙ grouped-codes-size
+        grouped-codes-kept = a .codesKept ∙ grouped-codes-size
 
         pub grouped-refused : {k place : ℕ} → r ≡ DefinitionRead.the-variants.Refused k place → GroupPut (entriesAt reach first n) s at rows₀ rows′ codes₀ codes′ used (GroupRead.the-variants.Refused k place)
         grouped-refused e =
@@ -157,7 +157,7 @@ module _ {reach first n : ℕ} {s : List ℕ} {at : ℕ} {rows₀ rows codes₀ 
             let put : Puts rows rows′ (0 + length (map low (rowsOf used (keptAll (p .done))))) (map low (row (used + length (codesOf (keptAll (p .done)))) (keptDefinition d))) =
             rw (line, ← t) (a .rowPut d after read) in
             let coded : Puts codes codes′ (used + length (codesOf (keptAll (p .done)))) (formCodes (keptForm (d .form))) = rw (← t) (a .codesPut d after read) in
-            let size = a .codesSize in
+            let size = a .codesKept in
             record {
               done = p .done ++ d ∷ [];
               counted = length-append (p .done) (d ∷ []) ∙ (omega arith);

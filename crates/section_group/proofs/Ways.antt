@@ -46,8 +46,8 @@ same-put {used = used} e p =
       answer = p .answer ∙ ap (groupIs used) (sym e);
       rowsPut = λ ds next f. p .rowsPut ds next (sym e ∙ f);
       codesPut = λ ds next f. p .codesPut ds next (sym e ∙ f);
-      rowsSize = p .rowsSize;
-      codesSize = p .codesSize;
+      rowsKept = p .rowsKept;
+      codesKept = p .codesKept;
     }
 
 no-put : (one : Reader (List Definition)) (s : List ℕ) (at : ℕ) {rows rows′ codes codes′ : List ℕ} (used : ℕ) {k place : ℕ} → length rows′ ≡ length rows → length codes′ ≡ length codes → one s at ≡ refused k place → GroupPut one s at rows rows′ codes codes′ used (GroupRead.the-variants.Refused k place)
@@ -56,8 +56,8 @@ no-put one s at used a b e =
       answer = rw e;
       rowsPut = λ ds next f. impossible cc;
       codesPut = λ ds next f. impossible cc;
-      rowsSize = a;
-      codesSize = b;
+      rowsKept = a;
+      codesKept = b;
     }
 
 -- several_at
@@ -101,7 +101,7 @@ module _ {s : List ℕ} {at first : ℕ} {rows rows′ codes codes′ : List ℕ
 
   pub alone-refused : {k place : ℕ} → r ≡ DefinitionRead.the-variants.Refused k place → GroupPut (aloneAt first) s at rows rows′ codes codes′ used (GroupRead.the-variants.Refused k place)
   alone-refused e =
-      no-put (aloneAt first) s at used (a .rowsSize) (a .codesSize) (alone-is (definition-refused-inv used (definitionAt (first + 1) s at) (a .answer) e))
+      no-put (aloneAt first) s at used (a .rowsKept) (a .codesKept) (alone-is (definition-refused-inv used (definitionAt (first + 1) s at) (a .answer) e))
 
   alone-read : {next taken : ℕ} (d : Definition) → definitionAt (first + 1) s at ≡ got d next → taken ≡ used + length (formCodes (keptForm (d .form))) → GroupPut (aloneAt first) s at rows rows′ codes codes′ used (GroupRead.the-variants.Got 1 next taken)
   alone-read {next} {taken} d read count =
@@ -110,8 +110,8 @@ module _ {s : List ℕ} {at first : ℕ} {rows rows′ codes codes′ : List ℕ
         answer = rw (whole, one-codes d, count);
         rowsPut = λ ds stop f. let same : d ∷ [] ≡ ds = cc in rw (← same, one-row used d) (a .rowPut d next read);
         codesPut = λ ds stop f. let same : d ∷ [] ≡ ds = cc in rw (← same, one-codes d) (a .codesPut d next read);
-        rowsSize = a .rowsSize;
-        codesSize = a .codesSize;
+        rowsKept = a .rowsKept;
+        codesKept = a .codesKept;
       }
 
   pub alone-got : {next taken : ℕ} → r ≡ DefinitionRead.the-variants.Got next taken → GroupPut (aloneAt first) s at rows rows′ codes codes′ used (GroupRead.the-variants.Got 1 next taken)

@@ -1,4 +1,4 @@
--- What the readers of groups and of the section answer and leave in the table, by the definitions of document 01.
+-- What the readers of groups answer and leave in the part of the table that they are lent, by the definitions of document 01.
 use Prim.Native.Nat.{ℕ, _+_, _-_, _*_, _^_, _≤_, _<_}
 use mathlib.Core.Path.{_≡_}
 use mathlib.Core.Bool.{cond}
@@ -49,5 +49,5 @@ pub record GroupPut (one : Reader (List Definition)) (s : List ℕ) (at : ℕ) (
   pub answer : r ≡ groupIs used (one s at)
   pub rowsPut : (ds : List Definition) (next : ℕ) → one s at ≡ got ds next → Puts rows rows′ 0 (map low (rowsOf used (keptAll ds)))
   pub codesPut : (ds : List Definition) (next : ℕ) → one s at ≡ got ds next → Puts codes codes′ used (codesOf (keptAll ds))
-  pub rowsSize : length rows′ ≡ length rows
-  pub codesSize : length codes′ ≡ length codes
+  pub rowsKept : length rows′ ≡ length rows
+  pub codesKept : length codes′ ≡ length codes

@@ -1,5 +1,4 @@
-// Reading groups and the whole section into the lent table. While a group is read, it is lent only the rest of the table
-// from its first row on.
+// Reading a group into the lent table, of which it is lent only the rest from its first row on.
 use number::Byte;
 use number::Natural;
 use scope::refusals;

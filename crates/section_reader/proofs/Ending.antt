@@ -65,11 +65,11 @@ groups-refused-inv (refused n m) p q = cc
 
 module _ (n : ℕ) {s : List ℕ} {at : ℕ} {rows rows′ codes codes′ : List ℕ} {r : GroupRead} (a : GroupPut (flatAt n) s at rows rows′ codes codes′ 0 r) where
   pub ended-refused : {k place : ℕ} → r ≡ GroupRead.the-variants.Refused k place → SectionPut (endedAt n s at) rows rows′ codes codes′ (SectionRead.the-variants.Refused k place)
-  ended-refused e = no-section (a .rowsSize) (a .codesSize) (rw (groups-refused-inv (groupsAt n 0 s at) (a .answer) e))
+  ended-refused e = no-section (a .rowsKept) (a .codesKept) (rw (groups-refused-inv (groupsAt n 0 s at) (a .answer) e))
 
   module _ {count next taken : ℕ} (e : r ≡ GroupRead.the-variants.Got count next taken) where
     over : (gs : List Group) → groupsAt n 0 s at ≡ got gs next → (next ≡ length s → ⊥) → SectionPut (endedAt n s at) rows rows′ codes codes′ (SectionRead.the-variants.Refused leftOver next)
-    over gs read h = no-section (a .rowsSize) (a .codesSize) (rw (read, ne-eqb next (length s) h))
+    over gs read h = no-section (a .rowsKept) (a .codesKept) (rw (read, ne-eqb next (length s) h))
 
     pub ended-over : (next ≡ length s → ⊥) → SectionPut (endedAt n s at) rows rows′ codes codes′ (SectionRead.the-variants.Refused leftOver next)
     ended-over h = let (gs, read, many) = groups-inv (groupsAt n 0 s at) (a .answer) e in over gs read h
@@ -82,8 +82,8 @@ module _ (n : ℕ) {s : List ℕ} {at : ℕ} {rows rows′ codes codes′ : List
           answer = rw (whole, many);
           rowsPut = λ fs end f. let same : gs ≡ fs = cc in rw (← same) (a .rowsPut (joined gs) next flattened);
           codesPut = λ fs end f. let same : gs ≡ fs = cc in rw (← same) (a .codesPut (joined gs) next flattened);
-          rowsKept = a .rowsSize;
-          codesKept = a .codesSize;
+          rowsKept = a .rowsKept;
+          codesKept = a .codesKept;
         }
 
     pub ended-all : next ≡ length s → SectionPut (endedAt n s at) rows rows′ codes codes′ (SectionRead.the-variants.Got count)

@@ -119,8 +119,8 @@ module _ {n : ℕ} {s : List ℕ} {at : ℕ} {rows₀ rows codes₀ codes : List
         answer = rw (whole, none, p .takes, p .counted);
         rowsPut = λ ds stop e. let same : joined (p .done) ≡ ds = cc in rw (← same) (p .rowsPut);
         codesPut = λ ds stop e. let same : joined (p .done) ≡ ds = cc in rw (← same) (p .codesPut);
-        rowsSize = walked-rows-size;
-        codesSize = walked-codes-size;
+        rowsKept = walked-rows-size;
+        codesKept = walked-codes-size;
       }
 
   module _ (more : 0 < left) where
@@ -134,13 +134,13 @@ module _ {n : ℕ} {s : List ℕ} {at : ℕ} {rows₀ rows codes₀ codes : List
 
     module _ {part codes′ : List ℕ} {r : GroupRead} (a : GroupPut (groupAt first) s next (midOf (rowSpan * first) (length rows - rowSpan * first) rows) part codes codes′ used r) where
       part-size : length part ≡ length (drop (rowSpan * first) rows)
-      part-size = a .rowsSize ∙ ap length (rest-is (rowSpan * first) rows)
+      part-size = a .rowsKept ∙ ap length (rest-is (rowSpan * first) rows)
 
       pub walked-rows-kept : length (putMid (rowSpan * first) (length rows - rowSpan * first) rows part) ≡ length rows₀
-      walked-rows-kept = same-len-mid (rowSpan * first) (length rows - rowSpan * first) rows part (a .rowsSize) ∙ walked-rows-size
+      walked-rows-kept = same-len-mid (rowSpan * first) (length rows - rowSpan * first) rows part (a .rowsKept) ∙ walked-rows-size
 
       pub walked-codes-kept : length codes′ ≡ length codes₀
-      walked-codes-kept = a .codesSize ∙ walked-codes-size
+      walked-codes-kept = a .codesKept ∙ walked-codes-size
 
       pub walked-refused : {k place : ℕ} → r ≡ GroupRead.the-variants.Refused k place → GroupPut (flatAt n) s at rows₀ (putMid (rowSpan * first) (length rows - rowSpan * first) rows part) codes₀ codes′ 0 (GroupRead.the-variants.Refused k place)
       walked-refused {k} {place} e =
@@ -150,8 +150,8 @@ module _ {n : ℕ} {s : List ℕ} {at : ℕ} {rows₀ rows codes₀ codes : List
             answer = rw whole;
             rowsPut = λ ds stop f. impossible cc;
             codesPut = λ ds stop f. impossible cc;
-            rowsSize = walked-rows-kept;
-            codesSize = walked-codes-kept;
+            rowsKept = walked-rows-kept;
+            codesKept = walked-codes-kept;
           }
 
       kept-more : (g : Group) → keptAll (joined (p .done ++ g ∷ [])) ≡ keptAll (joined (p .done)) ++ keptAll g
@@ -177,7 +177,7 @@ module _ {n : ℕ} {s : List ℕ} {at : ℕ} {rows₀ rows codes₀ codes : List
           let there : Puts rows (putMid (rowSpan * first) (length rows - rowSpan * first) rows part) (rowSpan * first + 0) (map low (rowsOf used (keptAll g))) = puts-part rows (rowSpan * first) walked-start (rest-put (rowSpan * first) rows part walked-start) here in
           let line : 0 + length (map low (rowsOf 0 (keptAll (joined (p .done))))) ≡ rowSpan * first + 0 = (let l = rows-done 0 (joined (p .done)) in omega arith) in
           let coded : Puts codes codes′ (0 + length (codesOf (keptAll (joined (p .done))))) (codesOf (keptAll g)) = (let z : 0 + length (codesOf (keptAll (joined (p .done)))) ≡ used = omega arith in rw z (a .codesPut g after read)) in
-          let size = a .codesSize in
+          let size = a .codesKept in
           record {
             done = p .done ++ g ∷ [];
             same =
