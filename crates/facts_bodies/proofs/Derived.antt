@@ -9,6 +9,7 @@ use Rattle.scope.specs.Instructions.{Cast, Op}
 use Rattle.scope.specs.BodyRules.{Context, Scope, Wanted, values, Plan, allowed, takes, sourceOf, targetOf, restOf, branches, planOf, fromTop, value}
 use Rattle.facts_bodies.specs.Rules.{Branching, Rule, rule-unreachable, rule-nop, rule-return, rule-drop, rule-br, rule-br-if, rule-local-get, rule-local-set, rule-local-tee, rule-i32-const, rule-ref-null, rule-ref-is-null, rule-ref-eq, rule-ref-as-non-null, rule-struct-new, rule-struct-new-default, rule-struct-get, rule-struct-set, rule-ref-test, rule-ref-cast, rule-br-on-cast, rule-br-on-cast-fail, rule-struct-new-desc, rule-struct-new-default-desc, rule-ref-get-desc, rule-ref-cast-desc-eq, rule-br-on-cast-desc-eq, rule-br-on-cast-desc-eq-fail}
 use Rattle.facts_bodies.proofs.Premises.{allBelow, append-every, number-reached-tested, heap-reached-tested, defaults-tested, set-tested, cast-takes-tested, last-found, Ordered}
+use Rattle.facts_bodies.proofs.Apart.{only-top, only-rest}
 
 module _ (c : Context) (here : Scope) (ordered : Ordered (c .types)) where
   names-reached : {k : Cast} {carried : Val} {vs : List Val}
@@ -44,15 +45,15 @@ module _ (c : Context) (here : Scope) (ordered : Ordered (c .types)) where
   derived-plan (rule-struct-new-default s none-there defaults) = rw (number-reached-tested (c .count) (s .inReach), s .form, none-there, defaults-tested defaults)
   derived-plan (rule-struct-get f) = rw (number-reached-tested (c .count) (f .isStruct .inReach), f .isStruct .form, f .present)
   derived-plan (rule-struct-set f mutable) = rw (number-reached-tested (c .count) (f .isStruct .inReach), f .isStruct .form, f .present, mutable)
-  derived-plan (rule-ref-test inReach) = rw (heap-reached-tested (c .count) inReach)
-  derived-plan (rule-ref-cast inReach) = rw (heap-reached-tested (c .count) inReach)
-  derived-plan (rule-br-on-cast {k = k} b) = rw (names-reached b, b .label) (branch-allowed k (targetOf k) (restOf k) [] b)
-  derived-plan (rule-br-on-cast-fail {k = k} b) = rw (names-reached b, b .label) (branch-allowed k (restOf k) (targetOf k) [] b)
+  derived-plan (rule-ref-test {h = h} inReach top) = rw (heap-reached-tested (c .count) inReach, only-top ordered h top)
+  derived-plan (rule-ref-cast {h = h} inReach top) = rw (heap-reached-tested (c .count) inReach, only-top ordered h top)
+  derived-plan (rule-br-on-cast {k = k} {rest = v} r b) = rw (names-reached b, b .label, only-rest k r) (branch-allowed k (targetOf k) v [] b)
+  derived-plan (rule-br-on-cast-fail {k = k} {rest = v} r b) = rw (names-reached b, b .label, only-rest k r) (branch-allowed k v (targetOf k) [] b)
   derived-plan (rule-struct-new-desc s described) = rw (number-reached-tested (c .count) (s .inReach), s .form, described)
   derived-plan (rule-struct-new-default-desc s described defaults) = rw (number-reached-tested (c .count) (s .inReach), s .form, described, defaults-tested defaults)
   derived-plan (rule-ref-get-desc inReach described) = rw (number-reached-tested (c .count) inReach, described)
   derived-plan (rule-ref-cast-desc-eq inReach d) = rw (heap-reached-tested (c .count) inReach, cast-takes-tested (c .types) d)
-  derived-plan (rule-br-on-cast-desc-eq {k = k} {d = d} b t) =
-      rw (names-reached b, b .label, cast-takes-tested (c .types) t) (branch-allowed k (targetOf k) (restOf k) (value (nullable d) ∷ []) b)
-  derived-plan (rule-br-on-cast-desc-eq-fail {k = k} {d = d} b t) =
-      rw (names-reached b, b .label, cast-takes-tested (c .types) t) (branch-allowed k (restOf k) (targetOf k) (value (nullable d) ∷ []) b)
+  derived-plan (rule-br-on-cast-desc-eq {k = k} {rest = v} {d = d} r b t) =
+      rw (names-reached b, b .label, cast-takes-tested (c .types) t, only-rest k r) (branch-allowed k (targetOf k) v (value (nullable d) ∷ []) b)
+  derived-plan (rule-br-on-cast-desc-eq-fail {k = k} {rest = v} {d = d} r b t) =
+      rw (names-reached b, b .label, cast-takes-tested (c .types) t, only-rest k r) (branch-allowed k v (targetOf k) (value (nullable d) ∷ []) b)

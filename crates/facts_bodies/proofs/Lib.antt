@@ -1,5 +1,6 @@
 pub mod Ruled
 pub mod Premises
+pub mod Apart
 pub mod Planned
 pub mod Derived
 pub mod Stack

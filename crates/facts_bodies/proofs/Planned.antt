@@ -15,6 +15,7 @@ use Rattle.facts_bodies.specs.Premises.{Each, HeapReached, Default}
 use Rattle.facts_bodies.specs.Rules.{StructType, FieldOf, Branching, Rule, rule-unreachable, rule-nop, rule-return, rule-drop, rule-br, rule-br-if, rule-local-get, rule-local-set, rule-local-tee, rule-i32-const, rule-ref-null, rule-ref-is-null, rule-ref-eq, rule-ref-as-non-null, rule-struct-new, rule-struct-new-default, rule-struct-get, rule-struct-set, rule-ref-test, rule-ref-cast, rule-br-on-cast, rule-br-on-cast-fail, rule-struct-new-desc, rule-struct-new-default-desc, rule-ref-get-desc, rule-ref-cast-desc-eq, rule-br-on-cast-desc-eq, rule-br-on-cast-desc-eq-fail}
 use Rattle.facts_bodies.proofs.Ruled.{same-allowed, test-passed, need-met}
 use Rattle.facts_bodies.proofs.Premises.{every-append, tested-number-reached, tested-heap-reached, tested-defaults, tested-set, has-fields, has-none, tested-cast-takes, found-last}
+use Rattle.facts_bodies.proofs.Apart.{top-stands, rest-stands}
 
 module _ (c : Context) (here : Scope) where
   -- the plan of an instruction is the one that its rule states
@@ -123,16 +124,16 @@ module _ (c : Context) (here : Scope) where
       let (f, isField, more) = field-found x i _ e in
       let (mutable, plan) = test-passed _ _ _ more in
       stated (rule-struct-set isField mutable) plan
-  planned-rule (ref-test n h) e = let (inReach, plan) = heap-found h _ e in stated (rule-ref-test inReach) plan
-  planned-rule (ref-cast n h) e = let (inReach, plan) = heap-found h _ e in stated (rule-ref-cast inReach) plan
+  planned-rule (ref-test n h) e = let (inReach, plan) = heap-found h _ e in stated (rule-ref-test inReach (top-stands (c .types) h)) plan
+  planned-rule (ref-cast n h) e = let (inReach, plan) = heap-found h _ e in stated (rule-ref-cast inReach (top-stands (c .types) h)) plan
   planned-rule (br-on-cast k) e =
       let (label, named, more) = cast-found k _ e in
       let (vs, branching, plan) = branch-found k _ _ [] named more in
-      stated (rule-br-on-cast branching) plan
+      stated (rule-br-on-cast (rest-stands k) branching) plan
   planned-rule (br-on-cast-fail k) e =
       let (label, named, more) = cast-found k _ e in
       let (vs, branching, plan) = branch-found k _ _ [] named more in
-      stated (rule-br-on-cast-fail branching) plan
+      stated (rule-br-on-cast-fail (rest-stands k) branching) plan
   planned-rule (struct-new-desc x) e =
       let (fs, isStruct, more) = struct-found x _ e in
       let (y, described, plan) = need-met _ _ _ more in
@@ -154,9 +155,9 @@ module _ (c : Context) (here : Scope) where
       let (label, named, more) = cast-found k _ e in
       let (d, found, last) = need-met _ _ _ more in
       let (vs, branching, plan) = branch-found k (targetOf k) (restOf k) (value (nullable d) ∷ []) named last in
-      stated (rule-br-on-cast-desc-eq branching (tested-cast-takes (c .types) (k .target) found)) plan
+      stated (rule-br-on-cast-desc-eq (rest-stands k) branching (tested-cast-takes (c .types) (k .target) found)) plan
   planned-rule (br-on-cast-desc-eq-fail k) e =
       let (label, named, more) = cast-found k _ e in
       let (d, found, last) = need-met _ _ _ more in
       let (vs, branching, plan) = branch-found k (restOf k) (targetOf k) (value (nullable d) ∷ []) named last in
-      stated (rule-br-on-cast-desc-eq-fail branching (tested-cast-takes (c .types) (k .target) found)) plan
+      stated (rule-br-on-cast-desc-eq-fail (rest-stands k) branching (tested-cast-takes (c .types) (k .target) found)) plan

@@ -76,16 +76,16 @@ rule-answers (rule-struct-new s d) = by-itself
 rule-answers (rule-struct-new-default s d fs) = by-itself
 rule-answers (rule-struct-get f) = by-itself
 rule-answers (rule-struct-set f m) = by-itself
-rule-answers (rule-ref-test h) = by-itself
-rule-answers (rule-ref-cast h) = by-itself
-rule-answers (rule-br-on-cast b) = by-itself
-rule-answers (rule-br-on-cast-fail b) = by-itself
+rule-answers (rule-ref-test h top) = by-itself
+rule-answers (rule-ref-cast h top) = by-itself
+rule-answers (rule-br-on-cast r b) = by-itself
+rule-answers (rule-br-on-cast-fail r b) = by-itself
 rule-answers (rule-struct-new-desc s d) = by-itself
 rule-answers (rule-struct-new-default-desc s d fs) = by-itself
 rule-answers (rule-ref-get-desc x d) = by-described
 rule-answers (rule-ref-cast-desc-eq h d) = by-itself
-rule-answers (rule-br-on-cast-desc-eq b d) = by-itself
-rule-answers (rule-br-on-cast-desc-eq-fail b d) = by-itself
+rule-answers (rule-br-on-cast-desc-eq r b d) = by-itself
+rule-answers (rule-br-on-cast-desc-eq-fail r b d) = by-itself
 
 module _ {ts : Types} (ordered : Ordered ts) where
   not-fitting : {o : Operand} {w : Val} → fits ts o (value w) ≡ false → ¬ OperandFits ts o w

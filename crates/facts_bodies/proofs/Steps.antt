@@ -1,39 +1,54 @@
 -- One instruction: the checker allows it with a next state exactly when it is typed with that next state. A rule's plan is
 -- carried out by taking and putting; a block is opened or ended as the frames say.
-use mathlib.Core.Path.{_≡_, refl, _∙_, ap, subst}
+use Prim.Native.Nat.{_≤_}
+use native.Mathlib.Omega.{arith}
+use mathlib.Core.Path.{_≡_, refl, sym, _∙_, ap, subst}
 use mathlib.Core.Logic.{_↔_}
 use mathlib.Core.Bool.{Bool, true, false, cond}
 use mathlib.Core.List.{List, [], _∷_, _++_, map}
 use borrow.Author.Tests.{ltb-true, lt-ltb, leb-true, le-leb}
+use Rattle.scope.specs.Sizes.{mostOperands}
 use Rattle.scope.specs.Lists.{joined}
 use Rattle.scope.specs.Syntax.{Val}
 use Rattle.scope.specs.TypeRules.{valNames}
 use Rattle.scope.specs.Instructions.{Op, Instr, block, loop, end, op}
-use Rattle.scope.specs.BodyRules.{Context, Plan, Ruled, allowed, fromTop, reached}
-use Rattle.scope.specs.Bodies.{Operand, Taken, put, Frame, ofBlock, ofLoop, State, scopeOf, marked, Next, goesOn, within, after, doPlan, entered, noneLeft, ending, leave, close, judgeInstr}
+use Rattle.scope.specs.BodyRules.{Context, Scope, Plan, Ruled, allowed, fromTop, reached}
+use Rattle.scope.specs.Bodies.{Operand, Taken, put, Frame, ofBlock, ofLoop, State, scopeOf, operandsIn, marked, Next, goesOn, within, after, doPlan, entered, noneLeft, ending, leave, close, judgeInstr}
 use Rattle.facts_bodies.specs.Premises.{Takes}
+use Rattle.facts_bodies.specs.Apart.{Sees}
 use Rattle.facts_bodies.specs.Rules.{Rule}
 use Rattle.facts_bodies.specs.Typing.{inside, past, Roomy, Opens, Results, TypedInstr, passes, stops, opens-block, opens-loop, ends-block, ends-loop, ends-body}
 use Rattle.facts_bodies.proofs.Ruled.{fault-is-not-allowed, same-allowed, test-passed, first-allowed}
 use Rattle.facts_bodies.proofs.Premises.{Ordered, tested-values-reached, values-reached-tested}
+use Rattle.facts_bodies.proofs.Apart.{scope-stands, only-scope, operands-stand, only-operands}
 use Rattle.facts_bodies.proofs.Planned.{planned-rule}
 use Rattle.facts_bodies.proofs.Derived.{derived-plan}
 use Rattle.facts_bodies.proofs.Stack.{allowed-takes, takes-allowed, rule-puts, puts-put}
 
 -- room
 
+pub few-roomy : {st : State} → operandsIn st ≤ mostOperands → Roomy st
+few-roomy {st} few = record { fewOperands = λ all. let same = only-operands all in omega arith }
+
+pub roomy-few : {st : State} → Roomy st → operandsIn st ≤ mostOperands
+roomy-few {st} r = r .fewOperands (operands-stand st)
+
 pub within-roomy : (st : State) {n : Next} → within st ≡ allowed n → Roomy st × (goesOn st ≡ n)
 within-roomy st e =
     let (few, same) = test-passed _ _ _ e in
-    (record { fewOperands = leb-true _ _ few }, same-allowed same)
+    (few-roomy (leb-true _ _ few), same-allowed same)
 
 pub roomy-within : {st : State} → Roomy st → within st ≡ allowed (goesOn st)
-roomy-within r = rw (le-leb _ _ (r .fewOperands))
+roomy-within r = rw (le-leb _ _ (roomy-few r))
 
 module _ (c : Context) (st : State) where
   -- the same instruction, with the next state under its other name
   as-typed : {i : Instr} {n m : Next} → TypedInstr c st i n → n ≡ m → TypedInstr c st i m
   as-typed {i} t e = subst (TypedInstr c st i) e t
+
+  -- what is seen is the checker's own scope
+  as-seen : {here : Scope} {o : Op} {p : Plan} → Sees c st here → Rule c here o p → Rule c (scopeOf c st) o p
+  as-seen {o = o} {p} seen rule = subst (λ (h : Scope). Rule c h o p) (sym (only-scope seen)) rule
 
   -- blocks
 
@@ -109,8 +124,8 @@ module _ (c : Context) (st : State) where
             → p .stops ≡ b
             → Roomy (stepped b p (put (c .types) (p .gives) (t .taken) ++ t .left))
             → TypedInstr c st (op o) (goesOn (stepped b p (put (c .types) (p .gives) (t .taken) ++ t .left)))
-        go t k true s roomy = stops rule s k roomy
-        go t k false s roomy = passes rule s k (rule-puts ordered rule k) roomy
+        go t k true s roomy = stops (scope-stands c st) rule s k roomy
+        go t k false s roomy = passes (scope-stands c st) rule s k (rule-puts ordered rule k) roomy
 
     planned : (p : Plan) {taken left : List Operand} {next : State}
         → Takes (c .types) (st .dead) (p .wants) (st .operands) taken left
@@ -131,8 +146,8 @@ module _ (c : Context) (st : State) where
 
     pub typed-allowed : {i : Instr} {n : Next} → TypedInstr c st i n → judgeInstr c st i ≡ allowed n
     unfolding judgeInstr close
-    typed-allowed (passes {p = p} rule s k puts roomy) = rw (derived-plan c (scopeOf c st) ordered rule) (planned p k (rw (s, puts-put ordered puts)) roomy)
-    typed-allowed (stops {p = p} rule s k roomy) = rw (derived-plan c (scopeOf c st) ordered rule) (planned p k (rw s) roomy)
+    typed-allowed (passes {p = p} seen rule s k puts roomy) = rw (derived-plan c (scopeOf c st) ordered (as-seen seen rule)) (planned p k (rw (s, puts-put ordered puts)) roomy)
+    typed-allowed (stops {p = p} seen rule s k roomy) = rw (derived-plan c (scopeOf c st) ordered (as-seen seen rule)) (planned p k (rw s) roomy)
     typed-allowed (opens-block o) = opens-entered _ o
     typed-allowed (opens-loop o) = opens-entered _ o
     typed-allowed (ends-block p results roomy) = ap (close c st) p ∙ results-ending _ results ∙ roomy-within roomy

@@ -17,11 +17,12 @@ use Rattle.scope.specs.Syntax.{Val, Form, struct, func, Definition, typesOf}
 use Rattle.scope.specs.Sections.{ended}
 use Rattle.scope.specs.Judging.{Judged, accepted, rejected, andThen, judgeSection}
 use Rattle.scope.specs.Instructions.{Instr}
-use Rattle.scope.specs.Bodies.{Code, judgeFrom, localsAt, Function, functionOf, Body, startState, contextOf, bodyAt, judgedOf, judgeBody}
+use Rattle.scope.specs.Bodies.{State, Code, judgeFrom, localsAt, Function, functionOf, Body, startState, contextOf, bodyAt, judgedOf, judgeBody}
 use Rattle.scope.proofs.Truths.{none-is-not-some}
 use Rattle.scope.proofs.Impossible.{contradiction}
 use Rattle.facts_bodies.specs.Typing.{TypedBody, Entry, Locals, InstrsAt, FunctionType, Writing, Derivation}
 use Rattle.facts_bodies.proofs.Premises.{same-some, Ordered}
+use Rattle.facts_bodies.proofs.Apart.{start-stands, only-start}
 use Rattle.facts_bodies.proofs.Bytes.{same-got, first-got, cond-got, got-locals, locals-got, instructionsOf, got-walked, typed-got}
 
 -- acceptances
@@ -120,12 +121,16 @@ module _ (ds : List Definition) (ordered : Ordered (typesOf ds)) (s : List ℕ) 
       let (code, walk, same) = typed-got (contextOf ds f ls) ordered s (length s) t (w .instructions) (omega arith) in
       (code, rw (w .counted, locals-got s (length ds) (w .entries) l, walk, eq-eqb (length s) (length s) refl), same)
 
+  -- a derivation's own start is the checker's
+  pub from-start : {x : ℕ} {f : Function} {ls : List Val} {is : List Instr} → Derivation ds x s f ls is → TypedBody (contextOf ds f ls) (startState f ls) is
+  from-start {f = f} {ls} {is} d = subst (λ (st : State). TypedBody (contextOf ds f ls) st is) (sym (only-start (d .starts))) (d .typed)
+
   -- the verdict, section and all
 
   accepted-shown : (x : ℕ) {b : Body}
       → cond (ltb mostBytes (length s)) (rejected oversize 0) (given (functionOf (typesOf ds x .form)) (rejected notAFunction 0) (λ f. judgedOf (bodyAt ds f s))) ≡ accepted b
       → Derivation ds x s (b .function) (b .locals) (instructionsOf (b .code))
-  accepted-shown x e =
+  accepted-shown x {b} e =
       let (small, more) = not-rejected _ _ _ _ e in
       let (f, isFunction, rest) = given-accepted (functionOf (typesOf ds x .form)) _ _ _ more in
       let (stop, reading) = judged-got (bodyAt ds f s) rest in
@@ -136,6 +141,8 @@ module _ (ds : List Definition) (ordered : Ordered (typesOf ds)) (s : List ℕ) 
         entries = shown .entries;
         written = shown .written;
         allLocals = shown .allLocals;
+        start = startState (b .function) (b .locals);
+        starts = start-stands (b .function) (b .locals);
         typed = shown .typed;
       }
 
@@ -149,7 +156,7 @@ module _ (ds : List Definition) (ordered : Ordered (typesOf ds)) (s : List ℕ) 
         → (code : Code) × (judgeBody section s x ≡ accepted (record { types = ds; function = f; locals = ls; code = code })) × (instructionsOf code ≡ is)
     unfolding judgeBody
     derivation-accepted {f} d =
-        let (code, reading, same) = shown-got f (d .written) (d .allLocals) (d .typed) in
+        let (code, reading, same) = shown-got f (d .written) (d .allLocals) (from-start d) in
         (code, rw (judged, le-ltb _ _ (d .small), function-found ds x (d .isFunction), reading), same)
 
 -- a body's verdict is yes only where the section's is

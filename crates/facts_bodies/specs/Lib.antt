@@ -1,3 +1,4 @@
 pub mod Premises
+pub mod Apart
 pub mod Rules
 pub mod Typing

@@ -6,12 +6,13 @@ use mathlib.Core.Bool.{Bool, true, false}
 use mathlib.Core.Option.{none, some}
 use mathlib.Core.List.{List, [], _∷_, _++_}
 use lib.ListN.{getElem?}
-use Rattle.scope.specs.Abstract.{ANY, EQ}
+use Rattle.scope.specs.Abstract.{Abstract, ANY, EQ}
 use Rattle.scope.specs.Syntax.{Heap, abstract, defined, exact, i32, Val, num, ref, nullable, nonNull, Field, struct}
 use Rattle.scope.specs.Order.{ValOrder}
 use Rattle.scope.specs.Instructions.{Cast, Op, unreachable, nop, return, drop-value, br, br-if, local-get, local-set, local-tee, i32-const, ref-null, ref-is-null, ref-eq, ref-as-non-null, struct-new, struct-new-default, struct-get, struct-set, ref-test, ref-cast, br-on-cast, br-on-cast-fail, struct-new-desc, struct-new-default-desc, ref-get-desc, ref-cast-desc-eq, br-on-cast-desc-eq, br-on-cast-desc-eq-fail}
-use Rattle.scope.specs.BodyRules.{Context, Scope, Wanted, value, anyValue, anyReference, Gives, values, itNonNull, itsDescriptor, Plan, fromTop, holdsOf, topOf, sourceOf, targetOf, restOf}
+use Rattle.scope.specs.BodyRules.{Context, Scope, Wanted, value, anyValue, anyReference, Gives, values, itNonNull, itsDescriptor, Plan, fromTop, holdsOf}
 use Rattle.facts_bodies.specs.Premises.{Each, HeapReached, Default, CastTakes}
+use Rattle.facts_bodies.specs.Apart.{TopOf, castSource, castTarget, Rest}
 
 -- what an instruction does to the stack
 
@@ -44,7 +45,7 @@ pub record Branching (c : Context) (here : Scope) (k : Cast) (carried : Val) (be
   pub targetReached : HeapReached (c .count) (k .target)
   pub last : Val
   pub label : getElem? (here .labels) (k .label) ≡ some (below ++ last ∷ [])
-  pub matches : ValOrder (c .types) (targetOf k) (sourceOf k)
+  pub matches : ValOrder (c .types) (castTarget k) (castSource k)
   pub takesCarried : ValOrder (c .types) carried last
 
 -- the rules
@@ -85,19 +86,23 @@ pub data Rule (c : Context) (here : Scope) : Op → Plan → Type 0 where
       → f .mutable ≡ true
       → Rule c here (struct-set x i) (taking (value (f .holds) ∷ value (nullable (defined x)) ∷ []) (values []))
   -- "ref.test and ref.cast take any reference of the target's hierarchy."
-  rule-ref-test : {n : Bool} {h : Heap}
+  rule-ref-test : {n : Bool} {h : Heap} {t : Abstract}
       → HeapReached (c .count) h
-      → Rule c here (ref-test n h) (taking (value (nullable (abstract (topOf (c .types) h))) ∷ []) (values (num i32 ∷ [])))
-  rule-ref-cast : {n : Bool} {h : Heap}
+      → TopOf (c .types) h t
+      → Rule c here (ref-test n h) (taking (value (nullable (abstract t)) ∷ []) (values (num i32 ∷ [])))
+  rule-ref-cast : {n : Bool} {h : Heap} {t : Abstract}
       → HeapReached (c .count) h
-      → Rule c here (ref-cast n h) (taking (value (nullable (abstract (topOf (c .types) h))) ∷ []) (values (ref n h ∷ [])))
+      → TopOf (c .types) h t
+      → Rule c here (ref-cast n h) (taking (value (nullable (abstract t)) ∷ []) (values (ref n h ∷ [])))
   -- "The plain form carries the target and falls through with the rest, the fail form the other way round."
-  rule-br-on-cast : {k : Cast} {vs : List Val}
-      → Branching c here k (targetOf k) vs
-      → Rule c here (br-on-cast k) (taking (value (sourceOf k) ∷ fromTop vs) (values (vs ++ restOf k ∷ [])))
-  rule-br-on-cast-fail : {k : Cast} {vs : List Val}
-      → Branching c here k (restOf k) vs
-      → Rule c here (br-on-cast-fail k) (taking (value (sourceOf k) ∷ fromTop vs) (values (vs ++ targetOf k ∷ [])))
+  rule-br-on-cast : {k : Cast} {rest : Val} {vs : List Val}
+      → Rest k rest
+      → Branching c here k (castTarget k) vs
+      → Rule c here (br-on-cast k) (taking (value (castSource k) ∷ fromTop vs) (values (vs ++ rest ∷ [])))
+  rule-br-on-cast-fail : {k : Cast} {rest : Val} {vs : List Val}
+      → Rest k rest
+      → Branching c here k rest vs
+      → Rule c here (br-on-cast-fail k) (taking (value (castSource k) ∷ fromTop vs) (values (vs ++ castTarget k ∷ [])))
   -- "The _desc ones take the fields (default: none), then (ref null (exact y)) on top."
   rule-struct-new-desc : {x y : ℕ} {fs : List Field}
       → StructType c x fs
@@ -118,11 +123,13 @@ pub data Rule (c : Context) (here : Scope) : Op → Plan → Type 0 where
       → HeapReached (c .count) h
       → CastTakes (c .types) h d
       → Rule c here (ref-cast-desc-eq n h) (taking (value (nullable d) ∷ value (nullable (abstract ANY)) ∷ []) (values (ref n h ∷ [])))
-  rule-br-on-cast-desc-eq : {k : Cast} {d : Heap} {vs : List Val}
-      → Branching c here k (targetOf k) vs
+  rule-br-on-cast-desc-eq : {k : Cast} {rest : Val} {d : Heap} {vs : List Val}
+      → Rest k rest
+      → Branching c here k (castTarget k) vs
       → CastTakes (c .types) (k .target) d
-      → Rule c here (br-on-cast-desc-eq k) (taking (value (nullable d) ∷ value (sourceOf k) ∷ fromTop vs) (values (vs ++ restOf k ∷ [])))
-  rule-br-on-cast-desc-eq-fail : {k : Cast} {d : Heap} {vs : List Val}
-      → Branching c here k (restOf k) vs
+      → Rule c here (br-on-cast-desc-eq k) (taking (value (nullable d) ∷ value (castSource k) ∷ fromTop vs) (values (vs ++ rest ∷ [])))
+  rule-br-on-cast-desc-eq-fail : {k : Cast} {rest : Val} {d : Heap} {vs : List Val}
+      → Rest k rest
+      → Branching c here k rest vs
       → CastTakes (c .types) (k .target) d
-      → Rule c here (br-on-cast-desc-eq-fail k) (taking (value (nullable d) ∷ value (sourceOf k) ∷ fromTop vs) (values (vs ++ targetOf k ∷ [])))
+      → Rule c here (br-on-cast-desc-eq-fail k) (taking (value (nullable d) ∷ value (castSource k) ∷ fromTop vs) (values (vs ++ castTarget k ∷ [])))

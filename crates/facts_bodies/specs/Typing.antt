@@ -12,9 +12,10 @@ use Rattle.scope.specs.Numbers.{u32}
 use Rattle.scope.specs.Syntax.{Val, func, Definition}
 use Rattle.scope.specs.Sections.{valAt}
 use Rattle.scope.specs.Instructions.{Instr, block, loop, end, op, Op, instrAt}
-use Rattle.scope.specs.BodyRules.{Context, Plan, fromTop}
-use Rattle.scope.specs.Bodies.{Operand, onTop, Frame, ofBlock, ofLoop, State, scopeOf, operandsIn, marked, Next, goesOn, finished, Function, startState, contextOf}
+use Rattle.scope.specs.BodyRules.{Context, Scope, Plan, fromTop}
+use Rattle.scope.specs.Bodies.{Operand, onTop, Frame, ofBlock, ofLoop, State, marked, Next, goesOn, finished, Function, contextOf}
 use Rattle.facts_bodies.specs.Premises.{Each, ValReached, Takes, Puts}
+use Rattle.facts_bodies.specs.Apart.{Sees, AllOperands, Starts}
 use Rattle.facts_bodies.specs.Rules.{Rule}
 
 -- states
@@ -38,7 +39,7 @@ past fs rs os dead isSet = record { frames = fs; operands = onTop rs ++ os; dead
 
 -- 512 operands in all frames after an instruction
 pub record Roomy (st : State) : Type 0 where
-  pub fewOperands : operandsIn st ≤ mostOperands
+  pub fewOperands : {n : ℕ} → AllOperands st n → n ≤ mostOperands
 
 -- a block can be opened: 64 frames, the function's own counted; its types are in reach. It adds no operand.
 pub record Opens (c : Context) (st : State) (rs : List Val) : Type 0 where
@@ -53,15 +54,17 @@ pub record Results (c : Context) (st : State) (rs : List Val) : Type 0 where
 -- instructions
 
 pub data TypedInstr (c : Context) (st : State) : Instr → Next → Type 0 where
-  passes : {o : Op} {p : Plan} {taken left put : List Operand}
-      → Rule c (scopeOf c st) o p
+  passes : {here : Scope} {o : Op} {p : Plan} {taken left put : List Operand}
+      → Sees c st here
+      → Rule c here o p
       → p .stops ≡ false
       → Takes (c .types) (st .dead) (p .wants) (st .operands) taken left
       → Puts (c .types) (p .gives) taken put
       → Roomy (passed st p put left)
       → TypedInstr c st (op o) (goesOn (passed st p put left))
-  stops : {o : Op} {p : Plan} {taken left : List Operand}
-      → Rule c (scopeOf c st) o p
+  stops : {here : Scope} {o : Op} {p : Plan} {taken left : List Operand}
+      → Sees c st here
+      → Rule c here o p
       → p .stops ≡ true
       → Takes (c .types) (st .dead) (p .wants) (st .operands) taken left
       → Roomy (stopped st p)
@@ -145,7 +148,9 @@ pub record Derivation (ds : List Definition) (x : ℕ) (s : List ℕ) (f : Funct
   pub entries : List Entry
   pub written : Writing s entries is
   pub allLocals : Locals (length ds) (length (f .parameters)) entries ls
-  pub typed : TypedBody (contextOf ds f ls) (startState f ls) is
+  pub start : State
+  pub starts : Starts f ls start
+  pub typed : TypedBody (contextOf ds f ls) start is
 
 -- a derivation exists
 pub record AllowedBody (ds : List Definition) (x : ℕ) (s : List ℕ) : Type 0 where

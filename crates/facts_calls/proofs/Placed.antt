@@ -20,7 +20,7 @@ use Rattle.facts_sections.proofs.Exactly.{accepted-exactly}
 use Rattle.facts_bodies.specs.Typing.{Derivation}
 use Rattle.facts_bodies.proofs.Premises.{Ordered, passes-ordered}
 use Rattle.facts_bodies.proofs.Bytes.{same-got, first-got, refused-is-not-got, locals-got, instructionsOf, typed-got}
-use Rattle.facts_bodies.proofs.Verdict.{function-found, section-accepted, same-body}
+use Rattle.facts_bodies.proofs.Verdict.{from-start, function-found, section-accepted, same-body}
 use Rattle.facts_bodies.proofs.Main.{accepted-is-derived}
 use Rattle.facts_calls.specs.Meant.{Placed, none-placed, next-placed, IsBody}
 
@@ -86,7 +86,7 @@ module _ (section s : List ℕ) (x : ℕ) where
         × (instructionsOf code ≡ is)
     unfolding judgeBody bodyAt
     derived-body =
-        let (code, walk, same) = typed-got (contextOf ds f ls) ordered s (length s) (d .typed) (d .written .instructions) (omega arith) in (
+        let (code, walk, same) = typed-got (contextOf ds f ls) ordered s (length s) (from-start ds ordered s d) (d .written .instructions) (omega arith) in (
           code,
           rw (judged, le-ltb _ _ (d .small), function-found ds x (d .isFunction), d .written .counted, locals-got s (length ds) (d .written .entries) (d .allLocals), walk, eq-eqb (length s) (length s) refl),
           walk-placed (contextOf ds f ls) s (length s) (startState f ls) (d .written .first) walk,

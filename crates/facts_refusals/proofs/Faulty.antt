@@ -33,7 +33,7 @@ use Rattle.facts_bodies.proofs.Premises.{Ordered, tested-values-reached, values
 use Rattle.facts_bodies.proofs.Planned.{planned-rule}
 use Rattle.facts_bodies.proofs.Derived.{derived-plan}
 use Rattle.facts_bodies.proofs.Stack.{allowed-takes, takes-allowed, rule-puts, puts-put}
-use Rattle.facts_bodies.proofs.Steps.{allowed-typed, typed-allowed}
+use Rattle.facts_bodies.proofs.Steps.{few-roomy, roomy-few, allowed-typed, typed-allowed}
 use Rattle.facts_refusals.specs.Instructions.{askedRules}
 use Rattle.facts_refusals.specs.Bodies.{CanTake, can-take, OperandsThere, operands-there, Operands, Room, resultsOf, RoomPast, past-body, past-block, past-loop, openRules, endRules, conditions, TypedUpTo, none-yet, then-next, FaultAt, in-bytes, in-instruction, FirstFaulty}
 use Rattle.facts_refusals.proofs.Judged.{Judges, says-yes, says-no, nothing-asked, judges-test, judges-and, fault-first, first-fault, fault-exactly}
@@ -106,10 +106,10 @@ module _ (c : Context) (st : State) (ordered : Ordered (c .types)) where
     room-said t e few =
         record {
           goingOn = λ {p = q} r goes k puts.
-              let here : Roomy (after c st p t) = record { fewOperands = leb-true _ _ few } in
+              let here : Roomy (after c st p t) = few-roomy (leb-true _ _ few) in
               on-going q (same-plan r) goes k puts here;
           stopping = λ {p = q} r stops k.
-              let here : Roomy (after c st p t) = record { fewOperands = leb-true _ _ few } in
+              let here : Roomy (after c st p t) = few-roomy (leb-true _ _ few) in
               on-stopping q (same-plan r) stops here;
         }
       where
@@ -132,7 +132,7 @@ module _ (c : Context) (st : State) (ordered : Ordered (c .types)) where
         k = takes-of (p .wants) t e
 
         few : Roomy (after c st p t) → leb (operandsIn (after c st p t)) mostOperands ≡ true
-        few r = le-leb _ _ (r .fewOperands)
+        few r = le-leb _ _ (roomy-few r)
 
         go : (b : Bool) → p .stops ≡ b → leb (operandsIn (after c st p t)) mostOperands ≡ true
         go true stops =
@@ -185,11 +185,11 @@ module _ (c : Context) (st : State) (ordered : Ordered (c .types)) where
 
   past-block-tested : {rs : List Val} {os : List Operand} {dead : Bool} {isSet : List Bool} {fs : List Frame}
       → RoomPast (ofBlock rs os dead isSet ∷ fs) → leb (operandsIn (past fs rs os dead isSet)) mostOperands ≡ true
-  past-block-tested (past-block r) = le-leb _ _ (r .fewOperands)
+  past-block-tested (past-block r) = le-leb _ _ (roomy-few r)
 
   past-loop-tested : {rs : List Val} {os : List Operand} {dead : Bool} {isSet : List Bool} {fs : List Frame}
       → RoomPast (ofLoop rs os dead isSet ∷ fs) → leb (operandsIn (past fs rs os dead isSet)) mostOperands ≡ true
-  past-loop-tested (past-loop r) = le-leb _ _ (r .fewOperands)
+  past-loop-tested (past-loop r) = le-leb _ _ (roomy-few r)
 
   close-asked : (fs : List Frame) → Judges (close c st fs)
       (record { says = CanTake c st (resultsOf c fs); number = badOperand } ∷ record { says = Results c st (resultsOf c fs); number = valuesLeft } ∷ record { says = RoomPast fs; number = oversize } ∷ [])
@@ -200,11 +200,11 @@ module _ (c : Context) (st : State) (ordered : Ordered (c .types)) where
   close-asked (ofBlock rs os dead isSet ∷ fs) =
       took (fromTop rs) (can-said rs) (can-tested rs) (λ t e.
       none-left rs t e
-      (judges-test _ (λ few. past-block (record { fewOperands = leb-true _ _ few })) past-block-tested (λ few. nothing-asked)))
+      (judges-test _ (λ few. past-block (few-roomy (leb-true _ _ few))) past-block-tested (λ few. nothing-asked)))
   close-asked (ofLoop rs os dead isSet ∷ fs) =
       took (fromTop rs) (can-said rs) (can-tested rs) (λ t e.
       none-left rs t e
-      (judges-test _ (λ few. past-loop (record { fewOperands = leb-true _ _ few })) past-loop-tested (λ few. nothing-asked)))
+      (judges-test _ (λ few. past-loop (few-roomy (leb-true _ _ few))) past-loop-tested (λ few. nothing-asked)))
 
   pub instruction-asked : (i : Instr) → Judges (judgeInstr c st i) (conditions c st i)
   unfolding judgeInstr

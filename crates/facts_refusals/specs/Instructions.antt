@@ -13,10 +13,11 @@ use Rattle.scope.specs.Refusals.{outOfReach, absent, badStruct, fieldFixed, bad
 use Rattle.scope.specs.Syntax.{Heap, Val, Field, Form, struct, Types}
 use Rattle.scope.specs.Order.{ValOrder}
 use Rattle.scope.specs.Instructions.{Cast, Op, unreachable, nop, return, drop-value, br, br-if, local-get, local-set, local-tee, i32-const, ref-null, ref-is-null, ref-eq, ref-as-non-null, struct-new, struct-new-default, struct-get, struct-set, ref-test, ref-cast, br-on-cast, br-on-cast-fail, struct-new-desc, struct-new-default-desc, ref-get-desc, ref-cast-desc-eq, br-on-cast-desc-eq, br-on-cast-desc-eq-fail}
-use Rattle.scope.specs.BodyRules.{Context, Scope, holdsOf, sourceOf, targetOf, restOf}
+use Rattle.scope.specs.BodyRules.{Context, Scope, holdsOf, restOf}
 use Rattle.facts_sections.specs.FirstFault.{Rule}
 use Rattle.facts_sections.specs.TypeRelations.{IsStruct}
 use Rattle.facts_bodies.specs.Premises.{Each, HeapReached, Default, CastTakes}
+use Rattle.facts_bodies.specs.Apart.{castSource, castTarget}
 
 -- the questions
 pub data Question : Type 0 where
@@ -96,7 +97,7 @@ Means c here (noDescriptor x) = c .types x .descriptor ≡ none
 Means c here (hasDescriptor x) = Named (c .types x .descriptor)
 Means c here (castDescribed h) = CastDescribed (c .types) h
 Means c here (fieldMutable x i) = FieldMutable i (c .types x .form)
-Means c here (targetMatches k) = ValOrder (c .types) (targetOf k) (sourceOf k)
+Means c here (targetMatches k) = ValOrder (c .types) (castTarget k) (castSource k)
 Means c here (labelHasTypes l) = LabelHasTypes (here .labels) l
 Means c here (labelTakes l v) = LabelTakes (c .types) (here .labels) l v
 Means c here (allDefaults x) = AllDefaults (c .types x .form)
@@ -139,13 +140,13 @@ asks (struct-get x i) = typeReached x ∷ isStruct x ∷ hasField x i ∷ []
 asks (struct-set x i) = typeReached x ∷ isStruct x ∷ hasField x i ∷ fieldMutable x i ∷ []
 asks (ref-test n h) = heapsReached (h ∷ []) ∷ []
 asks (ref-cast n h) = heapsReached (h ∷ []) ∷ []
-asks (br-on-cast k) = castAsks k [] (targetOf k)
+asks (br-on-cast k) = castAsks k [] (castTarget k)
 asks (br-on-cast-fail k) = castAsks k [] (restOf k)
 asks (struct-new-desc x) = typeReached x ∷ isStruct x ∷ hasDescriptor x ∷ []
 asks (struct-new-default-desc x) = typeReached x ∷ isStruct x ∷ hasDescriptor x ∷ allDefaults x ∷ []
 asks (ref-get-desc x) = typeReached x ∷ hasDescriptor x ∷ []
 asks (ref-cast-desc-eq n h) = heapsReached (h ∷ []) ∷ castDescribed h ∷ []
-asks (br-on-cast-desc-eq k) = castAsks k (castDescribed (k .target) ∷ []) (targetOf k)
+asks (br-on-cast-desc-eq k) = castAsks k (castDescribed (k .target) ∷ []) (castTarget k)
 asks (br-on-cast-desc-eq-fail k) = castAsks k (castDescribed (k .target) ∷ []) (restOf k)
 
 -- the rules of an instruction before its operands
