@@ -1,8 +1,10 @@
-//! Inputs of the command line: hex digits, or the name of a file.
+//! Inputs of the command line: hex digits, the name of a file, or standard input.
 
 use crate::{hex, Trouble};
 use std::fs::File;
 use std::io::Read;
+use std::path::Path;
+use std::sync::atomic::{AtomicBool, Ordering};
 
 /// One byte more than the greatest input, so that a longer one is refused as such and a huge file is not read whole.
 const READ_AT_MOST: u64 = 32_768 + 1;
@@ -10,39 +12,105 @@ const READ_AT_MOST: u64 = 32_768 + 1;
 /// The same in hex, with white space and comments to spare.
 const READ_TEXT_AT_MOST: u64 = 16 * READ_AT_MOST;
 
+/// What `print` makes of the greatest input, with room for comments.
+const READ_WORDS_AT_MOST: u64 = 8 * 1_048_576;
+
+const STANDARD_INPUT: &str = "-";
+
+/// Says that hex digits follow.
+const HEX: &str = "hex:";
+
+/// `-` is standard input, hex digits themselves, no bytes at all the empty argument; anything else names a file.
 pub fn bytes(argument: &str) -> Result<Vec<u8>, Trouble> {
-    if argument == "-" {
+    if argument.is_empty() {
         return Ok(Vec::new());
     }
-    if is_hex(argument) {
-        return hex::read(&without_space(argument)).map_err(|why| {
-            format!("{argument}: {why}; for a file of that name write ./{argument}")
-        });
+    if argument == STANDARD_INPUT {
+        return standard_input();
     }
-    if argument.ends_with(".hex") {
-        return hex_file(argument);
+    if let Some(digits) = argument.strip_prefix(HEX) {
+        return match digits {
+            STANDARD_INPUT => hex_text(argument, read_standard_input(READ_TEXT_AT_MOST)?),
+            _ => hex::read_text(digits).map_err(|fault| format!("{argument}: {fault}")),
+        };
     }
-    read_file(argument, READ_AT_MOST)
+    if hex::is_meant(argument) {
+        return hex_digits(argument);
+    }
+    file(argument)
 }
 
-fn is_hex(argument: &str) -> bool {
-    let digits = without_space(argument);
-    !digits.is_empty() && digits.chars().all(|digit| digit.is_ascii_hexdigit())
+/// Whether an argument names a file that is there.
+pub fn is_file(argument: &str) -> bool {
+    Path::new(argument).exists()
 }
 
-fn without_space(text: &str) -> String {
-    text.chars().filter(|character| !character.is_whitespace()).collect()
-}
-
-fn hex_file(name: &str) -> Result<Vec<u8>, Trouble> {
-    let content = read_file(name, READ_TEXT_AT_MOST)?;
-    if content.len() as u64 == READ_TEXT_AT_MOST {
-        return Err(format!("{name}: longer than {} characters", READ_TEXT_AT_MOST - 1));
+fn hex_digits(argument: &str) -> Result<Vec<u8>, Trouble> {
+    match (hex::read_text(argument), is_file(argument)) {
+        (Ok(_), true) => Err(format!(
+            "{argument} is the name of a file and is hex digits; write ./{argument} for the file, \
+             {HEX}{argument} for the bytes"
+        )),
+        (Ok(bytes), false) => Ok(bytes),
+        (Err(_), true) => file(argument),
+        (Err(fault), false) => Err(format!("{argument}: {fault}")),
     }
-    let text = String::from_utf8(content).map_err(|_| format!("{name}: not text"))?;
-    let digits: String =
-        text.lines().map(|line| without_space(line.split('#').next().unwrap_or(""))).collect();
-    hex::read(&digits).map_err(|why| format!("{name}: {why}"))
+}
+
+fn file(name: &str) -> Result<Vec<u8>, Trouble> {
+    if name.ends_with(".hex") {
+        return hex_text(name, read_file(name, READ_TEXT_AT_MOST)?);
+    }
+    read_file(name, READ_AT_MOST)
+}
+
+/// Hex digits where it is text of them, else the bytes themselves; see `hex::is_text`.
+fn standard_input() -> Result<Vec<u8>, Trouble> {
+    let mut content = read_standard_input(READ_TEXT_AT_MOST)?;
+    if hex::is_text(&content) {
+        return hex_text("standard input", content);
+    }
+    content.truncate(READ_AT_MOST as usize);
+    Ok(content)
+}
+
+static WAS_READ: AtomicBool = AtomicBool::new(false);
+
+fn read_standard_input(at_most: u64) -> Result<Vec<u8>, Trouble> {
+    if WAS_READ.swap(true, Ordering::Relaxed) {
+        return Err("standard input can stand for one input alone".to_string());
+    }
+    let mut content = Vec::new();
+    let read = std::io::stdin().lock().take(at_most).read_to_end(&mut content);
+    read.map_err(|error| format!("standard input cannot be read: {error}"))?;
+    Ok(content)
+}
+
+fn hex_text(name: &str, content: Vec<u8>) -> Result<Vec<u8>, Trouble> {
+    let text = text_of(name, content, READ_TEXT_AT_MOST)?;
+    hex::read_text(&text).map_err(|fault| format!("{name}: {fault}"))
+}
+
+fn text_of(name: &str, content: Vec<u8>, at_most: u64) -> Result<String, Trouble> {
+    if content.len() as u64 == at_most {
+        return Err(format!("{name}: longer than {} characters", at_most - 1));
+    }
+    String::from_utf8(content).map_err(|_| format!("{name}: not text"))
+}
+
+/// WebAssembly's text: of a file, of standard input, or the argument itself where it begins with a parenthesis.
+pub fn words(argument: &str) -> Result<String, Trouble> {
+    let begins = argument.trim_start();
+    if begins.starts_with('(') || begins.starts_with(";;") {
+        return Ok(argument.to_string());
+    }
+    let content = match argument {
+        STANDARD_INPUT => read_standard_input(READ_WORDS_AT_MOST)?,
+        _ => read_file(argument, READ_WORDS_AT_MOST).map_err(|trouble| {
+            trouble.replace("and not hex digits", "and text begins with a parenthesis")
+        })?,
+    };
+    text_of(argument, content, READ_WORDS_AT_MOST)
 }
 
 fn read_file(name: &str, at_most: u64) -> Result<Vec<u8>, Trouble> {
@@ -54,7 +122,12 @@ fn read_file(name: &str, at_most: u64) -> Result<Vec<u8>, Trouble> {
 
 fn unread(name: &str, error: &std::io::Error) -> Trouble {
     match error.kind() {
-        std::io::ErrorKind::NotFound => format!("{name}: no such file, and not hex digits"),
+        std::io::ErrorKind::NotFound => {
+            // Bytes with a slip of the hand look like it: pairs apart from each other.
+            let slip = hex::read_text(name).err().filter(|_| name.contains([' ', ',']));
+            let slip = slip.map_or(String::new(), |fault| format!(" ({fault})"));
+            format!("{name}: no such file, and not hex digits{slip}")
+        }
         _ => format!("{name}: cannot be read: {error}"),
     }
 }

@@ -1,9 +1,12 @@
 //! Requests and answers in lines, as docs/LAYOUT.md has them.
 
-use crate::hex;
+use crate::ask::{self, AddOn, No};
+use crate::commands::{row_json, run_members};
+use crate::json::Json;
+use crate::{error, hex};
 use chelbugan::state::{Block, Object, Value};
 use chelbugan::table::Row;
-use chelbugan::{Ended, Loader, Refusal, Run, State, Table};
+use chelbugan::{Ended, Loader, Run, State, Table};
 
 /// Why a line is no request.
 type Why = &'static str;
@@ -11,8 +14,8 @@ type Why = &'static str;
 enum Request {
     Section(Vec<u8>),
     Type(Vec<u8>, u64),
-    Body(Vec<u8>, u64, Vec<u8>),
-    Run(Vec<u8>, u64, Vec<u8>, u64),
+    Body(AddOn),
+    Run(AddOn, u64),
 }
 
 pub fn answer(loader: &mut Loader, line: &[u8]) -> String {
@@ -28,17 +31,17 @@ fn read_request(line: &[u8]) -> Result<Request, Why> {
     match parts[..] {
         ["S", section] => Ok(Request::Section(read_bytes(section)?)),
         ["T", section, number] => Ok(Request::Type(read_bytes(section)?, read_number(number)?)),
-        ["B", section, number, body] => {
-            Ok(Request::Body(read_bytes(section)?, read_number(number)?, read_bytes(body)?))
+        ["B", section, number, body] => Ok(Request::Body(read_add_on(section, number, body)?)),
+        ["R", section, number, body, budget] => {
+            Ok(Request::Run(read_add_on(section, number, body)?, read_number(budget)?))
         }
-        ["R", section, number, body, budget] => Ok(Request::Run(
-            read_bytes(section)?,
-            read_number(number)?,
-            read_bytes(body)?,
-            read_number(budget)?,
-        )),
         _ => Err("not a request"),
     }
+}
+
+fn read_add_on(section: &str, number: &str, body: &str) -> Result<AddOn, Why> {
+    let (section, number) = (read_bytes(section)?, read_number(number)?);
+    Ok(AddOn { section, body: read_bytes(body)?, number })
 }
 
 fn read_bytes(text: &str) -> Result<Vec<u8>, Why> {
@@ -59,18 +62,39 @@ pub fn read_number(text: &str) -> Result<u64, Why> {
 
 fn answer_request(loader: &mut Loader, request: &Request) -> String {
     let answered = match request {
-        Request::Section(section) => loader.judge_section(section).map(|table| accepted(&table)),
-        Request::Type(section, number) => {
-            loader.type_bytes(section, *number).map(|bytes| format!("yes {}", hex::plain(bytes)))
+        Request::Section(section) => ask::section(loader, section).map(|table| accepted(&table)),
+        Request::Type(section, number) => ask::type_bytes(loader, section, *number)
+            .map(|bytes| format!("yes {}", hex::plain(bytes))),
+        Request::Body(add_on) => ask::body(loader, add_on).map(|count| format!("yes {count}")),
+        Request::Run(add_on, budget) => ask::run(loader, add_on, *budget).map(|run| ended(&run)),
+    };
+    answered.unwrap_or_else(|No { number, place }| format!("no {number} {place}"))
+}
+
+/// The same as an object; a refusal has its number and place alone.
+pub fn answer_json(loader: &mut Loader, line: &[u8]) -> Json {
+    let request = match read_request(line) {
+        Ok(request) => request,
+        Err(why) => return error(why),
+    };
+    let yes = |name, value| vec![("answer", "yes".into()), (name, value)];
+    let answered = match &request {
+        Request::Section(section) => ask::section(loader, section).map(|table| {
+            let rows = table.rows().enumerate().map(|(number, row)| row_json(number, &row));
+            yes("types", Json::List(rows.collect()))
+        }),
+        Request::Type(section, number) => ask::type_bytes(loader, section, *number)
+            .map(|bytes| yes("bytes", hex::plain(bytes).into())),
+        Request::Body(add_on) => {
+            ask::body(loader, add_on).map(|count| yes("instructions", count.into()))
         }
-        Request::Body(section, number, body) => {
-            loader.judge_body(section, *number, body).map(|count| format!("yes {count}"))
-        }
-        Request::Run(section, number, body, budget) => {
-            loader.try_run(section, *number, body, *budget).map(|run| ended(&run))
+        Request::Run(add_on, budget) => {
+            ask::run(loader, add_on, *budget).map(|run| run_members(&run))
         }
     };
-    answered.unwrap_or_else(|Refusal { number, place }| format!("no {number} {place}"))
+    Json::Object(answered.unwrap_or_else(|No { number, place }| {
+        vec![("answer", "no".into()), ("refusal", number.into()), ("place", place.into())]
+    }))
 }
 
 fn accepted(table: &Table) -> String {

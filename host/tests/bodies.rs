@@ -13,11 +13,14 @@ fn a_refused_body_is_explained() {
     let body = "01 01 64 01 FB 01 03 21 00 20 00 FB 20 00 FB 16 02 FB 02 02 00 0B";
     let said = no(&["check", section, body, "4"]);
     assert!(said.starts_with("no: refusal 20 at byte 11 of the body\n"), "{said}");
-    assert!(said.contains("operand missing or wrong"), "{said}");
+    let cause = "  struct.new_desc wants (ref null (exact 1)) on top and finds (ref 1)\n";
+    assert!(said.contains(cause), "{said}");
     assert_marked(&said, "01 01 64 01 fb 01 03 21 00 20 00 fb 20 00 fb 16", "fb 20 00");
     assert!(said.contains("11  fb 20 00                struct.new_desc 0\n"), "{said}");
     assert!(said.contains("it takes, the top last: (ref null (exact 1))\n"), "{said}");
     assert!(said.contains("its block has, the top last: (ref 1)\n"), "{said}");
+    let by = "     9  20 00                   local.get 0, which put (ref 1) there\n";
+    assert!(said.contains(by), "{said}");
 }
 
 #[test]
@@ -60,7 +63,7 @@ fn what_an_instruction_takes_is_told() {
     }
 }
 
-/// What stands on the stack behind each instruction that gives something: seen by a local that is not there.
+/// What stands on the stack behind each instruction that gives something: seen by a ref.eq of an i32.
 #[test]
 fn what_stands_on_the_stack_is_told() {
     // Type 0: a struct of i32 and (mut (ref 0)), with descriptor 1; type 2: a function that gives an f64.
@@ -93,13 +96,17 @@ fn what_stands_on_the_stack_is_told() {
         ("02 6E D0 00 FB 18 03 00 00 00", "(ref 0)"),
         ("02 6E D0 00 FB 18 01 00 00 00", "(ref null 0)"),
         ("02 6E D0 00 FB 19 03 00 00 62 00", "(ref null (exact 0))"),
-        (&"41 00 ".repeat(10), "2 more, i32, i32, i32, i32, i32, i32, i32, i32"),
+        (&"41 00 ".repeat(10), "3 more, i32, i32, i32, i32, i32, i32, i32"),
     ];
     for (code, stack) in cases {
-        let said = no(&["check", section, &format!("01 01 7E {code} 20 63"), "2"]);
-        assert!(said.starts_with("no: refusal 21 at byte"), "{code}: {said}");
+        let said = no(&["check", section, &format!("01 01 7E {code} 41 00 D3"), "2"]);
+        assert!(said.starts_with("no: refusal 20 at byte"), "{code}: {said}");
         let told = said.split("its block has, the top last: ").nth(1).expect("the operands");
-        assert_eq!(told.lines().next(), Some(stack), "{code}: {said}");
+        let wanted = match stack {
+            "nothing" => "i32".to_string(),
+            _ => format!("{stack}, i32"),
+        };
+        assert_eq!(told.lines().next(), Some(&*wanted), "{code}: {said}");
     }
 }
 
@@ -108,7 +115,7 @@ fn places_of_a_body_are_told_apart() {
     let v = "01600000";
     let locals = no(&["check", v, "01 81 02 7F 0B", "0"]);
     assert!(locals.starts_with("no: refusal 4 at byte 1 of the body\n"), "{locals}");
-    assert!(locals.contains("256 locals with parameters"), "{locals}");
+    assert!(locals.contains("257 locals with parameters; 256 are the most"), "{locals}");
     assert!(locals.contains("257 of i32"), "{locals}");
     assert!(!locals.contains("it takes"), "an entry of locals takes nothing: {locals}");
     let frames = no(&["check", v, &format!("00 {} {}", "0240".repeat(64), "0b".repeat(65)), "0"]);
@@ -121,9 +128,9 @@ fn places_of_a_body_are_told_apart() {
         whole.starts_with("no: refusal 4 at byte 0 of the body, for the whole input\n"),
         "{whole}"
     );
-    assert!(whole.contains("more than 32768 bytes"), "{whole}");
+    assert!(whole.contains("a body has at most 32768 bytes"), "{whole}");
     let absent = no(&["check", v, "000b", "9"]);
-    assert!(absent.contains("the section has 1 types; there is no type 9"), "{absent}");
+    assert!(absent.contains("there is no type 9; the section has 1 type\n"), "{absent}");
     let a_struct = no(&["check", "01 5F 00", "000b", "0"]);
     assert!(a_struct.starts_with("no: refusal 27 at 0, for the type's number\n"), "{a_struct}");
     assert!(a_struct.contains("type 0 is a struct"), "{a_struct}");

@@ -18,34 +18,40 @@ fn hex(bytes: &[u8]) -> String {
     plain::lines::hex(bytes)
 }
 
-/// The bytes column of a listing: a place, two spaces, then pairs of hex digits.
+const BREAKS_OFF: &str = "the listing breaks off here";
+
+/// The bytes of a listing: behind each line's place and two spaces, pairs of hex digits.
 fn listed_bytes(listing: &str) -> String {
-    let lines = listing.lines().filter(|line| !line.contains("the listing breaks off"));
-    lines.map(|line| line[8..line.len().min(31)].replace(' ', "")).collect()
+    let lines = listing.lines().filter(|line| !line.contains(BREAKS_OFF));
+    let is_pair =
+        |word: &&str| word.len() == 2 && word.chars().all(|digit| digit.is_ascii_hexdigit());
+    lines.flat_map(|line| line[8..].split(' ').take_while(is_pair)).collect()
 }
 
-/// A listing breaks off where the reading of the bytes ends with a fault, and nowhere else; it shows every byte before.
+/// A listing breaks off where the reading of the bytes ends with a fault, and nowhere else; it shows every byte, those behind
+/// the fault too.
 #[test]
 fn a_listing_breaks_off_where_reading_does() {
-    let (mut whole, mut broken) = (0, 0);
+    let (mut whole, mut broken_off) = (0, 0);
     for section in sections(11, 300) {
         let said = chelbugan(&["dump", "section", &hex(&section)]);
         match read_section(&section) {
             Ok(_) => {
                 assert_eq!(said.status, 0, "{}\n{}", hex(&section), said.out);
-                assert_eq!(listed_bytes(&said.out), hex(&section));
                 whole += 1;
             }
             Err(fault) => {
                 assert_eq!(said.status, 1, "{}\n{}", hex(&section), said.out);
-                let last = said.out.lines().last().expect("a last line");
-                let place = last.trim_start().split(' ').next().expect("a place");
+                let broken = said.out.lines().find(|line| line.contains(BREAKS_OFF));
+                let place = broken.expect("a line").trim_start().split(' ').next();
+                let place = place.expect("a place");
                 assert_eq!(place, fault.place.to_string(), "{}\n{}", hex(&section), said.out);
-                broken += 1;
+                broken_off += 1;
             }
         }
+        assert_eq!(listed_bytes(&said.out), hex(&section), "{}", said.out);
     }
-    assert!(whole > 100 && broken > 30, "{whole} and {broken}");
+    assert!(whole > 100 && broken_off > 30, "{whole} and {broken_off}");
 }
 
 /// Every refusal is told with its number and with its place as what it is, a byte or a type.

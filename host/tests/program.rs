@@ -2,7 +2,7 @@
 
 mod common;
 
-use common::{assert_marked, chelbugan, line_and_marks, misused, no, yes, OwnFile};
+use common::{assert_marked, chelbugan, line_and_marks, no, yes, OwnFile};
 
 const F1: &str = "02 4E 02 4D 01 5F 00 4C 00 5F 00 60 00 01 64 62 00";
 
@@ -34,7 +34,7 @@ fn fields_are_named_by_their_types() {
 fn a_byte_fault_is_marked() {
     let said = no(&["check", "01 5F 01 63 F0 7F 00"]);
     assert!(said.starts_with("no: refusal 3 at byte 4\n"), "{said}");
-    assert!(said.contains("negative number as type"), "{said}");
+    assert!(said.contains("-16 is a negative number as a type's number"), "{said}");
     assert_marked(&said, "01 5f 01 63 f0 7f 00", "f0");
 }
 
@@ -42,7 +42,7 @@ fn a_byte_fault_is_marked() {
 fn a_missing_byte_is_marked_behind_the_last() {
     let said = no(&["check", "01 5F 01 63"]);
     assert!(said.starts_with("no: refusal 1 at byte 4\n"), "{said}");
-    assert!(said.contains("bytes end inside an item"), "{said}");
+    assert!(said.contains("the bytes end where a heap type has to begin"), "{said}");
     assert!(said.contains("the input ends after 4 bytes; byte 4 is missing"), "{said}");
     let (bytes, marks) = line_and_marks(&said, "01 5f 01 63");
     assert_eq!(marks.find('^'), Some(bytes.len() + 1), "{said}");
@@ -52,9 +52,10 @@ fn a_missing_byte_is_marked_behind_the_last() {
 fn a_rule_marks_the_whole_type() {
     let said = no(&["check", "01 4E 03 5F 00 4D 02 5F 00 4C 00 5F 00"]);
     assert!(said.starts_with("no: refusal 11 at type 1\n"), "{said}");
-    assert!(said.contains("clauses disagree"), "{said}");
+    assert!(said.contains("  type 1 has descriptor 2, but type 2 describes 0\n"), "{said}");
     assert_marked(&said, "01 4e 03 5f 00 4d 02 5f 00 4c 00 5f 00", "4d 02 5f 00");
-    assert!(said.contains("type 1: descriptor 2"), "{said}");
+    assert!(said.contains("     5  4d 02                   type 1: descriptor 2\n"), "{said}");
+    assert!(said.contains("     9  4c 00                   type 2: describes 0\n"), "{said}");
 }
 
 #[test]
@@ -80,11 +81,14 @@ fn sizes_are_told_apart() {
     }
     let chain = no(&["check", &chain]);
     assert!(chain.starts_with("no: refusal 4 at type 64\n"), "{chain}");
-    assert!(chain.contains("63 steps up a supertype chain"), "{chain}");
+    assert!(
+        chain.contains("64 steps up the supertype chain of type 64; 63 are the most"),
+        "{chain}"
+    );
     let whole = OwnFile::new("long", &[0; 40_000]);
     let whole = no(&["check", whole.name()]);
     assert!(whole.starts_with("no: refusal 4 at byte 0, for the whole input\n"), "{whole}");
-    assert!(whole.contains("more than 32768 bytes"), "{whole}");
+    assert!(whole.contains("a section has at most 32768 bytes"), "{whole}");
 }
 
 #[test]
@@ -131,8 +135,18 @@ fn a_section_is_listed_with_offsets() {
     }
     let broken = no(&["dump", "section", "01 5F 01 7B 00"]);
     assert!(
-        broken.ends_with("     3  the listing breaks off: no value type begins with this byte\n"),
+        broken.ends_with(
+            "     3  the listing breaks off here: 7b begins no value type\n     3  7b 00\n"
+        ),
         "{broken}"
+    );
+    let cut = no(&["dump", "body", "00 01 FB 18 01 00 6E"]);
+    assert!(
+        cut.ends_with(
+            "     2  fb 18 01 00 6e          not whole\n     \
+             7  the listing breaks off here: the bytes end where a heap type has to begin\n"
+        ),
+        "{cut}"
     );
 }
 
@@ -224,24 +238,4 @@ fn arguments(command: &str, root: &std::path::Path) -> Vec<String> {
         false => word.to_string(),
     };
     words.map(from_here).collect()
-}
-
-#[test]
-fn bad_usage_is_told() {
-    assert!(misused(&[]).contains("no command was given"));
-    assert!(misused(&["chekc", "00"]).contains("there is no command chekc"));
-    assert!(misused(&["check"]).contains("check does not take these arguments"));
-    assert!(misused(&["check", "00", "00"]).contains("check does not take these arguments"));
-    assert!(misused(&["check", "00", "00", "x"]).contains("a number is decimal digits"));
-    assert!(misused(&["check", "00", "0", "0"]).contains("the number of hex digits is odd"));
-    assert!(misused(&["check", "00", "no/such/body", "0"]).contains("no/such/body: no such file"));
-    assert!(misused(&["dump", "00"]).contains("dump does not take these arguments"));
-    assert!(misused(&["type", "00", "one"]).contains("a number is decimal digits"));
-    assert!(misused(&["type", "00", "-1"]).contains("a number is decimal digits"));
-    assert!(misused(&["check", "014"]).contains("the number of hex digits is odd"));
-    assert!(misused(&["check", "no/such/file"]).contains("no/such/file: no such file"));
-    assert!(misused(&["check", "/"]).contains("cannot be read"));
-    assert!(yes(&["help"]).starts_with("use: chelbugan check SECTION"));
-    let text = OwnFile::new("bad.hex", b"01 4g");
-    assert!(misused(&["check", text.name()]).contains("bytes are hex digits"));
 }

@@ -26,7 +26,7 @@ pub fn around(bytes: &[u8], marked: Range<usize>) -> String {
             marked.start
         );
     }
-    text + module_hint(bytes)
+    text
 }
 
 /// A line of bytes, and below it the marks that fall on it.
@@ -45,10 +45,15 @@ fn marked_line(bytes: &[u8], from: usize, marked: &Range<usize>) -> String {
     text
 }
 
-/// A whole module is no section, and a likely mistake.
-pub fn module_hint(bytes: &[u8]) -> &'static str {
-    match bytes.starts_with(b"\0asm") {
-        true => "  this is a whole module; the loader reads the content of its type section\n",
+/// Bytes that are likely another thing than a section or a body.
+pub fn byte_remark(bytes: &[u8]) -> &'static str {
+    if bytes.starts_with(b"\0asm") {
+        return "  this is a whole module; the loader reads the content of its type section\n";
+    }
+    match hex::is_text(bytes) {
+        true => {
+            "  these bytes are hex digits in text; a file of them has a name that ends in .hex\n"
+        }
         false => "",
     }
 }

@@ -1,15 +1,17 @@
-//! The refusal of a body, or of its run, whose section was accepted: the instruction at fault, what it takes and what was
-//! there.
+//! The refusal of a body, or of its run, whose section was accepted.
 
-use super::around::{around, module_hint};
-use super::{stacked, wrapped, INPUT_BYTES, SIZE_EXCEEDED};
+use super::around::{around, byte_remark};
+use super::{reason, shown_text, stacked, wrapped, Told};
+use crate::ask::{AddOn, No};
 use crate::dump;
-use crate::dump::body::{Item, Placed};
-use crate::operands::{self, Before};
-use chelbugan::{Refusal, Table};
+use crate::read;
+use crate::read::section::Line;
+use crate::recheck::{self, Cause, Input, Operands, INPUT_BYTES};
+use crate::syntax::{Form, Item, Placed, Type};
 
-const NOT_A_FUNCTION: u64 = 27;
+const SIZE_EXCEEDED: u64 = 4;
 const BUFFER_TOO_SMALL: u64 = 14;
+const NOT_A_FUNCTION: u64 = 27;
 const NO_DEFAULT: u64 = 29;
 
 /// What a refusal's place is.
@@ -24,32 +26,42 @@ enum Place {
     Parameters,
 }
 
-pub fn body_refusal(table: &Table, number: u64, body: &[u8], refusal: Refusal) -> String {
-    let (parts, _) = dump::body::read(body);
+pub fn body_refusal(add_on: &AddOn, refusal: No) -> Told {
+    let AddOn { section, body, number } = add_on;
+    let types = read::section::read(section).types;
+    let parts = read::body::read(body).parts;
     let place = place_of(body, &parts, refusal);
-    let mut text = format!("no: refusal {} at {}\n", refusal.number, named(&place, refusal.place));
-    text += &wrapped(words(refusal.number, &place));
+    let cause = match place {
+        Place::Budget => Some(Cause::new(4, 0, "the budget is more than 1,000,000")),
+        Place::Parameters => Some(without_default(&types, *number)),
+        _ => recheck::body::judge(&types, *number, body).err(),
+    };
+    let cause =
+        cause.filter(|cause| (cause.number, cause.place) == (refusal.number, refusal.place));
+    let words = reason(refusal.number, cause.as_ref());
+    let mut text = wrapped(&words);
     match place {
-        Place::Byte(at) => text + &around(body, at..at + 1),
-        Place::Part(index) => {
-            let part = &parts[index];
-            text += &around(body, part.bytes.clone());
-            text.push('\n');
-            text += &listed(body, part);
-            text + &stack(table, number, &parts, part)
-        }
-        Place::TypeNumber => text + &number_told(table, number),
-        Place::WholeInput => {
-            text + &format!("  it has more than {INPUT_BYTES} bytes\n") + module_hint(body)
-        }
-        Place::Budget => text + "  0 stands for the budget here, and for no byte\n",
-        Place::Parameters => text + &without_default(table, number),
+        Place::Byte(at) => text += &around(body, at..at + 1),
+        Place::Part(index) => text += &part_text(body, &parts[index], cause.as_ref()),
+        _ => (),
     }
+    if let Some(cause) = &cause {
+        let before = match place {
+            Place::Part(_) => "",
+            _ => "\n",
+        };
+        text += &shown_text(cause, Input::Body, body, before);
+        text += &shown_text(cause, Input::Section, section, "  in the section:\n");
+    }
+    text += byte_remark(body);
+    let (place_is, at) = named(&parts, &place, refusal.place);
+    let headline = format!("no: refusal {} at {at}", refusal.number);
+    Told { headline, of: "body", place_is, words, text }
 }
 
 /// A byte fault is the item's; every other place is where an instruction or an entry of the locals begins. Neither begins at
 /// 0, where the count of entries stands.
-fn place_of(body: &[u8], parts: &[Placed], refusal: Refusal) -> Place {
+fn place_of(body: &[u8], parts: &[Placed<Item>], refusal: No) -> Place {
     let at = refusal.place as usize;
     match refusal.number {
         NOT_A_FUNCTION => Place::TypeNumber,
@@ -65,93 +77,63 @@ fn place_of(body: &[u8], parts: &[Placed], refusal: Refusal) -> Place {
     }
 }
 
-fn named(place: &Place, at: u64) -> String {
+fn named(parts: &[Placed<Item>], place: &Place, at: u64) -> (&'static str, String) {
     match place {
-        Place::Byte(_) | Place::Part(_) => format!("byte {at} of the body"),
-        Place::TypeNumber => format!("{at}, for the type's number"),
-        Place::WholeInput => format!("byte {at} of the body, for the whole input"),
-        Place::Budget => format!("{at}, for the budget"),
-        Place::Parameters => format!("{at}, for the parameters"),
-    }
-}
-
-/// Document 01's words, and of the rule that is cited.
-fn words(number: u64, place: &Place) -> &'static str {
-    match (number, place) {
-        (1, _) => "bytes end inside an item",
-        (2, _) => "LEB too long or out of range",
-        (3, _) => "byte or FB number not listed, or negative number as type",
-        (4, Place::WholeInput) => "a size exceeded: 32,768 bytes a body",
-        (4, Place::Budget) => "a size exceeded: a budget of at most 1,000,000",
-        (4, _) => {
-            "a size exceeded: 256 locals with parameters; 512 operands in all frames after an instruction; 64 frames, the \
-             function's own counted"
+        Place::Byte(_) => ("byte", format!("byte {at} of the body")),
+        Place::Part(index) => {
+            let is = match parts[*index].what {
+                Item::Instruction(_) => "instruction",
+                _ => "locals entry",
+            };
+            (is, format!("byte {at} of the body"))
         }
-        (5, _) => "bytes left over",
-        (6, _) => "type number out of reach",
-        (14, _) => "a lent buffer under its one size",
-        (20, _) => "operand missing or wrong",
-        (21, _) => "label or local absent",
-        (22, _) => {
-            "local not set: a local without a default must be set before it is read; sets inside a block are forgotten at \
-             its end"
-        }
-        (23, _) => "not a struct, no such field, descriptor missing or unwanted",
-        (24, _) => "field fixed",
-        (25, _) => {
-            "branching cast's rule, label without types: the target matches the source, and the label's last type takes \
-             what is carried"
-        }
-        (27, _) => "not a function type's number",
-        (28, _) => "values left at `end`",
-        (29, Place::Parameters) => "no default: a run starts with zero or null parameters",
-        (29, _) => "no default",
-        _ => "a refusal that this program has no words for",
-    }
-}
-
-fn number_told(table: &Table, number: u64) -> String {
-    match table.row(number) {
-        Some(_) => format!("  type {number} is a struct\n"),
-        None => format!("  the section has {} types; there is no type {number}\n", table.count()),
+        Place::TypeNumber => ("type number", format!("{at}, for the type's number")),
+        Place::WholeInput => ("whole", format!("byte {at} of the body, for the whole input")),
+        Place::Budget => ("budget", format!("{at}, for the budget")),
+        Place::Parameters => ("parameters", format!("{at}, for the parameters")),
     }
 }
 
 /// The parameters that 0 stands for.
-fn without_default(table: &Table, number: u64) -> String {
-    let parameters = table.row(number).map_or(Vec::new(), |function| function.parameters());
-    let lacking = parameters.iter().enumerate().filter(|(_, value)| !value.has_default());
-    let lines = lacking.map(|(index, value)| format!("  parameter {index} is {value}\n"));
-    lines.collect()
-}
-
-/// The part's own line, not indented by the blocks around it.
-fn listed(body: &[u8], part: &Placed) -> String {
-    let line = dump::Line { bytes: part.bytes.clone(), indent: 0, text: part.what.text() };
-    dump::line_text(body, &line)
-}
-
-/// For an instruction: what it takes and what was there.
-fn stack(table: &Table, number: u64, parts: &[Placed], part: &Placed) -> String {
-    if !matches!(part.what, Item::Instruction(_)) {
-        return String::new();
-    }
-    let before = table
-        .row(number)
-        .and_then(|function| operands::before(table, &function, parts, part.bytes.start));
-    before.map_or(String::new(), |before| stack_text(&before))
-}
-
-fn stack_text(before: &Before) -> String {
-    let wanted = before.wanted.as_ref().map_or(String::new(), |wanted| {
-        format!("        it takes, the top last: {}\n", stacked(wanted))
-    });
-    let there = match (before.unreachable, before.operands.is_empty()) {
-        (false, _) => stacked(&before.operands),
-        (true, true) => UNKNOWNS.to_string(),
-        (true, false) => format!("{UNKNOWNS}, {}", stacked(&before.operands)),
+fn without_default(types: &[Type], number: u64) -> Cause {
+    let form = usize::try_from(number).ok().and_then(|number| types.get(number)).map(|it| &it.form);
+    let Some(Form::Function { parameters, .. }) = form else {
+        return Cause::new(0, 0, "");
     };
-    format!("{wanted}        its block has, the top last: {there}\n")
+    let lacking = parameters.iter().enumerate().filter(|(_, value)| !value.what.has_default());
+    let lacking: Vec<_> = lacking.collect();
+    let named: Vec<String> =
+        lacking.iter().map(|(at, value)| format!("parameter {at} is {}", value.what)).collect();
+    let words = format!(
+        "a run starts with zero or null parameters, and {} without a default",
+        named.join(", ")
+    );
+    lacking.iter().fold(Cause::new(NO_DEFAULT, 0, words), |cause, (at, value)| {
+        let text = format!("type {number}: parameter {at}: {}", value.what);
+        cause.showing(Input::Section, &value.bytes, text)
+    })
+}
+
+/// The part marked, its own line, not indented by the blocks around it, and for the operands what it takes and what was there.
+fn part_text(body: &[u8], part: &Placed<Item>, cause: Option<&Cause>) -> String {
+    let line = Line { bytes: part.bytes.clone(), indent: 0, text: part.what.to_string() };
+    let marked = around(body, part.bytes.clone());
+    let operands = cause.and_then(|cause| cause.operands.as_ref());
+    let operands = operands.map_or(String::new(), operands_text);
+    format!("{marked}\n{}{operands}", dump::line_text(body, &line))
+}
+
+fn operands_text(operands: &Operands) -> String {
+    let Operands { wanted, there, unreachable } = operands;
+    let there = match (unreachable, there.is_empty()) {
+        (false, _) => stacked(there),
+        (true, true) => UNKNOWNS.to_string(),
+        (true, false) => format!("{UNKNOWNS}, {}", stacked(there)),
+    };
+    format!(
+        "        it takes, the top last: {}\n        its block has, the top last: {there}\n",
+        stacked(wanted)
+    )
 }
 
 /// Below the operands of a frame whose code cannot be reached.

@@ -1,8 +1,9 @@
-//! An answer told to a person. A refusal or a trap: its number, its place, document 01's words for it, and the bytes around
-//! the place. A run: how it ended, and its state.
+//! An answer told to a person. A refusal or a trap: its number, its place, its one cause, and the bytes that it speaks of. A
+//! run: how it ended, and its state.
 
 mod around;
 mod body;
+pub mod refusals;
 mod run;
 mod section;
 mod state;
@@ -11,12 +12,63 @@ pub use body::body_refusal;
 pub use run::ended;
 pub use section::section_refusal;
 
-/// The greatest section or body.
-const INPUT_BYTES: usize = 32_768;
+use crate::dump;
+use crate::read::section::Line;
+use crate::recheck::{Cause, Input};
 
-const SIZE_EXCEEDED: u64 = 4;
+/// A refusal in words.
+pub struct Told {
+    /// Number and place.
+    pub headline: String,
+    /// Whose bytes the place is in.
+    pub of: &'static str,
+    pub place_is: &'static str,
+    /// The cause, on one line.
+    pub words: String,
+    /// What stands below the headline.
+    pub text: String,
+}
+
+impl Told {
+    pub fn whole(&self) -> String {
+        format!("{}\n{}", self.headline, self.text)
+    }
+
+    pub fn line(&self) -> String {
+        format!("{}: {}", self.headline, self.words)
+    }
+}
 
 const WIDTH: usize = 100;
+
+/// The cause, where the check by itself came to the library's refusal; else document 01's words for the number.
+fn reason(number: u64, cause: Option<&Cause>) -> String {
+    match cause {
+        Some(cause) => cause.words.clone(),
+        None => refusals::title(number).to_string(),
+    }
+}
+
+/// Of a part that is shown beside the cause.
+const SHOWN_BYTES: usize = 16;
+
+/// The parts of an input that a cause speaks of, behind a line of their own where there are any.
+fn shown_text(cause: &Cause, of: Input, bytes: &[u8], before: &str) -> String {
+    let shown: Vec<_> = cause.shown.iter().filter(|shown| shown.of == of).collect();
+    if shown.is_empty() {
+        return String::new();
+    }
+    let lines = shown.into_iter().map(|shown| {
+        let end = shown.bytes.end.min(shown.bytes.start + SHOWN_BYTES);
+        let line = Line { bytes: shown.bytes.start..end, indent: 0, text: shown.text.clone() };
+        let rest = match end < shown.bytes.end {
+            true => format!("        and on, to byte {}\n", shown.bytes.end - 1),
+            false => String::new(),
+        };
+        dump::line_text(bytes, &line) + &rest
+    });
+    before.to_string() + &lines.collect::<String>()
+}
 
 /// Words in lines of a width that a terminal has, a little to the right.
 fn wrapped(words: &str) -> String {

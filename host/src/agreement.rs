@@ -1,0 +1,93 @@
+//! The check that finds causes, against the library on generated requests: the same number and the same place.
+
+use crate::ask::{self, AddOn, No};
+use crate::recheck::{body, section, Cause};
+use chelbugan::Loader;
+use plain::generate;
+
+fn bytes(text: &str) -> Vec<u8> {
+    plain::lines::read_bytes(text).expect("hex")
+}
+
+fn told<T>(answer: Result<T, Cause>) -> Result<T, No> {
+    answer.map_err(|cause| {
+        assert!(!cause.words.is_empty());
+        No { number: cause.number, place: cause.place }
+    })
+}
+
+/// Every refusal that a section or a body can have comes up.
+#[test]
+fn causes_have_the_librarys_number_and_place() {
+    let mut loader = Loader::new();
+    let mut seen = [0; 30];
+    for line in generate::requests(20_260_807, 12_000, false) {
+        let parts: Vec<&str> = line.split(' ').collect();
+        let of_section = bytes(parts[1]);
+        let library = ask::section(&mut loader, &of_section).map(|table| table.count());
+        let own = told(section::judge(&of_section));
+        assert_eq!(own.as_ref().map(|read| read.types.len()).map_err(|no| *no), library, "{line}");
+        if let Err(no) = library {
+            seen[no.number as usize] += 1;
+        }
+        let (Ok(read), Some(of_body)) = (own, parts.get(3)) else { continue };
+        let number = parts[2].parse().expect("a number");
+        let add_on = AddOn { section: of_section, body: bytes(of_body), number };
+        let library = ask::body(&mut loader, &add_on);
+        assert_eq!(told(body::judge(&read.types, number, &add_on.body)), library, "{line}");
+        if let Err(no) = library {
+            seen[no.number as usize] += 1;
+        }
+    }
+    for number in (1..=13).chain(20..=25).chain(27..=29) {
+        assert!(seen[number] > 0, "{number} never came up: {seen:?}");
+    }
+}
+
+/// The operands that an explanation shows are the plain checker's.
+#[test]
+fn operands_are_the_plain_checkers() {
+    let mut told = 0;
+    for line in generate::requests(32, 4_000, true).filter(|line| line.starts_with("B ")) {
+        let parts: Vec<&str> = line.split(' ').collect();
+        let (of_section, of_body) = (bytes(parts[1]), bytes(parts[3]));
+        let number: u32 = parts[2].parse().expect("a number");
+        let Ok(read) = section::judge(&of_section) else { continue };
+        for place in 0..of_body.len() {
+            let own = body::operands_before(&read.types, u64::from(number), &of_body, place);
+            let Some((own, unreachable)) = own else { continue };
+            let plain = plain::body::operands_before(&of_section, number, &of_body, place);
+            let (operands, also_unreachable) = plain.expect("an instruction stands there");
+            let operands: Vec<String> = operands.iter().map(operand).collect();
+            assert_eq!((own, unreachable), (operands, also_unreachable), "{line} at {place}");
+            told += 1;
+        }
+    }
+    assert!(told > 2_000, "{told}");
+}
+
+fn operand(operand: &plain::frames::Operand) -> String {
+    use plain::frames::Operand;
+    use plain::syntax::ValueType;
+    match operand {
+        Operand::Unknown => "unknown".to_string(),
+        Operand::UnknownHeap => "(ref unknown)".to_string(),
+        Operand::Known(ValueType::I32) => "i32".to_string(),
+        Operand::Known(ValueType::I64) => "i64".to_string(),
+        Operand::Known(ValueType::F32) => "f32".to_string(),
+        Operand::Known(ValueType::F64) => "f64".to_string(),
+        Operand::Known(ValueType::Ref(reference)) => {
+            let null = if reference.nullable { "null " } else { "" };
+            format!("(ref {null}{})", heap(reference.heap))
+        }
+    }
+}
+
+fn heap(heap: plain::syntax::Heap) -> String {
+    use plain::syntax::Heap;
+    match heap {
+        Heap::Defined(number) => number.to_string(),
+        Heap::Exact(number) => format!("(exact {number})"),
+        Heap::Abstract(heap) => format!("{heap:?}").to_lowercase(),
+    }
+}

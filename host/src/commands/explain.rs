@@ -1,0 +1,57 @@
+//! A refusal or a trap by its number.
+
+use super::{read_number, say, say_json};
+use crate::arguments::Arguments;
+use crate::explain::refusals::{self, Entry, Example};
+use crate::json::Json;
+use crate::{help, Outcome, Trouble};
+
+const NAME: &str = "explain";
+
+pub fn explain(arguments: &Arguments, words: &[&str]) -> Result<Outcome, Trouble> {
+    if arguments.page {
+        return say(&refusals::page());
+    }
+    match words {
+        [] if arguments.json => {
+            let all = refusals::ENTRIES.iter().map(|entry| Json::Object(members(entry)));
+            say_json(NAME, vec![("numbers", Json::List(all.collect()))])
+        }
+        [] => say(&refusals::list()),
+        [number] => {
+            let entry = refusals::entry(read_number(number)?).ok_or_else(|| unknown(number))?;
+            match arguments.json {
+                true => say_json(NAME, members(entry)),
+                false => say(&refusals::text(entry)),
+            }
+        }
+        [_, extra, ..] => Err(help::too_many("explain N", extra)),
+    }
+}
+
+fn unknown(number: &str) -> Trouble {
+    format!("there is no refusal or trap {number}\nthere are {}", refusals::NUMBERS)
+}
+
+fn members(entry: &Entry) -> Vec<(&'static str, Json)> {
+    let examples = entry.examples.iter().map(|example| example_json(entry, example));
+    vec![
+        ("number", entry.number.into()),
+        ("kind", entry.kind().into()),
+        ("title", entry.title.into()),
+        ("meaning", entry.means.into()),
+        ("place", entry.place.into()),
+        ("rule", entry.rule.into()),
+        ("examples", Json::List(examples.collect())),
+    ]
+}
+
+fn example_json(entry: &Entry, example: &Example) -> Json {
+    Json::Object(vec![
+        ("call", example.broken.command().into()),
+        ("answer", example.answer(entry).into()),
+        ("why", example.why.into()),
+        ("mended", example.mended.command().into()),
+        ("mend", example.mend.into()),
+    ])
+}

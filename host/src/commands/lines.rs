@@ -1,0 +1,34 @@
+//! Requests in lines, answered one by one.
+
+use crate::arguments::Arguments;
+use crate::output::written;
+use crate::{lines, Outcome, Trouble};
+use chelbugan::Loader;
+use std::io::{self, BufRead, BufReader, BufWriter, Write};
+
+/// Answers go out whenever no further request is waiting, so that a script can talk to and fro. A reader that went away ends
+/// it.
+pub fn lines(arguments: &Arguments, _: &[&str]) -> Result<Outcome, Trouble> {
+    let mut requests = BufReader::new(io::stdin().lock());
+    let mut answers = BufWriter::new(io::stdout().lock());
+    let mut loader = Loader::new();
+    let mut line = Vec::new();
+    let read = |error: io::Error| format!("standard input cannot be read: {error}");
+    while requests.read_until(b'\n', &mut line).map_err(read)? > 0 {
+        if line.last() == Some(&b'\n') {
+            line.pop();
+        }
+        let answer = match arguments.json {
+            true => lines::answer_json(&mut loader, &line).to_string(),
+            false => lines::answer(&mut loader, &line),
+        };
+        let last = requests.buffer().is_empty();
+        let said = writeln!(answers, "{answer}");
+        if !written(said.and_then(|_| if last { answers.flush() } else { Ok(()) }))? {
+            return Ok(Outcome::Yes);
+        }
+        line.clear();
+    }
+    written(answers.flush())?;
+    Ok(Outcome::Yes)
+}

@@ -1,0 +1,81 @@
+//! A trial run.
+
+use super::{add_on_told, read_add_on, read_number, refused, say, say_json};
+use crate::arguments::Arguments;
+use crate::explain::{self, refusals};
+use crate::json::Json;
+use crate::{ask, Outcome, Trouble};
+use chelbugan::state::{Block, Object, Value};
+use chelbugan::{Ended, Loader, Run, State};
+
+const NAME: &str = "run";
+
+/// A run that traps or is spent is a yes: the add-on was accepted (docs/DECISIONS.md).
+pub fn run(arguments: &Arguments, words: &[&str]) -> Result<Outcome, Trouble> {
+    let add_on = read_add_on(words[0], words[1], words[2])?;
+    let budget = read_number(words[3])?;
+    let mut loader = Loader::new();
+    match ask::run(&mut loader, &add_on, budget) {
+        Err(refusal) => refused(arguments, NAME, refusal, &add_on_told(&add_on, refusal)),
+        Ok(_) if arguments.quiet => Ok(Outcome::Yes),
+        Ok(run) if arguments.json => say_json(NAME, members(&run)),
+        Ok(run) => say(&explain::ended(&add_on.body, &run)),
+    }
+}
+
+pub fn members(run: &Run) -> Vec<(&'static str, Json)> {
+    let mut members = vec![("answer", "yes".into())];
+    match run.ended {
+        Ended::Done { steps, .. } => {
+            members.push(("ended", "done".into()));
+            members.push(("steps", steps.into()));
+            members.push(("results", values(&run.state.operands())));
+        }
+        Ended::Trap { number, place, steps } => {
+            members.push(("ended", "trap".into()));
+            members.push(("steps", steps.into()));
+            members.push(("trap", number.into()));
+            members.push(("place", place.into()));
+            members.push(("meaning", refusals::title(number).into()));
+        }
+        Ended::Spent { steps } => {
+            members.push(("ended", "spent".into()));
+            members.push(("steps", steps.into()));
+        }
+    }
+    members.push(("state", state(&run.state)));
+    members
+}
+
+fn state(state: &State) -> Json {
+    let locals = state.locals().into_iter().map(|local| local.map(|value| value.to_string()));
+    Json::Object(vec![
+        ("place", state.place().into()),
+        ("objects", Json::List(state.objects().iter().map(object).collect())),
+        ("locals", locals.collect::<Vec<_>>().into()),
+        ("operands", values(&state.operands())),
+        ("blocks", Json::List(state.blocks().iter().map(block).collect())),
+    ])
+}
+
+/// As the lines of docs/LAYOUT.md write them.
+fn values(values: &[Value]) -> Json {
+    values.iter().map(Value::to_string).collect::<Vec<_>>().into()
+}
+
+fn object(object: &Object) -> Json {
+    Json::Object(vec![
+        ("type", object.type_number.into()),
+        ("descriptor", object.descriptor.into()),
+        ("fields", values(&object.fields)),
+    ])
+}
+
+fn block(block: &Block) -> Json {
+    let kind = if block.is_loop { "loop" } else { "block" };
+    Json::Object(vec![
+        ("kind", kind.into()),
+        ("place", block.place.into()),
+        ("height", block.height.into()),
+    ])
+}

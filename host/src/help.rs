@@ -1,0 +1,194 @@
+//! The words of `chelbugan help`, and those for a call that misses something.
+
+pub struct Command {
+    pub name: &'static str,
+    /// How it is called, a way a line.
+    pub uses: &'static [&'static str],
+    /// In a few words.
+    pub does: &'static str,
+    pub page: &'static str,
+}
+
+pub const COMMANDS: &[Command] = &[
+    Command {
+        name: "check",
+        uses: &["check SECTION", "check SECTION BODY TYPE", "check FILE..."],
+        does: "judge a section, a body against the function type of a number, or many sections",
+        page: "\
+A section: its types, or why it is refused. A body: its count of instructions, or why it is refused. Of several files, each a \
+section, a line each; the exit status is the worst of them. --quiet says nothing, the exit status is the answer.",
+    },
+    Command {
+        name: "run",
+        uses: &["run SECTION BODY TYPE BUDGET"],
+        does: "make a trial run of at most BUDGET steps",
+        page: "\
+How the run ended and the state that it left, or why the add-on is refused. An add-on that traps or spends its budget was \
+accepted: exit status 0.",
+    },
+    Command {
+        name: "type",
+        uses: &["type SECTION NUMBER"],
+        does: "the bytes of a type's definition, in hex",
+        page: "The section is judged first.",
+    },
+    Command {
+        name: "explain",
+        uses: &["explain N", "explain"],
+        does: "what a refusal or a trap means, with an example and its mend",
+        page: "Without N, all of them, a line each. --page prints docs/REFUSALS.md.",
+    },
+    Command {
+        name: "dump",
+        uses: &["dump section SECTION", "dump body BODY"],
+        does: "list every byte with its offset; judges nothing",
+        page: "The exit status is 1 where the listing breaks off at a byte that fits nowhere; the bytes behind it are listed too.",
+    },
+    Command {
+        name: "print",
+        uses: &["print section SECTION", "print body BODY"],
+        does: "write it in WebAssembly's text; judges nothing",
+        page: "assemble makes the same bytes of it, but for padding of numbers, which the text does not say.",
+    },
+    Command {
+        name: "assemble",
+        uses: &["assemble section TEXT", "assemble body TEXT"],
+        does: "make bytes of WebAssembly's text; judges nothing",
+        page: "\
+TEXT is the name of a file, - for standard input, or the text itself where it begins with a parenthesis. A section is a list of \
+(rec ..) and (type ..), a body a (func ..) with flat or folded instructions. The bytes are written in hex, or as they are with --raw.",
+    },
+    Command {
+        name: "lines",
+        uses: &["lines"],
+        does: "answer requests, one a line, from standard input (docs/LAYOUT.md)",
+        page: "Requests are S SECTION, T SECTION NUMBER, B SECTION TYPE BODY and R SECTION TYPE BODY BUDGET, bytes in hex, - for none.",
+    },
+    Command {
+        name: "help",
+        uses: &["help", "help COMMAND"],
+        does: "this page, or that of a command",
+        page: "COMMAND --help is the same.",
+    },
+];
+
+const INPUTS: &str = "\
+SECTION and BODY are hex digits, as 014E00 or '01 4E 00' or 0x01,0x4E,0x00; '' for no bytes; - for standard input, hex digits or
+the bytes themselves; or the name of a file. A file holds the bytes themselves; one whose name ends in .hex holds hex digits in
+pairs, white space, commas, and comments from # to the end of a line. ./NAME is always a file, hex:DIGITS always bytes.";
+
+const OPTIONS: &str = "\
+--json       write the answer as JSON, an object a line (docs/JSON.md)
+--quiet      say nothing; the exit status is the answer
+--help       this page, or behind a command that command's
+--version    the program's version";
+
+const STATUS: &str =
+    "exit status: 0 yes, 1 no, 2 bad usage or unreadable input; an add-on that traps or spends its budget was accepted: 0";
+
+pub fn version() -> &'static str {
+    env!("CARGO_PKG_VERSION")
+}
+
+/// The whole page.
+pub fn all() -> String {
+    let mut text = String::new();
+    for command in COMMANDS {
+        for (index, one) in command.uses.iter().enumerate() {
+            let before = if text.is_empty() { "use:" } else { "    " };
+            let does = if index == 0 { command.does } else { "" };
+            text += format!("{before} chelbugan {one:<30} {does}").trim_end();
+            text.push('\n');
+        }
+    }
+    format!("{text}\n{INPUTS}\n\n{OPTIONS}\n\n{STATUS}\n")
+}
+
+pub fn command(name: &str) -> Option<&'static Command> {
+    COMMANDS.iter().find(|command| command.name == name)
+}
+
+/// The page of a command.
+pub fn page(command: &Command) -> String {
+    let uses = command.uses.iter().map(|one| format!("use: chelbugan {one}\n"));
+    let uses = uses.collect::<String>();
+    let inputs = match command.name {
+        "check" | "run" | "type" | "dump" | "print" => format!("\n{INPUTS}\n"),
+        _ => String::new(),
+    };
+    format!("{uses}\n{}.\n\n{}\n{inputs}\n{STATUS}\n", capital(command.does), wrapped(command.page))
+}
+
+fn capital(words: &str) -> String {
+    let mut characters = words.chars();
+    let first = characters.next().map_or(String::new(), |first| first.to_uppercase().to_string());
+    first + characters.as_str()
+}
+
+const WIDTH: usize = 120;
+
+fn wrapped(words: &str) -> String {
+    let mut text = String::new();
+    let mut length = 0;
+    for word in words.split(' ') {
+        if length > 0 && length + word.len() >= WIDTH {
+            text.push('\n');
+            length = 0;
+        } else if length > 0 {
+            text.push(' ');
+            length += 1;
+        }
+        text += word;
+        length += word.len();
+    }
+    text
+}
+
+/// One line: how a command is called.
+pub fn use_of(name: &str) -> String {
+    match command(name) {
+        Some(command) => {
+            let uses: Vec<String> =
+                command.uses.iter().map(|one| format!("chelbugan {one}")).collect();
+            format!("use: {}; chelbugan help {name} says more", uses.join(", or "))
+        }
+        None => "use: chelbugan help lists the commands".to_string(),
+    }
+}
+
+/// "run SECTION needs BODY, TYPE and BUDGET", and how it is called.
+pub fn missing(name: &str, given: &[&str], wanted: &[&str]) -> String {
+    let wanted = match wanted {
+        [one] => one.to_string(),
+        [all @ .., last] => format!("{} and {last}", all.join(", ")),
+        [] => "nothing".to_string(),
+    };
+    let called: Vec<&str> = [name].into_iter().chain(given.iter().copied()).collect();
+    format!("{} needs {wanted}\n{}", called.join(" "), use_of(name))
+}
+
+pub fn too_many(name: &str, extra: &str) -> String {
+    format!("{name} takes no further argument: {extra}\n{}", use_of(name))
+}
+
+/// A command that is meant, where one letter or two are amiss.
+pub fn near(name: &str) -> Option<&'static str> {
+    let close = |command: &&Command| distance(command.name, name) <= 2;
+    COMMANDS.iter().find(close).map(|command| command.name)
+}
+
+/// How many letters are put in, left out or changed.
+fn distance(one: &str, other: &str) -> usize {
+    let other: Vec<char> = other.chars().collect();
+    let mut row: Vec<usize> = (0..=other.len()).collect();
+    for (line, letter) in one.chars().enumerate() {
+        let mut corner = row[0];
+        row[0] = line + 1;
+        for at in 0..other.len() {
+            let changed = corner + (letter != other[at]) as usize;
+            corner = row[at + 1];
+            row[at + 1] = changed.min(row[at] + 1).min(corner + 1);
+        }
+    }
+    row[other.len()]
+}

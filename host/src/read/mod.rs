@@ -1,0 +1,9 @@
+//! From bytes to what they say. Byte faults are given here with the loader's numbers, 1 to 5; no rule is asked.
+
+pub mod body;
+mod instruction;
+mod reader;
+pub mod section;
+mod types;
+
+pub use reader::Fault;

@@ -1,0 +1,226 @@
+//! The parts of a section: groups, definitions, fields; and a line of the listing for each.
+
+use super::reader::{Fault, Reader, NOT_LISTED, SIZE_EXCEEDED};
+use super::types;
+use crate::syntax::{Form, Front, Placed, Type};
+use std::fmt::Display;
+use std::ops::Range;
+
+/// The sizes that a section's reader looks at.
+const TYPES: usize = 256;
+const ENTRIES: u32 = 64;
+
+pub struct Section {
+    pub groups: Vec<Group>,
+    pub types: Vec<Type>,
+    pub lines: Vec<Line>,
+    /// Where the part begins that could not be read, and why; none where the whole section was.
+    pub fault: Option<(usize, Fault)>,
+    pub padded: bool,
+}
+
+/// The types of a group; one definition alone is a group without 4E.
+pub struct Group {
+    pub members: Range<usize>,
+    pub alone: bool,
+}
+
+pub struct Line {
+    pub bytes: Range<usize>,
+    pub indent: usize,
+    pub text: String,
+}
+
+pub fn read(bytes: &[u8]) -> Section {
+    let mut parts = Parts {
+        reader: Reader::new(bytes),
+        groups: Vec::new(),
+        types: Vec::new(),
+        lines: Vec::new(),
+        indent: 0,
+        label: String::new(),
+        from: 0,
+    };
+    let fault = parts.section().err();
+    let from = parts.from;
+    Section {
+        groups: parts.groups,
+        types: parts.types,
+        lines: parts.lines,
+        fault: fault.map(|fault| (from.min(fault.place), fault)),
+        padded: parts.reader.padded,
+    }
+}
+
+struct Parts<'a> {
+    reader: Reader<'a>,
+    groups: Vec<Group>,
+    types: Vec<Type>,
+    lines: Vec<Line>,
+    indent: usize,
+    /// Said on a definition's first line, whichever that is.
+    label: String,
+    /// Where the line begins that is being read.
+    from: usize,
+}
+
+type Entry<T> = fn(&mut Reader) -> Result<T, Fault>;
+
+impl Parts<'_> {
+    /// A line for the bytes that were read since the last one.
+    fn line(&mut self, text: String) -> Range<usize> {
+        let text = std::mem::take(&mut self.label) + &text;
+        let bytes = self.from..self.reader.place;
+        self.lines.push(Line { bytes: bytes.clone(), indent: self.indent, text });
+        self.from = self.reader.place;
+        bytes
+    }
+
+    fn section(&mut self) -> Result<(), Fault> {
+        let groups = self.reader.unsigned("the count of groups")?;
+        self.line(counted(groups, "group"));
+        for _ in 0..groups {
+            self.group()?;
+        }
+        self.reader.ended()
+    }
+
+    fn group(&mut self) -> Result<(), Fault> {
+        let first = self.types.len();
+        let alone = !self.reader.takes(0x4E);
+        if alone {
+            // A missing byte is no type beyond the size: nothing says what begins here.
+            if self.reader.peek().is_some() {
+                self.room()?;
+            }
+            self.definition()?;
+        } else {
+            let count = self.reader.unsigned("the count of a group's definitions")?;
+            self.line(format!("a group of {}", counted(count, "definition")));
+            self.indent += 1;
+            for _ in 0..count {
+                self.room()?;
+                self.definition()?;
+            }
+            self.indent -= 1;
+        }
+        let reach = self.types.len();
+        self.types[first..].iter_mut().for_each(|member| member.reach = reach);
+        self.groups.push(Group { members: first..reach, alone });
+        Ok(())
+    }
+
+    fn room(&self) -> Result<(), Fault> {
+        match self.types.len() < TYPES {
+            true => Ok(()),
+            false => Err(Fault::new(
+                SIZE_EXCEEDED,
+                self.reader.place,
+                "a type beyond the 256 that a section may have begins here",
+            )),
+        }
+    }
+
+    fn definition(&mut self) -> Result<(), Fault> {
+        let start = self.reader.place;
+        self.label = format!("type {}: ", self.types.len());
+        let front = self.front()?;
+        let describes = self.clause(0x4C, "describes")?;
+        let descriptor = self.clause(0x4D, "descriptor")?;
+        let (head, results_head, form) = self.form()?;
+        let bytes = start..self.reader.place;
+        // The reach is known when the group has been read.
+        let reach = 0;
+        self.types.push(Type {
+            bytes,
+            front,
+            describes,
+            descriptor,
+            head,
+            results_head,
+            form,
+            reach,
+        });
+        Ok(())
+    }
+
+    fn front(&mut self) -> Result<Option<Placed<Front>>, Fault> {
+        let open = match self.reader.peek() {
+            Some(0x50) => true,
+            Some(0x4F) => false,
+            _ => return Ok(None),
+        };
+        self.reader.place += 1;
+        let count = self.reader.unsigned("the count of supertypes")?;
+        let mut supertypes = Vec::new();
+        let mut text = if open { "open" } else { "final" }.to_string();
+        for _ in 0..count {
+            let supertype = self.reader.unsigned("a supertype's number")?;
+            supertypes.push(supertype);
+            text += &format!(", supertype {supertype}");
+        }
+        let bytes = self.line(text);
+        Ok(Some(Placed { bytes, what: Front { open, supertypes } }))
+    }
+
+    fn clause(&mut self, code: u8, word: &str) -> Result<Option<Placed<u32>>, Fault> {
+        if !self.reader.takes(code) {
+            return Ok(None);
+        }
+        let number = self.reader.unsigned("a clause's type number")?;
+        let bytes = self.line(format!("{word} {number}"));
+        Ok(Some(Placed { bytes, what: number }))
+    }
+
+    fn form(&mut self) -> Result<(Range<usize>, Range<usize>, Form), Fault> {
+        let start = self.reader.place;
+        match self.reader.byte("5F, a struct, or 60, a function,")? {
+            0x5F => {
+                let (head, fields) = self.entries("struct of ", "field", types::field)?;
+                Ok((head, 0..0, Form::Struct(fields)))
+            }
+            0x60 => {
+                let (head, parameters) = self.entries("function of ", "parameter", types::value)?;
+                let (results_head, results) = self.entries("", "result", types::value)?;
+                Ok((head, results_head, Form::Function { parameters, results }))
+            }
+            byte => Err(Fault::new(
+                NOT_LISTED,
+                start,
+                format!("{byte:02x} is neither 5f, a struct, nor 60, a function"),
+            )),
+        }
+    }
+
+    fn entries<T: Display>(
+        &mut self,
+        before: &str,
+        word: &str,
+        read: Entry<T>,
+    ) -> Result<(Range<usize>, Vec<Placed<T>>), Fault> {
+        let count = self.reader.unsigned(&format!("the count of {word}s"))?;
+        let head = self.line(format!("{before}{}", counted(count, word)));
+        self.indent += 1;
+        let mut entries = Vec::new();
+        for number in 0..count {
+            if number >= ENTRIES {
+                let of = self.types.len();
+                let why =
+                    format!("a {word} beyond the {ENTRIES} that type {of} may have begins here");
+                return Err(Fault::new(SIZE_EXCEEDED, self.reader.place, why));
+            }
+            let entry = read(&mut self.reader)?;
+            let bytes = self.line(format!("{word} {number}: {entry}"));
+            entries.push(Placed { bytes, what: entry });
+        }
+        self.indent -= 1;
+        Ok((head, entries))
+    }
+}
+
+pub fn counted(count: u32, word: &str) -> String {
+    match count {
+        1 => format!("1 {word}"),
+        _ => format!("{count} {word}s"),
+    }
+}

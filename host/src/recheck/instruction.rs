@@ -1,0 +1,365 @@
+//! The rules of each instruction: 6, 21, 23, 24, 25, 29, 22 in this order; what it takes, and what it gives.
+
+use super::body::Check;
+use super::order::{reference_below, top_of};
+use super::{counted, Input, Shown, Wanted};
+use crate::syntax::{
+    Abstract, BranchingCast, Field, Heap, Instruction, New, Placed, Plain, Reference, Type,
+    ValueType,
+};
+use std::ops::Range;
+
+/// The refusal's number, its words, and the parts that they speak of.
+type Broken = (u64, String, Vec<Shown>);
+
+fn in_section(bytes: &Range<usize>, text: String) -> Vec<Shown> {
+    vec![Shown { of: Input::Section, bytes: bytes.clone(), text }]
+}
+
+impl Check<'_> {
+    pub fn broken_rule(&self, instruction: &Instruction) -> Option<Broken> {
+        self.number_absent(instruction)
+            .or_else(|| self.label_or_local_absent(instruction))
+            .or_else(|| self.not_such_a_struct(instruction))
+            .or_else(|| self.field_fixed(instruction))
+            .or_else(|| self.cast_unfit(instruction))
+            .or_else(|| self.no_default(instruction))
+            .or_else(|| self.local_not_set(instruction))
+    }
+
+    fn number_absent(&self, instruction: &Instruction) -> Option<Broken> {
+        let number = instruction.numbers().into_iter().find(|&number| self.absent(number))?;
+        Some((6, self.no_type(number), Vec::new()))
+    }
+
+    fn label_or_local_absent(&self, instruction: &Instruction) -> Option<Broken> {
+        let (what, number, count) = match *instruction {
+            Instruction::Br(label)
+            | Instruction::BrIf(label)
+            | Instruction::BranchingCast(BranchingCast { label, .. }) => {
+                ("label", label, self.frames.len())
+            }
+            Instruction::LocalGet(local)
+            | Instruction::LocalSet(local)
+            | Instruction::LocalTee(local) => ("local", local, self.locals.len()),
+            _ => return None,
+        };
+        if (number as usize) < count {
+            return None;
+        }
+        let there = match (what, count) {
+            ("label", 1) => "the function's own frame alone is open, label 0".to_string(),
+            ("label", _) => format!("{count} frames are open, labels 0 to {}", count - 1),
+            (_, 0) => "there are none".to_string(),
+            (_, 1) => "there is one, local 0".to_string(),
+            _ => format!("there are {count} with the parameters, locals 0 to {}", count - 1),
+        };
+        Some((21, format!("there is no {what} {number}: {there}"), Vec::new()))
+    }
+
+    fn type_of(&self, number: u32) -> &Type {
+        &self.types[number as usize]
+    }
+
+    pub fn descriptor(&self, number: u32) -> Option<u32> {
+        self.type_of(number).descriptor()
+    }
+
+    fn fields(&self, number: u32) -> &[Placed<Field>] {
+        self.type_of(number).fields().unwrap_or(&[])
+    }
+
+    fn field(&self, number: u32, field: u32) -> Option<&Placed<Field>> {
+        self.fields(number).get(field as usize)
+    }
+
+    /// 23: a struct, with the field, its descriptor there or not as is asked.
+    fn not_such_a_struct(&self, instruction: &Instruction) -> Option<Broken> {
+        let name = instruction.name();
+        match *instruction {
+            Instruction::New(New { number, by_descriptor: false, .. }) => {
+                self.not_a_struct(name, number).or_else(|| self.unwanted_descriptor(name, number))
+            }
+            Instruction::New(New { number, .. }) | Instruction::GetDescriptor(number) => {
+                self.not_a_struct(name, number).or_else(|| self.lacks_descriptor(name, number))
+            }
+            Instruction::GetField(number, field) | Instruction::SetField(number, field) => {
+                self.not_a_struct(name, number).or_else(|| self.no_field(number, field))
+            }
+            Instruction::CastByDescriptor(target)
+            | Instruction::BranchingCast(BranchingCast { by_descriptor: true, target, .. }) => {
+                match target.heap.number() {
+                    None => {
+                        let words = format!(
+                            "the target of {name} is {}, and no type with a descriptor",
+                            target.heap
+                        );
+                        Some((23, words, Vec::new()))
+                    }
+                    Some(number) => self
+                        .not_a_struct(name, number)
+                        .or_else(|| self.lacks_descriptor(name, number)),
+                }
+            }
+            _ => None,
+        }
+    }
+
+    fn not_a_struct(&self, name: &str, number: u32) -> Option<Broken> {
+        let own = self.type_of(number);
+        if own.fields().is_some() {
+            return None;
+        }
+        let words = format!("type {number} is a function, {name} takes a struct");
+        Some((23, words, in_section(&own.head, format!("type {number}: function"))))
+    }
+
+    fn unwanted_descriptor(&self, name: &str, number: u32) -> Option<Broken> {
+        let clause = self.type_of(number).descriptor.as_ref()?;
+        let words =
+            format!("type {number} has descriptor {}, {name} takes none that has", clause.what);
+        let text = format!("type {number}: descriptor {}", clause.what);
+        Some((23, words, in_section(&clause.bytes, text)))
+    }
+
+    fn lacks_descriptor(&self, name: &str, number: u32) -> Option<Broken> {
+        let own = self.type_of(number);
+        if own.descriptor.is_some() {
+            return None;
+        }
+        let words = format!("type {number} has no descriptor, {name} takes a type that has one");
+        let text = format!("type {number}: no descriptor clause");
+        Some((23, words, in_section(&own.bytes, text)))
+    }
+
+    fn no_field(&self, number: u32, field: u32) -> Option<Broken> {
+        if self.field(number, field).is_some() {
+            return None;
+        }
+        let has = counted(self.fields(number).len(), "field");
+        let words = format!("type {number} has {has}, and no field {field}");
+        Some((23, words, in_section(&self.type_of(number).head, format!("type {number}: {has}"))))
+    }
+
+    fn field_fixed(&self, instruction: &Instruction) -> Option<Broken> {
+        let Instruction::SetField(number, field) = *instruction else { return None };
+        let found = self.field(number, field)?;
+        if found.what.mutable {
+            return None;
+        }
+        let text = format!("type {number}: field {field}: {}, fixed", found.what);
+        let words = format!("field {field} of type {number} is fixed");
+        Some((24, words, in_section(&found.bytes, text)))
+    }
+
+    /// 25: the label has types, the target matches the source, the label's last type takes what is carried.
+    fn cast_unfit(&self, instruction: &Instruction) -> Option<Broken> {
+        let Instruction::BranchingCast(cast) = *instruction else { return None };
+        let frame = self.frames.iter().rev().nth(cast.label as usize)?;
+        let shown = self.label_shown(cast.label as usize);
+        let (label, carried) = (cast.label, cast.carried());
+        let last = match frame.label.last() {
+            None => {
+                let why = match frame.results.is_empty() {
+                    true => "has no types",
+                    false => "is a loop's and has no types",
+                };
+                let words = format!("label {label} {why}, and {carried} is carried to it");
+                return Some((25, words, shown));
+            }
+            Some(last) => *last,
+        };
+        if !reference_below(self.types, cast.target, cast.source) {
+            let words =
+                format!("the target, {}, is not below the source, {}", cast.target, cast.source);
+            return Some((25, words, Vec::new()));
+        }
+        let taken = match last {
+            ValueType::Ref(upper) => reference_below(self.types, carried, upper),
+            _ => false,
+        };
+        if taken {
+            return None;
+        }
+        let all: Vec<String> = frame.label.iter().map(ValueType::to_string).collect();
+        let words = match all.len() {
+            1 => format!("label {label} takes {last}, and {carried} is carried, which is not below it"),
+            _ => format!(
+                "label {label} takes {}, the last of them {last}, and {carried} is carried, which is \
+                 not below it",
+                all.join(", ")
+            ),
+        };
+        Some((25, words, shown))
+    }
+
+    /// The block, the loop or the function's results that a label stands for.
+    fn label_shown(&self, label: usize) -> Vec<Shown> {
+        let Some(frame) = self.frames.iter().rev().nth(label) else { return Vec::new() };
+        match frame.opened {
+            Some(at) => {
+                let part = &self.parts[at];
+                let text = format!("{}, label {label}", part.what);
+                vec![Shown { of: Input::Body, bytes: part.bytes.clone(), text }]
+            }
+            None => {
+                let results: Vec<String> = frame.results.iter().map(ValueType::to_string).collect();
+                let text = format!("results of the function, label {label}: {}", listed(&results));
+                let bytes = self.function.results_head.start..self.function.bytes.end;
+                in_section(&bytes, text)
+            }
+        }
+    }
+
+    fn no_default(&self, instruction: &Instruction) -> Option<Broken> {
+        let Instruction::New(New { number, default: true, .. }) = *instruction else { return None };
+        let fields = self.fields(number).iter().enumerate();
+        let (at, field) = fields.into_iter().find(|(_, it)| !it.what.value.has_default())?;
+        let words = format!("field {at} of type {number}, {}, has no default", field.what.value);
+        let text = format!("type {number}: field {at}: {}", field.what);
+        Some((29, words, in_section(&field.bytes, text)))
+    }
+
+    /// 22: where the local would have to be set.
+    fn local_not_set(&self, instruction: &Instruction) -> Option<Broken> {
+        let Instruction::LocalGet(local) = *instruction else { return None };
+        if self.set[local as usize].is_some() {
+            return None;
+        }
+        let value = self.locals[local as usize];
+        let start = |at: usize| self.parts[at].bytes.start;
+        let Some([by, opened, end]) = self.forgotten[local as usize] else {
+            let words = format!(
+                "local {local}, {value}, has no default and is not set before; a local.set or local.tee \
+                 of it has to stand before, in this block or in one around it"
+            );
+            return Some((22, words, Vec::new()));
+        };
+        let words = format!(
+            "local {local}, {value}, was set inside the block of bytes {} to {} and forgotten at its \
+             end; it has to be set before that block or behind it",
+            start(opened),
+            start(end)
+        );
+        let shown = [(opened, ""), (by, ""), (end, ", where the set is forgotten")];
+        let shown = shown.map(|(at, remark)| Shown {
+            of: Input::Body,
+            bytes: self.parts[at].bytes.clone(),
+            text: format!("{}{remark}", self.parts[at].what),
+        });
+        Some((22, words, shown.into()))
+    }
+
+    fn label_types(&self, label: u32) -> Vec<ValueType> {
+        let frame = self.frames.iter().rev().nth(label as usize);
+        frame.map_or(Vec::new(), |frame| frame.label.clone())
+    }
+
+    /// (ref null y), exact y where the target is exact.
+    fn descriptor_for(&self, target: Reference) -> Option<ValueType> {
+        let descriptor = self.descriptor(target.heap.number()?)?;
+        Some(ValueType::nullable(match target.heap {
+            Heap::Exact(_) => Heap::Exact(descriptor),
+            _ => Heap::Defined(descriptor),
+        }))
+    }
+
+    fn of_hierarchy(&self, target: Reference) -> ValueType {
+        ValueType::nullable(Heap::Abstract(top_of(self.types, target.heap)))
+    }
+
+    /// What an instruction takes, the top last.
+    pub fn taken(&self, instruction: &Instruction) -> Vec<Wanted> {
+        let any = ValueType::nullable(Heap::Abstract(Abstract::Any));
+        let values: Vec<ValueType> = match *instruction {
+            Instruction::Plain(plain) => return self.taken_by_plain(plain),
+            Instruction::Br(label) => self.label_types(label),
+            Instruction::BrIf(label) => [&self.label_types(label)[..], &[ValueType::I32]].concat(),
+            Instruction::LocalSet(number) | Instruction::LocalTee(number) => {
+                vec![self.locals[number as usize]]
+            }
+            Instruction::New(New { number, default, by_descriptor }) => {
+                let fields = if default { &[][..] } else { self.fields(number) };
+                let mut values: Vec<ValueType> = fields.iter().map(|it| it.what.value).collect();
+                if by_descriptor {
+                    let descriptor = self.descriptor(number).unwrap_or(number);
+                    values.push(ValueType::nullable(Heap::Exact(descriptor)));
+                }
+                values
+            }
+            Instruction::GetField(number, _) | Instruction::GetDescriptor(number) => {
+                vec![ValueType::nullable(Heap::Defined(number))]
+            }
+            Instruction::SetField(number, field) => {
+                let mut values = vec![ValueType::nullable(Heap::Defined(number))];
+                values.extend(self.field(number, field).map(|it| it.what.value));
+                values
+            }
+            Instruction::Test(target) | Instruction::Cast(target) => {
+                vec![self.of_hierarchy(target)]
+            }
+            Instruction::CastByDescriptor(target) => {
+                [any].into_iter().chain(self.descriptor_for(target)).collect()
+            }
+            Instruction::BranchingCast(cast) => self.taken_by_cast(&cast),
+            _ => Vec::new(),
+        };
+        values.into_iter().map(Wanted::Of).collect()
+    }
+
+    fn taken_by_plain(&self, plain: Plain) -> Vec<Wanted> {
+        let of = |values: &[ValueType]| values.iter().map(|&value| Wanted::Of(value)).collect();
+        match plain {
+            Plain::Unreachable | Plain::Nop => Vec::new(),
+            Plain::End => of(&self.frame().results),
+            Plain::Return => of(&self.frames[0].results),
+            Plain::Drop => vec![Wanted::Anything],
+            Plain::IsNull | Plain::AsNonNull => vec![Wanted::Reference],
+            Plain::Equal => of(&[ValueType::nullable(Heap::Abstract(Abstract::Eq)); 2]),
+        }
+    }
+
+    /// The values below, the object, the descriptor.
+    fn taken_by_cast(&self, cast: &BranchingCast) -> Vec<ValueType> {
+        let mut values = self.label_types(cast.label);
+        values.pop();
+        values.push(ValueType::Ref(cast.source));
+        if cast.by_descriptor {
+            values.extend(self.descriptor_for(cast.target));
+        }
+        values
+    }
+
+    /// What an instruction gives whatever the operands' own types are.
+    pub fn given(&self, instruction: &Instruction) -> Vec<ValueType> {
+        match *instruction {
+            Instruction::Plain(Plain::IsNull | Plain::Equal)
+            | Instruction::Constant(_)
+            | Instruction::Test(_) => vec![ValueType::I32],
+            Instruction::BrIf(label) => self.label_types(label),
+            Instruction::LocalGet(number) => vec![self.locals[number as usize]],
+            Instruction::Null(heap) => vec![ValueType::nullable(heap)],
+            Instruction::New(New { number, .. }) => vec![ValueType::non_null(Heap::Exact(number))],
+            Instruction::GetField(number, field) => {
+                self.field(number, field).map(|it| it.what.value).into_iter().collect()
+            }
+            Instruction::Cast(target) | Instruction::CastByDescriptor(target) => {
+                vec![ValueType::Ref(target)]
+            }
+            Instruction::BranchingCast(cast) => {
+                let mut values = self.label_types(cast.label);
+                values.pop();
+                values.push(ValueType::Ref(cast.fallen_through()));
+                values
+            }
+            _ => Vec::new(),
+        }
+    }
+}
+
+fn listed(items: &[String]) -> String {
+    match items.is_empty() {
+        true => "none".to_string(),
+        false => items.join(", "),
+    }
+}

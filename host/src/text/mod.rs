@@ -1,0 +1,15 @@
+//! Sections and bodies in WebAssembly's text: printed from bytes, and assembled back. Nothing is judged.
+//!
+//! The text says all that the bytes say but for padding of numbers: bytes without padding come back as they were.
+
+mod assemble;
+mod encode;
+mod instruction;
+mod print;
+mod tokens;
+
+pub use assemble::{body as assemble_body, section as assemble_section};
+pub use print::{body as print_body, section as print_section};
+
+#[cfg(test)]
+mod tests;

@@ -1,0 +1,205 @@
+//! The law of `print` and `assemble`, and the text's forms.
+
+use super::*;
+use crate::hex::read_text;
+use crate::{dump, read};
+use plain::generate;
+
+fn bytes(text: &str) -> Vec<u8> {
+    plain::lines::read_bytes(text).expect("hex")
+}
+
+type Print = fn(&[u8]) -> Result<String, read::Fault>;
+
+/// Printed and assembled: the same bytes where no number is padded, and always the same text.
+fn held(bytes: &[u8], padded: bool, print: Print, is_section: bool) {
+    let text = print(bytes).expect("it can be read");
+    let assemble = if is_section { assemble_section } else { assemble_body };
+    let back = match assemble(&text) {
+        Ok(back) => back,
+        Err(fault) => panic!("{fault}\n{text}"),
+    };
+    if padded {
+        assert!(back.len() < bytes.len());
+        let again = print(&back).expect("it can be read");
+        assert_eq!(text.split_once('\n').map(|(_, rest)| rest), Some(again.as_str()));
+    } else {
+        assert_eq!(back, bytes, "{text}");
+    }
+}
+
+#[test]
+fn printed_and_assembled_bytes_are_the_same() {
+    let mut counts = [0; 4];
+    for line in generate::requests(20_260_808, 6_000, false) {
+        let parts: Vec<&str> = line.split(' ').collect();
+        let section = bytes(parts[1]);
+        let read = read::section::read(&section);
+        if read.fault.is_none() {
+            held(&section, read.padded, print_section, true);
+            counts[read.padded as usize] += 1;
+        }
+        let Some(body) = parts.get(3).map(|text| bytes(text)) else { continue };
+        let read = read::body::read(&body);
+        if read.fault.is_none() {
+            held(&body, read.padded, print_body, false);
+            counts[2 + read.padded as usize] += 1;
+        }
+    }
+    assert!(counts.iter().all(|&count| count > 300), "{counts:?}");
+}
+
+fn section_of(text: &str) -> Vec<u8> {
+    assemble_section(text).unwrap_or_else(|fault| panic!("{fault}"))
+}
+
+fn body_of(text: &str) -> Vec<u8> {
+    assemble_body(text).unwrap_or_else(|fault| panic!("{fault}"))
+}
+
+fn digits(text: &str) -> Vec<u8> {
+    read_text(text).expect("hex")
+}
+
+/// Every form of a definition has a text of its own.
+#[test]
+fn forms_of_sections() {
+    let cases = [
+        ("00", ""),
+        ("01 4E 00", "(rec)\n"),
+        ("01 5F 00", "(type $0 (struct))\n"),
+        ("01 4E 01 5F 00", "(rec\n  (type $0 (struct))\n)\n"),
+        ("01 50 00 5F 00", "(type $0 (sub (struct)))\n"),
+        ("01 4F 00 5F 00", "(type $0 (sub final (struct)))\n"),
+        ("01 50 02 00 07 5F 00", "(type $0 (sub $0 7 (struct)))\n"),
+        (
+            "01 4E 02 4D 01 5F 01 6E 01 4C 00 5F 01 63 6E 00",
+            "(rec\n  (type $0 (descriptor $1) (struct (field (mut anyref))))\n  \
+             (type $1 (describes $0) (struct (field (ref null any))))\n)\n",
+        ),
+        (
+            "01 60 02 7F 64 62 00 01 7C",
+            "(type $0 (func (param i32 (ref (exact $0))) (result f64)))\n",
+        ),
+    ];
+    for (hex, text) in cases {
+        assert_eq!(print_section(&digits(hex)).expect("it can be read"), text);
+        assert_eq!(section_of(text), digits(hex), "{text}");
+    }
+}
+
+#[test]
+fn forms_of_bodies() {
+    let body = "04 01 7F 02 6E 00 7E AC 02 63 6D 02 63 6E 41 7B 0D 00 0B 1A 0B";
+    let text = "\
+(func
+  (local i32)
+  (local anyref anyref)
+  (local (@times 0) i64)
+  (local (@times 300) (ref null eq))
+  block (result (ref null any))
+    i32.const -5
+    br_if 0
+  end
+  drop
+)
+";
+    assert_eq!(print_body(&digits(body)).expect("it can be read"), text);
+    assert_eq!(body_of(text), digits(body));
+}
+
+/// What a person writes: names, comments, folded instructions, shorthands.
+#[test]
+fn text_by_hand() {
+    let section = "
+        ;; a route (; and ;) its descriptor
+        (rec (type $route (sub (descriptor $kind) (struct (field $length i32) (field i64 (mut f32)))))
+             (type $kind (sub (describes $route) (struct))))
+        (; (; one in another ;) ;)
+        (type (func (param i32) (param i64) (result (ref $route))))";
+    let wanted =
+        "02 4E 02 50 00 4D 01 5F 03 7F 00 7E 00 7D 01 50 00 4C 00 5F 00 60 02 7F 7E 01 64 00";
+    assert_eq!(section_of(section), digits(wanted));
+    let folded = "(func $f (type 2) (param $a i32) (result i32) (local $b i32 i64)
+        (block $out (result i32)
+          (br_if $out (local.get $a) (i32.const 0x10)))
+        (local.set $b) (drop (ref.test anyref (ref.null any))) local.get $b)";
+    let flat = "02 01 7F 01 7E 02 7F 20 00 41 10 0D 00 0B 21 01 D0 6E FB 15 6E 1A 20 01 0B";
+    assert_eq!(body_of(folded), digits(flat));
+    // Without a (func ..) around it; the last `end` may stand there or not.
+    assert_eq!(body_of(";; nothing\nnop end"), digits("00 01 0B"));
+    assert_eq!(body_of("nop"), digits("00 01 0B"));
+    assert_eq!(body_of("i32.const 4294967295 drop"), digits("00 41 7F 1A 0B"));
+}
+
+#[test]
+fn text_that_goes_wrong_is_told_by_line_and_column() {
+    let of_section = |text: &str| assemble_section(text).expect_err(text).to_string();
+    let of_body = |text: &str| assemble_body(text).expect_err(text).to_string();
+    assert_eq!(
+        of_section("(type $a (struct))\n(type $b (sub $c (struct)))"),
+        "line 2, column 15: no type is named $c"
+    );
+    assert!(of_section("(type $a (struct)) (type $a (struct))").contains("line 1, column 26"));
+    assert!(of_section("(type (structt))").starts_with("line 1, column 7: "));
+    assert!(of_section("(type (struct (field i33)))").contains("a value type is wanted here"));
+    assert!(of_section("(type (struct)").contains("and the text ends"));
+    assert!(of_section("(; open").contains("line 1, column 1: this comment is not closed"));
+    assert!(of_body("(func nopp)").starts_with("line 1, column 7: an instruction is wanted here"));
+    assert!(of_body("(func block)").contains("`end` of a block"));
+    assert!(of_body("nop end nop").contains("the body has ended before this"));
+    assert!(of_body("br $x").contains("line 1, column 4"));
+    assert!(of_body("i32.const 4294967296").contains("a number of 32 bits"));
+    assert!(of_body(&"(drop ".repeat(10_000)).contains("too many folded"));
+}
+
+/// A body of 32 KB never gives more than some 2 MB, however deep, and each byte is in the listing.
+#[test]
+fn hostile_bodies_stay_small() {
+    let size = 32_768;
+    let deep = |inside: &[u8]| {
+        let mut body = vec![0x00];
+        body.extend([0x02, 0x40].repeat(40));
+        body.extend(inside.iter().cycle().take(size - body.len() - 41).copied());
+        body.extend([0x0B; 41]);
+        body
+    };
+    let nested = [vec![0x00], [0x02, 0x40].repeat(10_922), vec![0x0B; 10_923]].concat();
+    let bodies = [
+        nested,
+        deep(&[0xD4]),
+        deep(&[0x00]),
+        deep(&[0x01]),
+        [vec![0x00], [0x02, 0x40].repeat(16_383), vec![0xFF]].concat(),
+        vec![0xFF; size],
+        [vec![0xFF, 0x7F], [0x01, 0x6E].repeat(16_383)].concat(),
+    ];
+    for body in bodies {
+        assert!(body.len() <= size, "{}", body.len());
+        let listing = dump::text(&body, &dump::body(&body));
+        assert!(listing.len() < 2_200_000, "{}", listing.len());
+        assert_eq!(listed(&listing), body);
+        if let Ok(text) = print_body(&body) {
+            assert!(text.len() < 2_200_000, "{}", text.len());
+        }
+    }
+    let supertypes = [vec![0x01, 0x50, 0xF0, 0xFF, 0x01], vec![0x00; 32_752], vec![0x5F, 0x00]];
+    let supertypes = supertypes.concat();
+    for section in [supertypes, vec![0x4E; size], [0x7F, 0x4E, 0x00].repeat(10_000)] {
+        let listing = dump::text(&section, &dump::section(&section));
+        assert!(listing.len() < 2_200_000, "{}", listing.len());
+        assert_eq!(listed(&listing), section);
+    }
+}
+
+/// The bytes of a listing: behind each line's place, pairs of digits.
+pub fn listed(listing: &str) -> Vec<u8> {
+    let lines = listing.lines().filter(|line| !line.contains("the listing breaks off"));
+    let pairs = lines.flat_map(|line| {
+        let digits = line[8..].split(' ').take_while(|word| {
+            word.len() == 2 && word.chars().all(|digit| digit.is_ascii_hexdigit())
+        });
+        digits.map(|pair| u8::from_str_radix(pair, 16).expect("a byte")).collect::<Vec<u8>>()
+    });
+    pairs.collect()
+}

@@ -1,0 +1,211 @@
+//! Text as parentheses and words, with where each stands.
+
+use std::fmt;
+
+#[derive(Debug)]
+pub struct Fault {
+    pub line: usize,
+    pub column: usize,
+    pub why: String,
+}
+
+impl fmt::Display for Fault {
+    fn fmt(&self, to: &mut fmt::Formatter) -> fmt::Result {
+        write!(to, "line {}, column {}: {}", self.line, self.column, self.why)
+    }
+}
+
+#[derive(Clone, Copy, Debug)]
+pub struct Token<'a> {
+    pub text: &'a str,
+    pub line: usize,
+    pub column: usize,
+}
+
+/// Comments are left out: from ;; to the end of a line, and (; .. ;), one in another too.
+pub fn tokens(text: &str) -> Result<Vec<Token<'_>>, Fault> {
+    let text = text.strip_prefix('\u{FEFF}').unwrap_or(text);
+    let mut cut = Cut { text, at: 0, line: 1, column: 1 };
+    let mut found = Vec::new();
+    while let Some(token) = cut.next()? {
+        found.push(token);
+    }
+    Ok(found)
+}
+
+struct Cut<'a> {
+    text: &'a str,
+    at: usize,
+    line: usize,
+    column: usize,
+}
+
+impl<'a> Cut<'a> {
+    fn rest(&self) -> &'a str {
+        &self.text[self.at..]
+    }
+
+    fn pass(&mut self, character: char) {
+        self.at += character.len_utf8();
+        self.column += 1;
+        if character == '\n' {
+            self.line += 1;
+            self.column = 1;
+        }
+    }
+
+    fn pass_while(&mut self, wanted: fn(char) -> bool) {
+        while let Some(character) = self.rest().chars().next().filter(|&it| wanted(it)) {
+            self.pass(character);
+        }
+    }
+
+    fn next(&mut self) -> Result<Option<Token<'a>>, Fault> {
+        loop {
+            self.pass_while(char::is_whitespace);
+            if self.rest().starts_with(";;") {
+                self.pass_while(|character| character != '\n');
+            } else if self.rest().starts_with("(;") {
+                self.comment()?;
+            } else {
+                break;
+            }
+        }
+        let Some(first) = self.rest().chars().next() else { return Ok(None) };
+        let (from, line, column) = (self.at, self.line, self.column);
+        self.pass(first);
+        if !matches!(first, '(' | ')') {
+            self.pass_while(|it| !it.is_whitespace() && !matches!(it, '(' | ')' | ';'));
+        }
+        Ok(Some(Token { text: &self.text[from..self.at], line, column }))
+    }
+
+    fn comment(&mut self) -> Result<(), Fault> {
+        let (line, column) = (self.line, self.column);
+        let mut depth = 0;
+        loop {
+            let rest = self.rest();
+            let Some(first) = rest.chars().next() else {
+                return Err(Fault { line, column, why: "this comment is not closed".to_string() });
+            };
+            let (opens, closes) = (rest.starts_with("(;"), rest.starts_with(";)"));
+            self.pass(first);
+            if opens || closes {
+                self.pass(';');
+                depth += opens as usize;
+                depth -= closes as usize;
+            }
+            if depth == 0 {
+                return Ok(());
+            }
+        }
+    }
+}
+
+/// Tokens taken one after the other.
+pub struct Words<'a> {
+    tokens: Vec<Token<'a>>,
+    at: usize,
+}
+
+impl<'a> Words<'a> {
+    pub fn new(text: &'a str) -> Result<Words<'a>, Fault> {
+        Ok(Words { tokens: tokens(text)?, at: 0 })
+    }
+
+    pub fn all(&self) -> &[Token<'a>] {
+        &self.tokens
+    }
+
+    pub fn peek(&self) -> Option<&'a str> {
+        self.tokens.get(self.at).map(|token| token.text)
+    }
+
+    /// The word behind a parenthesis that opens here.
+    pub fn opens(&self) -> Option<&'a str> {
+        match self.peek() {
+            Some("(") => self.tokens.get(self.at + 1).map(|token| token.text),
+            _ => None,
+        }
+    }
+
+    pub fn fault(&self, why: impl Into<String>) -> Fault {
+        let token = self.tokens.get(self.at).or(self.tokens.last());
+        let (line, column) = token.map_or((1, 1), |token| (token.line, token.column));
+        Fault { line, column, why: why.into() }
+    }
+
+    /// What stands here instead of what is wanted.
+    pub fn unexpected(&self, wanted: &str) -> Fault {
+        match self.peek() {
+            Some(text) => self.fault(format!("{wanted} is wanted here, and not `{text}`")),
+            None => self.fault(format!("{wanted} is wanted behind this, and the text ends")),
+        }
+    }
+
+    pub fn take(&mut self) -> Option<&'a str> {
+        let text = self.peek()?;
+        self.at += 1;
+        Some(text)
+    }
+
+    pub fn takes(&mut self, text: &str) -> bool {
+        let there = self.peek() == Some(text);
+        self.at += there as usize;
+        there
+    }
+
+    /// A parenthesis and the word behind it.
+    pub fn takes_open(&mut self, word: &str) -> bool {
+        let there = self.opens() == Some(word);
+        self.at += 2 * there as usize;
+        there
+    }
+
+    pub fn wants(&mut self, text: &str) -> Result<(), Fault> {
+        match self.takes(text) {
+            true => Ok(()),
+            false => Err(self.unexpected(&format!("`{text}`"))),
+        }
+    }
+
+    /// A name, as `$0`.
+    pub fn name(&mut self) -> Option<&'a str> {
+        let name = self.peek().filter(|text| text.starts_with('$'))?;
+        self.at += 1;
+        Some(name)
+    }
+
+    pub fn number(&mut self, what: &str) -> Result<u32, Fault> {
+        let number = self.peek().and_then(read_unsigned).ok_or_else(|| self.unexpected(what))?;
+        self.at += 1;
+        Ok(number)
+    }
+
+    pub fn constant(&mut self) -> Result<i32, Fault> {
+        let number = self.peek().and_then(read_constant);
+        let number = number.ok_or_else(|| self.unexpected("a number of 32 bits"))?;
+        self.at += 1;
+        Ok(number)
+    }
+}
+
+/// Decimal, or hex digits behind 0x; an underscore may stand between digits.
+fn read_unsigned(text: &str) -> Option<u32> {
+    if !text.starts_with(|first: char| first.is_ascii_digit()) {
+        return None;
+    }
+    let digits = text.replace('_', "");
+    match digits.strip_prefix("0x") {
+        Some(hex) => u32::from_str_radix(hex, 16).ok(),
+        None => digits.parse().ok(),
+    }
+}
+
+/// From -2^31 to 2^32 - 1; what is above 2^31 - 1 has the same bits as a negative number.
+fn read_constant(text: &str) -> Option<i32> {
+    match text.strip_prefix('-') {
+        Some(digits) => i32::try_from(-i64::from(read_unsigned(digits)?)).ok(),
+        None => read_unsigned(text.strip_prefix('+').unwrap_or(text)).map(|it| it as i32),
+    }
+}
