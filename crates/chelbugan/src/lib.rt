@@ -2,8 +2,7 @@
 // words. include/chelbugan.h documents them. A host is trusted with no more than pointers and lengths: any bytes, numbers
 // and buffers may be handed in.
 ghost use mathlib.Core.Path.{_≡_};
-ghost use Rattle.run_buffers.specs.States.{stateOf};
-ghost use Rattle.run_call.specs.Trial.{memory};
+ghost use Rattle.run_buffers.specs.States.{stateOf, memory};
 ghost use Rattle.chelbugan.specs.Told.{SectionTold, TypeTold, BodyTold, RunTold};
 ghost use Rattle.chelbugan.specs.Version.{version};
 

@@ -4,12 +4,19 @@ use Prim.Native.Nat.{ℕ, _+_, _*_, _≤_}
 use mathlib.Core.Path.{_≡_}
 use mathlib.Core.List.{List, [], _∷_}
 use lib.ListN.{length, take}
+use Rattle.scope.specs.Sizes.{mostOperands}
+use Rattle.scope.specs.Layout.{valueSpan, objectSpan, blockSpan, countsSize}
 use Rattle.scope.specs.Memory.{StateWords, filled, wiped}
+use Rattle.scope.specs.Answers.{RunMemory}
 use Rattle.run_state.specs.declared.Stage.{Stage}
 
 abbrev pub stateOf : List ℕ → List ℕ → List ℕ → List ℕ → List ℕ → List ℕ → StateWords
 stateOf counts objects cells locals operands blocks =
     record { counts = counts; objects = objects; cells = cells; locals = locals; operands = operands; blocks = blocks }
+
+-- with the scratch, all that is lent to a run
+abbrev pub memory : List ℕ → List ℕ → List ℕ → List ℕ → StateWords → RunMemory
+memory rows codes work ends state = record { rows = rows; codes = codes; work = work; ends = ends; state = state }
 
 pub record Cleared (state state′ : StateWords) : Type 0 where
   pub counts : state′ .counts ≡ wiped (state .counts)
@@ -24,27 +31,27 @@ abbrev pub countsOf : ℕ → Stage → List ℕ
 countsOf count st = st .place ∷ st .objects ∷ st .cells ∷ count ∷ (st .base + st .height) ∷ st .depth ∷ []
 
 pub record CountRoom (st : Stage) (counts : List ℕ) : Type 0 where
-  pub room : 6 ≤ length counts
-  pub high : st .base + st .height ≤ 512
+  pub room : countsSize ≤ length counts
+  pub high : st .base + st .height ≤ mostOperands
 
 -- what is counted lies within the buffers
 pub record Settling (count : ℕ) (st : Stage) (state : StateWords) : Type 0 where
-  pub counts : 6 ≤ length (state .counts)
-  pub objects : 4 * st .objects ≤ length (state .objects)
-  pub cells : 2 * st .cells ≤ length (state .cells)
-  pub locals : 2 * count ≤ length (state .locals)
-  pub operands : 2 * (st .base + st .height) ≤ length (state .operands)
-  pub blocks : 3 * st .depth ≤ length (state .blocks)
-  pub high : st .base + st .height ≤ 512
+  pub counts : countsSize ≤ length (state .counts)
+  pub objects : objectSpan * st .objects ≤ length (state .objects)
+  pub cells : valueSpan * st .cells ≤ length (state .cells)
+  pub locals : valueSpan * count ≤ length (state .locals)
+  pub operands : valueSpan * (st .base + st .height) ≤ length (state .operands)
+  pub blocks : blockSpan * st .depth ≤ length (state .blocks)
+  pub high : st .base + st .height ≤ mostOperands
 
 -- zero beyond what is counted
 pub record Settled (count : ℕ) (st : Stage) (state state′ : StateWords) : Type 0 where
   pub counts : state′ .counts ≡ filled (state .counts) (countsOf count st)
-  pub objects : state′ .objects ≡ filled (state .objects) (take (4 * st .objects) (state .objects))
-  pub cells : state′ .cells ≡ filled (state .cells) (take (2 * st .cells) (state .cells))
-  pub locals : state′ .locals ≡ filled (state .locals) (take (2 * count) (state .locals))
-  pub operands : state′ .operands ≡ filled (state .operands) (take (2 * (st .base + st .height)) (state .operands))
-  pub blocks : state′ .blocks ≡ filled (state .blocks) (take (3 * st .depth) (state .blocks))
+  pub objects : state′ .objects ≡ filled (state .objects) (take (objectSpan * st .objects) (state .objects))
+  pub cells : state′ .cells ≡ filled (state .cells) (take (valueSpan * st .cells) (state .cells))
+  pub locals : state′ .locals ≡ filled (state .locals) (take (valueSpan * count) (state .locals))
+  pub operands : state′ .operands ≡ filled (state .operands) (take (valueSpan * (st .base + st .height)) (state .operands))
+  pub blocks : state′ .blocks ≡ filled (state .blocks) (take (blockSpan * st .depth) (state .blocks))
 
 -- a state, written into the buffers
 pub record Written (told state state′ : StateWords) : Type 0 where

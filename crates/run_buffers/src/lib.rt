@@ -1,31 +1,13 @@
 // The state of a run in lent memory, as docs/LAYOUT.md has it: zero before the run, and after it the counts, and zero beyond
 // what they count.
 use run_state::Stage;
-use scope::sizes::BLOCK;
+use scope::sizes;
 ghost use mathlib.Core.Path.{_≡_};
 ghost use Prim.Native.Nat.{_+_};
 ghost use lib.ListN.{set};
 ghost use Rattle.scope.specs.Memory.{filled};
 ghost use Rattle.scope.specs.Answers.{stateLent};
 ghost use Rattle.run_buffers.specs.States.{stateOf, Cleared, countsOf, CountRoom, Settling, Settled};
-
-// The elements that each buffer has at least: document 01's one size of each, fixed in docs/LAYOUT.md.
-pub const COUNTS: usize = 6;
-
-pub const OBJECTS: usize = 4096;
-
-pub const CELLS: usize = 8192;
-
-pub const LOCALS: usize = 512;
-
-pub const OPERANDS: usize = 1024;
-
-pub const BLOCKS: usize = 189;
-
-// The words of an object, and of a value.
-const OBJECT: u64 = 4;
-
-const VALUE: u64 = 2;
 
 // Whether each buffer of the state has its one size.
 pub fn is_enough(
@@ -36,24 +18,25 @@ pub fn is_enough(
     operands: &[u64],
     blocks: &[u16],
 ) -> bool
-    ensures { λ r. ⌜ r ≡ stateLent (stateOf (now (counts .entry)) (now (objects .entry)) (now (cells .entry)) (now (locals .entry)) (now (operands .entry)) (now (blocks .entry))) ⌝ }
+    ensures { λ r. let state = stateOf (now (counts .entry)) (now (objects .entry)) (now (cells .entry)) (now (locals .entry)) (now (operands .entry)) (now (blocks .entry)) in
+        ⌜ r ≡ stateLent state ⌝ }
 {
-    if counts.len() < COUNTS {
+    if counts.len() < sizes::COUNTS {
         return false;
     }
-    if objects.len() < OBJECTS {
+    if objects.len() < sizes::OBJECTS {
         return false;
     }
-    if cells.len() < CELLS {
+    if cells.len() < sizes::CELLS {
         return false;
     }
-    if locals.len() < LOCALS {
+    if locals.len() < sizes::LOCALS {
         return false;
     }
-    if operands.len() < OPERANDS {
+    if operands.len() < sizes::OPERANDS {
         return false;
     }
-    BLOCKS <= blocks.len()
+    sizes::BLOCKS <= blocks.len()
 }
 
 // Zero in every word.
@@ -65,7 +48,9 @@ pub fn clear(
     operands: &mut [u64],
     blocks: &mut [u16],
 )
-    ensures { λ r. ⌜ Cleared (stateOf (now (counts .entry)) (now (objects .entry)) (now (cells .entry)) (now (locals .entry)) (now (operands .entry)) (now (blocks .entry))) (stateOf (now (counts .exit)) (now (objects .exit)) (now (cells .exit)) (now (locals .exit)) (now (operands .exit)) (now (blocks .exit))) ⌝ }
+    ensures { λ r. let before = stateOf (now (counts .entry)) (now (objects .entry)) (now (cells .entry)) (now (locals .entry)) (now (operands .entry)) (now (blocks .entry)) in
+        let after = stateOf (now (counts .exit)) (now (objects .exit)) (now (cells .exit)) (now (locals .exit)) (now (operands .exit)) (now (blocks .exit)) in
+        ⌜ Cleared before after ⌝ }
 {
     run_values::wipe64(counts);
     lent_u16::wipe(objects);
@@ -96,7 +81,7 @@ fn put_counts(counts: &mut [u64], stage: Stage, count: u16)
     let depth = stage.depth;
     put_three(counts, 0, place as u64, objects as u64, cells as u64);
     put_three(counts, 3, count as u64, operands as u64, depth as u64);
-    run_values::wipe_from64(counts, COUNTS as u64);
+    run_values::wipe_from64(counts, sizes::COUNTS as u64);
 }
 
 // The state as it is told: the counts, and zero beyond what they count.
@@ -110,17 +95,20 @@ pub fn settle(
     stage: Stage,
     count: u16,
 )
-    requires { ⌜ Settling count stage (stateOf (now counts) (now objects) (now cells) (now locals) (now operands) (now blocks)) ⌝ }
-    ensures { λ r. ⌜ Settled count stage (stateOf (now (counts .entry)) (now (objects .entry)) (now (cells .entry)) (now (locals .entry)) (now (operands .entry)) (now (blocks .entry))) (stateOf (now (counts .exit)) (now (objects .exit)) (now (cells .exit)) (now (locals .exit)) (now (operands .exit)) (now (blocks .exit))) ⌝ }
+    requires { let state = stateOf (now counts) (now objects) (now cells) (now locals) (now operands) (now blocks) in
+        ⌜ Settling count stage state ⌝ }
+    ensures { λ r. let before = stateOf (now (counts .entry)) (now (objects .entry)) (now (cells .entry)) (now (locals .entry)) (now (operands .entry)) (now (blocks .entry)) in
+        let after = stateOf (now (counts .exit)) (now (objects .exit)) (now (cells .exit)) (now (locals .exit)) (now (operands .exit)) (now (blocks .exit)) in
+        ⌜ Settled count stage before after ⌝ }
 {
     let many = stage.objects;
     let total = stage.cells;
     let high = stage.base + stage.height;
     let depth = stage.depth;
     put_counts(counts, stage, count);
-    run_values::wipe_from16(objects, OBJECT * many as u64);
-    run_values::wipe_from64(cells, VALUE * total as u64);
-    run_values::wipe_from64(locals, VALUE * count as u64);
-    run_values::wipe_from64(operands, VALUE * high as u64);
-    run_values::wipe_from16(blocks, BLOCK * depth as u64);
+    run_values::wipe_from16(objects, sizes::OBJECT * many as u64);
+    run_values::wipe_from64(cells, sizes::VALUE * total as u64);
+    run_values::wipe_from64(locals, sizes::VALUE * count as u64);
+    run_values::wipe_from64(operands, sizes::VALUE * high as u64);
+    run_values::wipe_from16(blocks, sizes::BLOCK * depth as u64);
 }

@@ -1,5 +1,3 @@
-pub mod Bodily
-pub mod Again
 pub mod Startable
-pub mod Outer
 pub mod Inner
+pub mod Outer

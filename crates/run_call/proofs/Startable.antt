@@ -5,6 +5,7 @@ use mathlib.Core.Path.{_≡_, refl, sym, ap, ap₂, _∙_}
 use mathlib.Core.List.{List, [], map}
 use native.Mathlib.Omega.{arith}
 use lib.ListN.{length}
+use Rattle.scope.specs.Layout.{objectsSize, cellsSize, localsSize, operandsSize, blocksSize}
 use Rattle.scope.specs.Bodies.{Body}
 use Rattle.scope.specs.Machine.{Machine, Program, defaultOf}
 use Rattle.scope.specs.Running.{run, startOf, programOf, trialOf}
@@ -16,8 +17,8 @@ use Rattle.run_ends.specs.Matching.{EndsOf, here}
 use Rattle.run_state.specs.Machines.{words, lower, blocksAt, machineAt, programAt, outermost, Orderly, startStage}
 use Rattle.run_sound.proofs.Along.{sound-run}
 use Rattle.run_loop.specs.Runs.{Runnable}
-use Rattle.run_call.specs.Parts.{Parts, TypesAgain, FunctionAgain, LocalsAgain}
-use Rattle.run_call.proofs.Bodily.{parts, few-types}
+use Rattle.run_prepare.specs.Parts.{Parts, TypesAgain, FunctionAgain, LocalsAgain}
+use Rattle.run_prepare.proofs.Bodily.{parts, few-types}
 
 program-is :
     {b : Body} {rows codes : List ℕ} {types first n second results : ℕ} → TypesAgain b rows codes types → FunctionAgain b codes first n second results
@@ -48,7 +49,7 @@ module _ {section s : List ℕ} {x : ℕ} {b : Body} (runs : Runs section s x b)
     (l : LocalsAgain b s work count next) {locals locals₁ : List ℕ} (a : Started work locals locals₁ count) {ends : List ℕ} (e : EndsOf s ends next)
     {objects cells operands blocks : List ℕ} where
   start-orderly :
-      Parts section s x b → 4_096 ≤ length objects → 8_192 ≤ length cells → 512 ≤ length locals₁ → 1_024 ≤ length operands → 189 ≤ length blocks
+      Parts section s x b → objectsSize ≤ length objects → cellsSize ≤ length cells → localsSize ≤ length locals₁ → operandsSize ≤ length operands → blocksSize ≤ length blocks
       → Orderly s ends count (words objects cells locals₁ operands blocks) (startStage next)
   unfolding lower
   start-orderly p o c h v k =
@@ -74,7 +75,7 @@ module _ {section s : List ℕ} {x : ℕ} {b : Body} (runs : Runs section s x b)
       }
 
   pub runnable :
-      4_096 ≤ length objects → 8_192 ≤ length cells → 512 ≤ length locals₁ → 1_024 ≤ length operands → 189 ≤ length blocks
+      objectsSize ≤ length objects → cellsSize ≤ length cells → localsSize ≤ length locals₁ → operandsSize ≤ length operands → blocksSize ≤ length blocks
       → Runnable s rows codes ends count (words objects cells locals₁ operands blocks) results next
   runnable o c h v k =
       let p = parts (runs .isAccepted) in

@@ -1,4 +1,4 @@
--- `states::put_counts` meets its contract.
+-- `run_buffers::put_counts` meets its contract.
 use borrow.Author.Needs.{needs}
 use Rattle.run_buffers.proofs.Settles.{count-exits}
 use Rattle.run_buffers.proofs.put_counts.Statement.{statement}

@@ -1,4 +1,4 @@
--- `states::settle` meets its contract.
+-- `run_buffers::settle` meets its contract.
 use borrow.Author.Needs.{needs}
 use Rattle.run_buffers.proofs.Settles.{settle-exits}
 use Rattle.run_buffers.proofs.settle.Statement.{statement}

@@ -1,4 +1,4 @@
--- `trial::run_started` meets its contract.
+-- `run_call::run_started` meets its contract.
 use borrow.Author.Needs.{needs}
 use Rattle.run_call.proofs.Inner.{run-settled, may-settle, settle-exits}
 use Rattle.run_call.proofs.run_started.Statement.{statement}

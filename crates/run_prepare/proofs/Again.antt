@@ -1,0 +1,120 @@
+-- The parts of an accepted body, read a second time: no reading refuses now, and each gives what the first one gave.
+use Prim.Native.Nat.{ℕ, _+_, _^_, _≤_, _<_}
+use mathlib.Core.Path.{_≡_, refl, sym, ap, _∙_}
+use mathlib.Core.Bool.{Bool, true}
+use mathlib.Core.List.{List}
+use native.Mathlib.Omega.{arith}
+use lib.ListN.{length, replicate}
+use Rattle.scope.specs.Reading.{got}
+use Rattle.scope.specs.Syntax.{Val, func}
+use Rattle.scope.specs.Layout.{workSize, endsSize}
+use Rattle.scope.specs.Judging.{accepted}
+use Rattle.scope.specs.Bodies.{Body}
+use Rattle.scope.specs.Answers.{tableLent, verdictOf, sectionCall, SectionJudged}
+use Rattle.scope.specs.declared.Verdict.{Verdict}
+use Rattle.scope.specs.declared.Verdict
+use Rattle.scope.proofs.Impossible.{contradiction}
+use Rattle.type_table.specs.declared.Shape.{Shape}
+use Rattle.type_table.specs.declared.Shape
+use Rattle.type_table.specs.Answers.{shapeForm}
+use Rattle.type_table.specs.View.{valAtCode, codesAt, view}
+use Rattle.body_state.specs.State.{valAtWord}
+use Rattle.body_state.proofs.Answers.{codes-length}
+use Rattle.body_start.specs.declared.Started.{Started}
+use Rattle.body_start.specs.declared.Started
+use Rattle.body_start.specs.Beginning.{localsFirst, Starting, StartedAs}
+use Rattle.run_ends.specs.Matching.{Fillable, Filled, EndsOf}
+use Rattle.section_call.proofs.Asking.{viewed}
+use Rattle.body_call.proofs.Typing.{started-got, started-refused, form-is}
+use Rattle.run_prepare.specs.Parts.{Parts, TypesAgain, FunctionAgain, LocalsAgain}
+use Rattle.run_prepare.proofs.Bodily.{few-types, few-parameters}
+
+-- what the sizes of its parts allow
+
+pub may-start-again :
+    {b : Body} {rows codes : List ℕ} {types first n second m : ℕ} → TypesAgain b rows codes types → FunctionAgain b codes first n second m → {work : List ℕ}
+    → work ≡ replicate (length work) 0 → workSize ≤ length work → Starting work types n
+may-start-again t f zero room = record { zero = zero; room = omega arith; few = f .few; known = t .few }
+
+module _ {section s : List ℕ} {x : ℕ} {b : Body} (p : Parts section s x b) where
+  -- the section
+
+  module _ {rows codes rows₁ codes₁ : List ℕ} {v : Verdict} (a : SectionJudged section rows codes rows₁ codes₁ v) (lent : tableLent rows codes ≡ true) where
+    call-again : sectionCall section rows codes ≡ accepted (b .types)
+    call-again = rw lent (p .judged)
+
+    verdict-again : v ≡ Verdict.the-variants.Accepted (length (b .types))
+    verdict-again = a .answer ∙ ap (verdictOf length) call-again
+
+    pub section-unrefused : {n place : ℕ} → v ≡ Verdict.the-variants.Refused n place → ⊥
+    section-unrefused e = let f = verdict-again in contradiction cc
+
+    pub section-again : {count : ℕ} → v ≡ Verdict.the-variants.Accepted count → TypesAgain b rows₁ codes₁ count
+    section-again {count} e =
+        let f = verdict-again in
+        let many : count ≡ length (b .types) = cc in
+        record { types = viewed a (b .types) call-again; many = many; few = omega (arith, few-types p) }
+
+    pub count-fits : {count : ℕ} → v ≡ Verdict.the-variants.Accepted count → count < 2 ^ 16
+    count-fits e = let few = section-again e .few in omega arith
+
+  -- the function's type
+
+  module _ {rows codes : List ℕ} {types : ℕ} (t : TypesAgain b rows codes types) where
+    form-again : (shape : Shape) → view rows codes x .form ≡ shapeForm codes shape → shapeForm codes shape ≡ func (b .function .parameters) (b .function .results)
+    form-again shape a = sym (form-is rows codes x shape a (b .types) (t .types)) ∙ p .form
+
+    pub shape-not-struct : {shape : Shape} {first n : ℕ} → shape ≡ Shape.the-variants.Struct first n → view rows codes x .form ≡ shapeForm codes shape → ⊥
+    shape-not-struct {shape} e a = let f = ap (shapeForm codes) (sym e) ∙ form-again shape a in contradiction cc
+
+    pub shape-again :
+        {shape : Shape} {first n second m : ℕ} → shape ≡ Shape.the-variants.Func first n second m → view rows codes x .form ≡ shapeForm codes shape
+        → FunctionAgain b codes first n second m
+    shape-again {shape} {first} {n} {second} {m} e a =
+        let f : func (codesAt valAtCode codes first n) (codesAt valAtCode codes second m) ≡ func (b .function .parameters) (b .function .results) = ap (shapeForm codes) (sym e) ∙ form-again shape a in
+        let ps : codesAt valAtCode codes first n ≡ b .function .parameters = cc in
+        let rs : codesAt valAtCode codes second m ≡ b .function .results = cc in
+        let many : n ≡ length (b .function .parameters) = sym (codes-length valAtCode codes first n) ∙ ap length ps in
+        record { parameters = ps; results = rs; manyParameters = many; manyResults = sym (codes-length valAtCode codes second m) ∙ ap length rs; few = omega (arith, few-parameters p) }
+
+  -- the locals
+
+  module _ {rows codes : List ℕ} {types first n second m : ℕ} (t : TypesAgain b rows codes types) (f : FunctionAgain b codes first n second m) where
+    read-again : localsFirst types n s ≡ got (b .locals) (p .first)
+    read-again = rw (t .many, f .manyParameters) (p .read)
+
+    module _ {work work₁ : List ℕ} {r : Started} (a : StartedAs (localsFirst types n s) s codes work work₁ first n r) where
+      pub start-unrefused : {k place : ℕ} → r ≡ Started.the-variants.Refused k place → ⊥
+      start-unrefused e = let g = started-refused n (localsFirst types n s) (a .answer) e in let h = read-again in contradiction cc
+
+      pub start-again : {count next : ℕ} → r ≡ Started.the-variants.Is count next → LocalsAgain b s work₁ count next
+      start-again {count} {next} e =
+          let (vs, got-them, many) = started-got n (localsFirst types n s) (a .answer) e in
+          with-locals vs got-them many
+        where
+          with-locals : (vs : List Val) → localsFirst types n s ≡ got vs next → count ≡ n + length vs → LocalsAgain b s work₁ count next
+          with-locals vs got-them many =
+              let h = read-again in
+              let begun = a .begun vs next got-them in
+              let same : vs ≡ b .locals = cc in
+              let place : p .first ≡ next = cc in
+              record {
+                types = ap (codesAt valAtWord work₁ 0) many ∙ begun .types ∙ rw (f .parameters, same) refl;
+                few = omega (arith, begun .few);
+                inside = begun .inside;
+                code = rw place at (p .code);
+                balanced = rw place at (p .balanced);
+              }
+
+  -- the matching ends
+
+  module _ {work : List ℕ} {count next : ℕ} (l : LocalsAgain b s work count next) where
+    pub may-fill-again : {ends : List ℕ} → endsSize ≤ length ends → Fillable s ends next
+    may-fill-again room = record { short = p .short; room = omega (arith, p .short); inside = l .inside }
+
+    module _ {ends ends₁ : List ℕ} {r : Bool} (a : Filled s ends ends₁ next r) where
+      pub ends-told : r ≡ true
+      ends-told = a .told (l .balanced)
+
+      pub ends-again : EndsOf s ends₁ next
+      ends-again = a .matching ends-told

@@ -1,0 +1,3 @@
+pub mod Bodily
+pub mod Again
+pub mod Ways
