@@ -1,4 +1,4 @@
--- Each way out of the public call: the sizes of what is lent, the section, the body's size, the body; and zero afterwards.
+-- Each way out of the public call: the sizes of what is lent, the section, the body; and zero afterwards.
 use Prim.Native.Nat.{ℕ, zero, suc, _^_, _≤_, _<_}
 use mathlib.Core.Path.{_≡_, refl, sym, ap, _∙_}
 use mathlib.Core.Bool.{Bool, true, false, and-true}
@@ -6,10 +6,10 @@ use mathlib.Core.List.{List}
 use native.Mathlib.Omega.{arith}
 use lib.ListN.{length, replicate, length-replicate}
 use lib.Dec.{leb}
-use borrow.Author.Tests.{lt-ltb, le-ltb, lt-leb, le-leb}
-use Rattle.scope.specs.Sizes.{mostBytes, mostTypes, mostEach}
+use borrow.Author.Tests.{lt-leb, le-leb}
+use Rattle.scope.specs.Sizes.{mostTypes, mostEach}
 use Rattle.scope.specs.Layout.{workSize}
-use Rattle.scope.specs.Refusals.{oversize, bufferTooSmall}
+use Rattle.scope.specs.Refusals.{bufferTooSmall}
 use Rattle.scope.specs.Reading.{Read, got, refused}
 use Rattle.scope.specs.Lists.{joined}
 use Rattle.scope.specs.Syntax.{Val, Form, func, Definition, Group, typesOf}
@@ -23,21 +23,8 @@ use Rattle.scope.proofs.Impossible.{impossible}
 use Rattle.section_reader.proofs.Modest.{Each, no-more, one-more, Few, few-fields, few-values, Modest, read-fits}
 use Rattle.body_state.proofs.Alike.{both-false}
 use Rattle.section_call.proofs.Asking.{verdict-refused, verdict-accepted, call-accepted, viewed}
-use Rattle.body_call.specs.Typed.{Fresh, Sized, Typing, typedOn, sizedOn, TypedJudged, SizedJudged, LentJudged, EnoughJudged, Cleared}
-
--- the body's size
-
-module _ {rows codes work : List ℕ} {types x : ℕ} (z : Sized rows codes work types x) (s : List ℕ) where
-  pub sized-over : mostBytes < length s → {work′ : List ℕ} → work′ ≡ work → SizedJudged rows codes work work′ s types x (Verdict.the-variants.Refused oversize 0)
-  unfolding sizedOn
-  sized-over h e = record { answer = λ ds v l. rw (lt-ltb mostBytes (length s) h); size = rw e }
-
-  pub may-type : length s ≤ mostBytes → Typing rows codes work s types x
-  may-type h = record { sized = z; short = h }
-
-  pub sized-typed : length s ≤ mostBytes → {work′ : List ℕ} {r : Verdict} → TypedJudged rows codes work work′ s types x r → SizedJudged rows codes work work′ s types x r
-  unfolding sizedOn
-  sized-typed h t = record { answer = λ ds v l. rw (le-ltb mostBytes (length s) h) (t .answer ds v l); size = t .size }
+use Rattle.body_judge.specs.Typed.{Fresh, Sized, typedOn, sizedOn, SizedJudged}
+use Rattle.body_call.specs.Calling.{LentJudged, EnoughJudged, Cleared}
 
 -- the sizes of an accepted section
 
@@ -135,4 +122,4 @@ module _ {section s : List ℕ} {x : ℕ} {rows codes work : List ℕ} {v : Verd
         workAfter = z .workZero ∙ ap (λ (n : ℕ). replicate n 0) w;
       }
 
-pub ruleset lent-exits = (sized-over, may-type, sized-typed, lent-refused, count-fits, may-size, lent-judged, all-clear, fresh-lent, work-small, enough-judged, body-judged)
+pub ruleset lent-exits = (lent-refused, count-fits, may-size, lent-judged, all-clear, fresh-lent, work-small, enough-judged, body-judged)

@@ -1,2 +1,1 @@
-pub mod Typing
 pub mod Lending

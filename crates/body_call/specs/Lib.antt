@@ -1,1 +1,1 @@
-pub mod Typed
+pub mod Calling

@@ -1,4 +1,3 @@
 pub mod Counting
 pub mod Typing
-pub mod Branching
 pub mod Laws

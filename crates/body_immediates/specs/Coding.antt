@@ -4,19 +4,17 @@ use Prim.Native.Nat.{ℕ, _+_}
 use mathlib.Core.Bool.{Bool, true, false, cond}
 use mathlib.Core.List.{List, [], _∷_}
 use lib.Dec.{eqb}
-use Rattle.scope.specs.Reading.{Read, got, refused, Reader, then}
+use Rattle.scope.specs.Reading.{Read, got, refused, Reader}
 use Rattle.scope.specs.Numbers.{bits32, u32, s32}
 use Rattle.scope.specs.Syntax.{Heap, Val}
 use Rattle.scope.specs.Sections.{heapAt}
-use Rattle.scope.specs.Instructions.{Cast, Op, unreachable, nop, return, drop-value, br, br-if, local-get, local-set, local-tee, i32-const, ref-null, ref-is-null, ref-eq, ref-as-non-null, struct-new, struct-new-default, struct-get, struct-set, ref-test, ref-cast, br-on-cast, br-on-cast-fail, struct-new-desc, struct-new-default-desc, ref-get-desc, ref-cast-desc-eq, br-on-cast-desc-eq, br-on-cast-desc-eq-fail, Instr, block, loop, end, op, having, havingTwo, castAt, opening}
+use Rattle.scope.specs.Instructions.{Cast, Op, unreachable, nop, return, drop-value, br, br-if, local-get, local-set, local-tee, i32-const, ref-null, ref-is-null, ref-eq, ref-as-non-null, struct-new, struct-new-default, struct-get, struct-set, ref-test, ref-cast, br-on-cast, br-on-cast-fail, struct-new-desc, struct-new-default-desc, ref-get-desc, ref-cast-desc-eq, br-on-cast-desc-eq, br-on-cast-desc-eq-fail, Instr, block, loop, end, op, having, havingTwo, opening}
 use Rattle.type_table.specs.Kept.{kept}
 use Rattle.type_read.specs.Codes.{heapCodeKept, valCodeKept}
 use Rattle.body_immediates.specs.declared.Instruction.{Instruction}
 use Rattle.body_immediates.specs.declared.Instruction
 use Rattle.body_immediates.specs.declared.InstructionRead.{InstructionRead}
 use Rattle.body_immediates.specs.declared.InstructionRead
-use Rattle.body_immediates.specs.declared.CastRead.{CastRead}
-use Rattle.body_immediates.specs.declared.CastRead
 
 -- a block's type: 0 for no result, else one more than its code
 abbrev pub resultCode : List Val → ℕ
@@ -68,10 +66,6 @@ abbrev pub instructionIs : Read Instr → InstructionRead
 instructionIs (got i next) = InstructionRead.the-variants.Is (instructionOf i) next
 instructionIs (refused n p) = InstructionRead.the-variants.Refused n p
 
-abbrev pub castIs : Read Cast → CastRead
-castIs (got k next) = castWith (λ l m h n t. CastRead.the-variants.Is l m h n t next) k
-castIs (refused n p) = CastRead.the-variants.Refused n p
-
 -- the instructions of each kind of immediates, by their code; the last of a kind stands for every other code
 
 abbrev pub opened : ℕ → List Val → Instr
@@ -117,19 +111,3 @@ tested b h =
 
 unfoldable pub testedAt : ℕ → Reader Instr
 testedAt b = having heapAt (tested b)
-
--- a branching cast after its flags
-unfoldable pub castTypesAt : Bool → Bool → Reader Cast
-castTypesAt m n s at =
-    then (u32 s at) (λ l next.
-    then (heapAt s next) (λ h target.
-    then (heapAt s target) (λ k stop.
-    got (record { label = l; sourceNull = m; source = h; targetNull = n; target = k }) stop)))
-
-abbrev pub casting : ℕ → Cast → Op
-casting b k =
-    cond (eqb b 0x18) (br-on-cast k)
-    (cond (eqb b 0x19) (br-on-cast-fail k) (cond (eqb b 0x25) (br-on-cast-desc-eq k) (br-on-cast-desc-eq-fail k)))
-
-unfoldable pub castingAt : ℕ → Reader Instr
-castingAt b = having castAt (casting b)

@@ -20,7 +20,8 @@ use Rattle.body_immediates.specs.declared.Instruction.{Instruction}
 use Rattle.body_immediates.specs.declared.Instruction
 use Rattle.body_immediates.specs.declared.InstructionRead.{InstructionRead}
 use Rattle.body_immediates.specs.declared.InstructionRead
-use Rattle.body_immediates.specs.Coding.{operationOf, instructionOf, instructionIs, openingAt, numberedAt, constantAt, nullAt, typedAt, fieldedAt, testedAt, castingAt}
+use Rattle.body_cast_immediates.specs.Casting.{castingAt}
+use Rattle.body_immediates.specs.Coding.{operationOf, instructionOf, instructionIs, openingAt, numberedAt, constantAt, nullAt, typedAt, fieldedAt, testedAt}
 use Rattle.body_instruction.specs.Dispatch.{singleAt, listedAt, prefixedAt}
 
 -- At a code that is written out, the list's row and the reader for it compute to the same: a need that says

@@ -1,2 +1,1 @@
-pub mod OneStep
 pub mod Looping

@@ -29,9 +29,10 @@ use Rattle.body_state.specs.declared.Step.{Step}
 use Rattle.body_state.specs.declared.Step
 use Rattle.body_state.specs.State.{valAtWord, contextAt, stateAt, Upright, Stamped, stepOf}
 use Rattle.body_frames.specs.Frames.{Opening}
+use Rattle.body_step.specs.Stepping.{SteppedAt}
 use Rattle.body_loop.specs.declared.Ended.{Ended}
 use Rattle.body_loop.specs.declared.Ended
-use Rattle.body_loop.specs.Loop.{SteppedAt, begin, Begun, endedIs, JudgedFrom}
+use Rattle.body_loop.specs.Loop.{begin, Begun, endedIs, JudgedFrom}
 
 -- the locals' types stand as they stood, and so does what a body is checked against
 

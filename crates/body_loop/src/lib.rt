@@ -1,42 +1,10 @@
 // The instructions of a body, one after the other up to the last `end`: the first faulty one is the answer.
-use body_immediates::Instruction;
 use body_immediates::InstructionRead;
-use body_plans::Act;
 use body_state::Check;
 use body_state::Scene;
 use body_state::Step;
 use scope::refusals;
-ghost use Rattle.scope.specs.Bodies.{judgeInstr};
-ghost use Rattle.body_decoded.specs.Decoded.{instrOf};
-ghost use Rattle.body_state.specs.State.{contextAt, stateAt};
-ghost use Rattle.body_frames.specs.Frames.{Opening};
-ghost use Rattle.body_loop.specs.Loop.{SteppedAt, Begun, JudgedFrom};
-
-// One instruction at the place `at`: its tests, its operands, 28 and 4.
-fn step(
-    rows: &[u16],
-    codes: &[u16],
-    work: &mut [u32],
-    scene: Scene,
-    check: Check,
-    at: u64,
-    i: Instruction,
-) -> Step
-    requires { ⌜ Opening (now work) (scene .locals) check at ⌝ }
-    ensures { λ r.
-        let before = now (work .entry) in
-        let after = now (work .exit) in
-        let context = contextAt (now (rows .entry)) (now (codes .entry)) before scene in
-        let want = judgeInstr context (stateAt before (scene .locals) check) (instrOf i) in
-        ⌜ SteppedAt before after (scene .locals) at want r ⌝ }
-{
-    let act = body_plans::act_of(rows, codes, work, scene, check, i);
-    match act {
-        Act::Opens(is_loop, w) => body_frames::open(work, scene, check, is_loop, w, at),
-        Act::Closes => body_end::close(rows, codes, work, scene, check),
-        Act::Does(planned) => body_effects::do_planned(rows, codes, work, scene, check, planned),
-    }
-}
+ghost use Rattle.body_loop.specs.Loop.{Begun, JudgedFrom};
 
 // How many instructions there are, and the place after the last `end`; or a refusal's number and place.
 pub enum Ended {
@@ -72,7 +40,7 @@ pub fn judge_from(
                 return Ended::Refused(number, place);
             }
             InstructionRead::Is(i, following) => {
-                let stepped = step(rows, codes, work, scene, check, next as u64, i);
+                let stepped = body_step::step(rows, codes, work, scene, check, next as u64, i);
                 match stepped {
                     Step::Fault(number) => {
                         return Ended::Refused(number, next);

@@ -13,19 +13,19 @@ ghost use Rattle.body_state.specs.State.{operandAtCode, wantedAtCode, wantsAt, 
 ghost use Rattle.body_operands.specs.Taking.{tookOf, leftOf, leftIn, Room, Pushed};
 
 // Two more than a type's code is its word; the two words below are an unknown, and a non-null reference of unknown heap.
-const UNKNOWN: u64 = 0;
+pub const UNKNOWN: u64 = 0;
 
-const UNKNOWN_REFERENCE: u64 = 1;
+pub const UNKNOWN_REFERENCE: u64 = 1;
 
-const KNOWN: u64 = 2;
+pub const KNOWN: u64 = 2;
 
 // In what is wanted: any value, and any reference.
-const ANY_VALUE: u64 = 0;
+pub const ANY_VALUE: u64 = 0;
 
-const ANY_REFERENCE: u64 = 1;
+pub const ANY_REFERENCE: u64 = 1;
 
 // The words of references begin here, after those of the four number types.
-const REFERENCES: u64 = 6;
+pub const REFERENCES: u64 = 6;
 
 // The operand's word, and how many operands are left in the frame.
 pub enum Take {

@@ -28,18 +28,19 @@ use Rattle.body_state.specs.State.{plainOf, plannedOf}
 use Rattle.body_plan_parts.specs.Planning.{contextOn, CodeIs}
 use Rattle.body_plan_parts.proofs.Steps.{found-then}
 use Rattle.body_plan_parts.proofs.Words.{wants-none, wants-value, gives-value}
+use Rattle.body_plan_labels.specs.declared.Label.{Label}
+use Rattle.body_plan_labels.specs.declared.Label
+use Rattle.body_plan_labels.specs.Labels.{labelsAt, LabelOf}
+use Rattle.body_plan_labels.proofs.Labels.{label-none, label-some}
 use Rattle.body_plan_casts.specs.Casts.{DescriptorFor}
 use Rattle.body_plan_casts.proofs.Targets.{reach-small}
 use Rattle.body_plan_casts.proofs.Casting.{descriptor-small}
-use Rattle.body_plan_branches.specs.declared.Label.{Label}
-use Rattle.body_plan_branches.specs.declared.Label
 use Rattle.body_plan_branches.specs.declared.Target.{Target}
 use Rattle.body_plan_branches.specs.declared.Target
 use Rattle.body_plan_branches.specs.declared.Split.{Split}
 use Rattle.body_plan_branches.specs.declared.Split
 use Rattle.body_plan_branches.specs.declared.Reference.{Reference}
-use Rattle.body_plan_branches.specs.Branches.{labelsAt, LabelOf, SplitOf, Branching, castWith, castOp, descOp, castLabelAt, Low, Small, CastLabel, Carries, carriedOf, Casts}
-use Rattle.body_plan_branches.proofs.Labels.{label-none, label-some}
+use Rattle.body_plan_branches.specs.Branches.{SplitOf, Branching, castBetween, castOp, descOp, castLabelAt, Low, Small, CastLabel, Carries, carriedOf, Casts}
 
 -- cast_label
 
@@ -153,35 +154,35 @@ pub target-low : {work : List ℕ} {k : Scene} {depth l source target : ℕ} {r 
 target-low a {v} q = a .low v q
 
 module _ (ts : Types) (count : ℕ) (locals results : List Val) (labels : List (List Val)) (isSet : List Bool) (l : ℕ) (source target : Reference) where
-  cast-is : (fail : Bool) → planOf (contextOn ts count locals results) (record { labels = labels; isSet = isSet }) (castOp fail (castWith l source target))
+  cast-is : (fail : Bool) → planOf (contextOn ts count locals results) (record { labels = labels; isSet = isSet }) (castOp fail (castBetween l source target))
       ≡ andRuled (castLabelAt labels count l (heapAtCode (source .heap)) (heapAtCode (target .heap)))
-      (branches (contextOn ts count locals results) [] (castWith l source target) (carriedOf fail (castWith l source target)) (carriedOf (not fail) (castWith l source target)))
+      (branches (contextOn ts count locals results) [] (castBetween l source target) (carriedOf fail (castBetween l source target)) (carriedOf (not fail) (castBetween l source target)))
   unfolding planOf castOp castLabelAt
   cast-is true = found-then (every (λ x. ltb x count) (heapNames (heapAtCode (source .heap)) ++ heapNames (heapAtCode (target .heap)))) 6 (getElem? labels l) 21 _
   cast-is false = found-then (every (λ x. ltb x count) (heapNames (heapAtCode (source .heap)) ++ heapNames (heapAtCode (target .heap)))) 6 (getElem? labels l) 21 _
 
-  desc-is : (fail : Bool) → planOf (contextOn ts count locals results) (record { labels = labels; isSet = isSet }) (descOp fail (castWith l source target))
+  desc-is : (fail : Bool) → planOf (contextOn ts count locals results) (record { labels = labels; isSet = isSet }) (descOp fail (castBetween l source target))
       ≡ andRuled (castLabelAt labels count l (heapAtCode (source .heap)) (heapAtCode (target .heap))) (λ vs.
       need (descriptorFor ts (heapAtCode (target .heap))) 23 (λ d.
-      branches (contextOn ts count locals results) (value (nullable d) ∷ []) (castWith l source target) (carriedOf fail (castWith l source target)) (carriedOf (not fail) (castWith l source target)) vs))
+      branches (contextOn ts count locals results) (value (nullable d) ∷ []) (castBetween l source target) (carriedOf fail (castBetween l source target)) (carriedOf (not fail) (castBetween l source target)) vs))
   unfolding planOf descOp castLabelAt
   desc-is true = found-then (every (λ x. ltb x count) (heapNames (heapAtCode (source .heap)) ++ heapNames (heapAtCode (target .heap)))) 6 (getElem? labels l) 21 _
   desc-is false = found-then (every (λ x. ltb x count) (heapNames (heapAtCode (source .heap)) ++ heapNames (heapAtCode (target .heap)))) 6 (getElem? labels l) 21 _
 
 module _ (codes : List ℕ) (ts : Types) (source target : Reference) (fail : Bool) {work : List ℕ} {k : Scene} {depth l : ℕ} {r : Target} (a : CastLabel work k depth l (source .heap) (target .heap) r) where
   module _ {n : ℕ} (q : r ≡ Target.the-variants.Fault n) where
-    pub cast-refused : Branching codes ts (k .types) (labelsAt codes work k depth) (castOp fail (castWith l source target)) (Planned.the-variants.Fault n)
+    pub cast-refused : Branching codes ts (k .types) (labelsAt codes work k depth) (castOp fail (castBetween l source target)) (Planned.the-variants.Fault n)
     unfolding plannedOf
     cast-refused =
         record { is = λ locals results isSet. rw (cast-is ts (k .types) locals results (labelsAt codes work k depth) isSet l source target fail, ← a .is codes, q) }
 
-    pub desc-refused : Branching codes ts (k .types) (labelsAt codes work k depth) (descOp fail (castWith l source target)) (Planned.the-variants.Fault n)
+    pub desc-refused : Branching codes ts (k .types) (labelsAt codes work k depth) (descOp fail (castBetween l source target)) (Planned.the-variants.Fault n)
     unfolding plannedOf
     desc-refused =
         record { is = λ locals results isSet. rw (desc-is ts (k .types) locals results (labelsAt codes work k depth) isSet l source target fail, ← a .is codes, q) }
 
   module _ {v : Values} (q : r ≡ Target.the-variants.Is v) where
-    pub cast-planned : {p : Planned} → Casts codes ts 0 source target fail v p → Branching codes ts (k .types) (labelsAt codes work k depth) (castOp fail (castWith l source target)) p
+    pub cast-planned : {p : Planned} → Casts codes ts 0 source target fail v p → Branching codes ts (k .types) (labelsAt codes work k depth) (castOp fail (castBetween l source target)) p
     cast-planned c =
         record {
           is = λ locals results isSet.
@@ -189,7 +190,7 @@ module _ (codes : List ℕ) (ts : Types) (source target : Reference) (fail : Boo
         }
 
     module _ {d : Link} (b : DescriptorFor (descriptorFor ts (heapAtCode (target .heap))) d) where
-      pub desc-undescribed : d ≡ Link.the-variants.Nothing → Branching codes ts (k .types) (labelsAt codes work k depth) (descOp fail (castWith l source target)) (Planned.the-variants.Fault badStruct)
+      pub desc-undescribed : d ≡ Link.the-variants.Nothing → Branching codes ts (k .types) (labelsAt codes work k depth) (descOp fail (castBetween l source target)) (Planned.the-variants.Fault badStruct)
       unfolding plannedOf
       desc-undescribed e =
           record {
@@ -197,7 +198,7 @@ module _ (codes : List ℕ) (ts : Types) (source target : Reference) (fail : Boo
                 rw (desc-is ts (k .types) locals results (labelsAt codes work k depth) isSet l source target fail, ← a .is codes, q, ← b .is, e);
           }
 
-      pub desc-planned : {y : ℕ} → d ≡ Link.the-variants.To y → {j : ℕ} → CodeIs (ref true (heapAtCode y)) j → {p : Planned} → Casts codes ts (j + 3) source target fail v p → Branching codes ts (k .types) (labelsAt codes work k depth) (descOp fail (castWith l source target)) p
+      pub desc-planned : {y : ℕ} → d ≡ Link.the-variants.To y → {j : ℕ} → CodeIs (ref true (heapAtCode y)) j → {p : Planned} → Casts codes ts (j + 3) source target fail v p → Branching codes ts (k .types) (labelsAt codes work k depth) (descOp fail (castBetween l source target)) p
       desc-planned e {j} top c =
           record {
             is = λ locals results isSet.

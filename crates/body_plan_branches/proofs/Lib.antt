@@ -1,3 +1,2 @@
-pub mod Labels
 pub mod Lasts
 pub mod Casting

@@ -1,9 +1,9 @@
--- What the questions about labels answer, and what it is that a plan follows the rule of an instruction that branches.
+-- What it is that a plan follows the rule of a branching cast, part by part.
 use Prim.Native.Nat.{ℕ, _<_}
 use mathlib.Core.Path.{_≡_}
 use mathlib.Core.Bool.{Bool, true, false, not}
 use mathlib.Core.Option.{Option, none, some}
-use mathlib.Core.List.{List, [], _∷_, _++_, map}
+use mathlib.Core.List.{List, [], _∷_, _++_}
 use lib.ListN.{getElem?}
 use lib.Dec.{ltb}
 use Rattle.scope.specs.Refusals.{outOfReach, absent, badBranch}
@@ -12,51 +12,25 @@ use Rattle.scope.specs.Syntax.{Heap, Val, Types}
 use Rattle.scope.specs.Order.{valBelow}
 use Rattle.scope.specs.TypeRules.{heapNames}
 use Rattle.scope.specs.Instructions.{Cast, Op, br-on-cast, br-on-cast-fail, br-on-cast-desc-eq, br-on-cast-desc-eq-fail}
-use Rattle.scope.specs.BodyRules.{Context, value, values, Ruled, allowed, fault, test, need, takes, fromTop, lastOf, branches, targetOf, restOf, planOf}
-use Rattle.scope.specs.Bodies.{labelOf}
-use Rattle.type_table.specs.View.{heapAtCode, valAtCode, codesAt}
+use Rattle.scope.specs.BodyRules.{value, values, Ruled, allowed, fault, test, need, takes, fromTop, lastOf, branches, targetOf, restOf, planOf}
+use Rattle.type_table.specs.View.{heapAtCode, valAtCode}
 use Rattle.body_state.specs.declared.Scene.{Scene}
 use Rattle.body_state.specs.declared.Values.{Values}
 use Rattle.body_state.specs.declared.Planned.{Planned}
 use Rattle.body_state.specs.Layout.{codeBound}
-use Rattle.body_state.specs.State.{wantsAt, valuesOf, plannedOf, frameAt, framesAt}
+use Rattle.body_state.specs.State.{wantsAt, valuesOf, plannedOf}
 use Rattle.body_plan_parts.specs.Planning.{contextOn, heapBound}
-use Rattle.body_plan_branches.specs.declared.Label.{Label}
-use Rattle.body_plan_branches.specs.declared.Label
+use Rattle.body_plan_labels.specs.Labels.{labelsAt}
 use Rattle.body_plan_branches.specs.declared.Target.{Target}
 use Rattle.body_plan_branches.specs.declared.Target
 use Rattle.body_plan_branches.specs.declared.Split.{Split}
 use Rattle.body_plan_branches.specs.declared.Split
 use Rattle.body_plan_branches.specs.declared.Reference.{Reference}
 
--- labels
-
--- the labels within so many open blocks, innermost first
-unfoldable pub labelsAt : List ℕ → List ℕ → Scene → ℕ → List (List Val)
-labelsAt codes work k depth =
-    map labelOf (framesAt work (k .locals) depth) ++ codesAt valAtCode codes (k .first) (k .results) ∷ []
-
-abbrev pub labelOption : List ℕ → Label → Option (List Val)
-labelOption codes Label.the-variants.Absent = none
-labelOption codes (Label.the-variants.Is vs) = some (valuesOf codes vs)
-
-pub record BlockLabel (work : List ℕ) (m : ℕ) (r : Values) : Type 0 where
-  pub is : (codes : List ℕ) (count : ℕ) → valuesOf codes r ≡ labelOf (frameAt work count m)
-
-pub record LabelOf (work : List ℕ) (k : Scene) (depth l : ℕ) (r : Label) : Type 0 where
-  pub is : (codes : List ℕ) → labelOption codes r ≡ getElem? (labelsAt codes work k depth) l
-
--- The plan r is what the rule of an instruction says, where the instruction looks at the labels alone.
-pub record Goes (work : List ℕ) (k : Scene) (depth : ℕ) (o : Op) (r : Planned) : Type 0 where
-  pub is : (codes : List ℕ) (c : Context) (isSet : List Bool) → plannedOf codes r
-      ≡ planOf c (record { labels = labelsAt codes work k depth; isSet = isSet }) o
-
--- The same, where it looks at the types too.
+-- The plan r is what the rule of an instruction says, where the instruction looks at the labels and the types.
 pub record Branching (codes : List ℕ) (ts : Types) (count : ℕ) (labels : List (List Val)) (o : Op) (r : Planned) : Type 0 where
   pub is : (locals results : List Val) (isSet : List Bool) → plannedOf codes r
       ≡ planOf (contextOn ts count locals results) (record { labels = labels; isSet = isSet }) o
-
--- branching casts
 
 abbrev pub splitOption : List ℕ → Split → Option (List Val × Val)
 splitOption codes Split.the-variants.Nothing = none
@@ -66,8 +40,8 @@ pub record SplitOf (codes : List ℕ) (vs : Values) (r : Split) : Type 0 where
   pub is : splitOption codes r ≡ lastOf (valuesOf codes vs)
 
 -- the cast to a label between two reference types
-abbrev pub castWith : ℕ → Reference → Reference → Cast
-castWith l source target =
+abbrev pub castBetween : ℕ → Reference → Reference → Cast
+castBetween l source target =
     record { label = l; sourceNull = source .null; source = heapAtCode (source .heap); targetNull = target .null; target = heapAtCode (target .heap) }
 
 -- the plain form, or the fail form
@@ -117,4 +91,4 @@ carriedOf false k = targetOf k
 
 pub record Casts (codes : List ℕ) (ts : Types) (first : ℕ) (source target : Reference) (fail : Bool) (label : Values) (r : Planned) : Type 0 where
   pub is : (l count : ℕ) (locals results : List Val) → plannedOf codes r
-      ≡ branches (contextOn ts count locals results) (wantsAt first) (castWith l source target) (carriedOf fail (castWith l source target)) (carriedOf (not fail) (castWith l source target)) (valuesOf codes label)
+      ≡ branches (contextOn ts count locals results) (wantsAt first) (castBetween l source target) (carriedOf fail (castBetween l source target)) (carriedOf (not fail) (castBetween l source target)) (valuesOf codes label)

@@ -1,10 +1,8 @@
-// The rules of the instructions that branch: br, br_if and the branching casts. The tests stand in document 01's order:
-// 6, 21, 23, 25.
+// The rules of the branching casts. The tests stand in document 01's order: 6, 21, 23, 25.
+use body_plan_labels::Label;
 use body_plan_parts::GIVEN;
-use body_plan_parts::I32;
 use body_plan_parts::WANTED;
 use body_state::CODE_BOUND;
-use body_state::LOOP;
 use body_state::Plain;
 use body_state::Planned;
 use body_state::Scene;
@@ -13,17 +11,11 @@ use scope::refusals;
 use type_table::Link;
 ghost use mathlib.Core.Bool.{not, _&&_};
 ghost use Prim.Native.Nat.{_<_};
-ghost use Rattle.scope.specs.Instructions.{br, br-if};
 ghost use Rattle.scope.specs.Syntax.{ref};
 ghost use Rattle.type_table.specs.View.{heapAtCode, view};
 ghost use Rattle.body_plan_parts.specs.Planning.{heapBound, CodeIs};
-ghost use Rattle.body_plan_branches.specs.Branches.{labelsAt, BlockLabel, LabelOf, SplitOf, Goes, castWith, castOp, descOp, CastLabel, Low, Small, Carries, Casts, Branching};
-
-// The types of a label.
-pub enum Label {
-    Absent,
-    Is(Values),
-}
+ghost use Rattle.body_plan_labels.specs.Labels.{labelsAt};
+ghost use Rattle.body_plan_branches.specs.Branches.{SplitOf, castBetween, castOp, descOp, CastLabel, Low, Small, Carries, Casts, Branching};
 
 // The types of a label in a branching cast's reach, or a refusal's number.
 pub enum Target {
@@ -41,67 +33,6 @@ pub enum Split {
 pub struct Reference {
     pub null: bool,
     pub heap: u64,
-}
-
-// The types of the label of frame m. A loop's label has none.
-fn block_label(work: &[u32], m: u32) -> Values
-    ensures { λ r. ⌜ BlockLabel (now (work .entry)) m r ⌝ }
-{
-    let loops = body_state::frame_word(work, m, LOOP);
-    if loops == 1 {
-        return Values::Types(0, 0);
-    }
-    body_state::results_of(work, m)
-}
-
-// Label l from within so many blocks: the innermost is label 0, the function's own the last.
-pub fn label_of(work: &[u32], scene: Scene, depth: u16, l: u64) -> Label
-    ensures { λ r. ⌜ LabelOf (now (work .entry)) scene depth l r ⌝ }
-{
-    let blocks = depth as u64;
-    if blocks < l {
-        return Label::Absent;
-    }
-    if blocks == l {
-        let first = scene.first;
-        let results = scene.results;
-        return Label::Is(Values::Types(first, results));
-    }
-    let label = block_label(work, (blocks - l + 1) as u32);
-    Label::Is(label)
-}
-
-// br l
-pub fn br(work: &[u32], scene: Scene, depth: u16, l: u64) -> Planned
-    ensures { λ r. ⌜ Goes (now (work .entry)) scene depth (br l) r ⌝ }
-{
-    let label = label_of(work, scene, depth, l);
-    match label {
-        Label::Absent => Planned::Fault(refusals::ABSENT),
-        Label::Is(values) => body_plan_parts::stops(values),
-    }
-}
-
-// br_if l
-pub fn br_if(work: &[u32], scene: Scene, depth: u16, l: u64) -> Planned
-    ensures { λ r. ⌜ Goes (now (work .entry)) scene depth (br-if l) r ⌝ }
-{
-    let label = label_of(work, scene, depth, l);
-    match label {
-        Label::Absent => Planned::Fault(refusals::ABSENT),
-        Label::Is(values) => {
-            let top = I32 + WANTED;
-            Planned::Plain(Plain {
-                top: top,
-                second: 0,
-                rest: values,
-                back: true,
-                gives: 0,
-                marks: 0,
-                stops: false,
-            })
-        }
-    }
 }
 
 // A list's last type.
@@ -143,7 +74,7 @@ fn cast_label(work: &[u32], scene: Scene, depth: u16, l: u64, source: u64, targe
     if !type_reach::heap_in_reach(target, types as u64) {
         return Target::Fault(refusals::OUT_OF_REACH);
     }
-    let label = label_of(work, scene, depth, l);
+    let label = body_plan_labels::label_of(work, scene, depth, l);
     match label {
         Label::Absent => Target::Fault(refusals::ABSENT),
         Label::Is(values) => Target::Is(values),
@@ -239,7 +170,7 @@ pub fn br_on_cast(
     ensures { λ r.
         let types = view (now (rows .entry)) (now (codes .entry)) in
         let labels = labelsAt (now (codes .entry)) (now (work .entry)) scene depth in
-        let cast = castOp fail (castWith l source target) in
+        let cast = castOp fail (castBetween l source target) in
         ⌜ Branching (now (codes .entry)) types (scene .types) labels cast r ⌝ }
 {
     let label = cast_label(work, scene, depth, l, source.heap, target.heap);
@@ -264,7 +195,7 @@ pub fn br_on_cast_desc(
     ensures { λ r.
         let types = view (now (rows .entry)) (now (codes .entry)) in
         let labels = labelsAt (now (codes .entry)) (now (work .entry)) scene depth in
-        let cast = descOp fail (castWith l source target) in
+        let cast = descOp fail (castBetween l source target) in
         ⌜ Branching (now (codes .entry)) types (scene .types) labels cast r ⌝ }
 {
     let label = cast_label(work, scene, depth, l, source.heap, target.heap);

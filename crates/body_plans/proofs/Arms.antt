@@ -17,12 +17,13 @@ use Rattle.body_state.specs.declared.Planned
 use Rattle.body_state.specs.State.{valAtWord, valuesOf, plannedOf, setsAt, contextAt, stateAt}
 use Rattle.body_plan_parts.specs.Planning.{Follows, Anywhere, Takes, Stops}
 use Rattle.body_plan_parts.proofs.Words.{wants-none, wants-any, wants-reference, wants-eq-ref, gives-none, gives-i32}
+use Rattle.body_plan_locals.specs.Uses.{Uses, Sets}
 use Rattle.body_plan_casts.specs.Casts.{Tests}
-use Rattle.body_plan_branches.specs.Branches.{labelsAt, Goes, Branching}
+use Rattle.body_plan_labels.specs.Labels.{labelsAt, Goes}
+use Rattle.body_plan_branches.specs.Branches.{Branching}
 use Rattle.body_plans.specs.declared.Act
 use Rattle.body_decoded.specs.Decoded.{instrOf}
 use Rattle.body_plans.specs.Acts.{actOf}
-use Rattle.body_plans.specs.Uses.{Uses, Sets}
 
 -- blocks
 

@@ -1,6 +1,6 @@
 // The rule of each instruction: its tests in document 01's order (6, 21, 23, 24, 25, 29, 22), then what it takes and gives.
 // Nothing is written here. Each answer is that of scope's BodyRules.antt over what the table and the scratch say. The plans
-// of locals stand here; those of structs, casts and branches in body_plan_structs, body_plan_casts and body_plan_branches.
+// of locals, structs, casts, labels and branches stand in the crates body_plan_*; this is the dispatch over all instructions.
 use body_immediates::Instruction;
 use body_plan_branches::Reference;
 use body_plan_parts::ANY_REFERENCE;
@@ -10,21 +10,14 @@ use body_plan_parts::GIVEN;
 use body_plan_parts::I32;
 use body_plan_parts::WANTED;
 use body_state::Check;
-use body_state::Local;
-use body_state::Plain;
 use body_state::Planned;
 use body_state::Scene;
 use body_state::Values;
-use scope::refusals;
 ghost use mathlib.Core.Path.{_≡_};
-ghost use Prim.Native.Nat.{_+_};
-ghost use Rattle.scope.specs.Instructions.{local-get, local-set, local-tee};
 ghost use Rattle.scope.specs.Bodies.{judgeInstr};
-ghost use Rattle.type_table.specs.View.{codesAt};
-ghost use Rattle.body_state.specs.State.{valAtWord, setsAt, contextAt, stateAt};
+ghost use Rattle.body_state.specs.State.{contextAt, stateAt};
 ghost use Rattle.body_decoded.specs.Decoded.{instrOf};
 ghost use Rattle.body_plans.specs.Acts.{actOf};
-ghost use Rattle.body_plans.specs.Uses.{Uses, Sets};
 
 // What an instruction does: it opens a block or, where the bool says so, a loop, with that result (0 none, else one more
 // than its code); it closes the innermost frame; or it has a plan.
@@ -32,69 +25,6 @@ pub enum Act {
     Opens(bool, u64),
     Closes,
     Does(Planned),
-}
-
-// local.get x
-fn local_get(work: &[u32], locals: u16, depth: u16, x: u64) -> Planned
-    ensures { λ r. ⌜ Uses (codesAt valAtWord (now (work .entry)) 0 locals) (setsAt (now (work .entry)) (depth + 1) 0 locals) (local-get x) r ⌝ }
-{
-    let local = body_state::local_of(work, locals, x);
-    match local {
-        Local::Absent => Planned::Fault(refusals::ABSENT),
-        Local::Is(code) => {
-            if !body_state::is_set(work, depth as u32 + 1, x as u32) {
-                return Planned::Fault(refusals::NOT_SET);
-            }
-            body_plan_parts::takes(0, 0, Values::Types(0, 0), code + GIVEN)
-        }
-    }
-}
-
-// local.set x
-fn local_set(work: &[u32], locals: u16, x: u64) -> Planned
-    ensures { λ r. ⌜ Sets (codesAt valAtWord (now (work .entry)) 0 locals) (local-set x) r ⌝ }
-{
-    let local = body_state::local_of(work, locals, x);
-    match local {
-        Local::Absent => Planned::Fault(refusals::ABSENT),
-        Local::Is(code) => {
-            let top = code + WANTED;
-            let marks = x + 1;
-            Planned::Plain(Plain {
-                top: top,
-                second: 0,
-                rest: Values::Types(0, 0),
-                back: false,
-                gives: 0,
-                marks: marks,
-                stops: false,
-            })
-        }
-    }
-}
-
-// local.tee x
-fn local_tee(work: &[u32], locals: u16, x: u64) -> Planned
-    ensures { λ r. ⌜ Sets (codesAt valAtWord (now (work .entry)) 0 locals) (local-tee x) r ⌝ }
-{
-    let local = body_state::local_of(work, locals, x);
-    match local {
-        Local::Absent => Planned::Fault(refusals::ABSENT),
-        Local::Is(code) => {
-            let top = code + WANTED;
-            let gives = code + GIVEN;
-            let marks = x + 1;
-            Planned::Plain(Plain {
-                top: top,
-                second: 0,
-                rest: Values::Types(0, 0),
-                back: false,
-                gives: gives,
-                marks: marks,
-                stops: false,
-            })
-        }
-    }
 }
 
 // What an instruction does, where the check stands.
@@ -129,11 +59,11 @@ pub fn act_of(
         Instruction::Loop(w) => Act::Opens(true, w),
         Instruction::End => Act::Closes,
         Instruction::Br(l) => {
-            let plan = body_plan_branches::br(work, scene, depth, l);
+            let plan = body_plan_labels::br(work, scene, depth, l);
             Act::Does(plan)
         }
         Instruction::BrIf(l) => {
-            let plan = body_plan_branches::br_if(work, scene, depth, l);
+            let plan = body_plan_labels::br_if(work, scene, depth, l);
             Act::Does(plan)
         }
         Instruction::Return => {
@@ -145,15 +75,15 @@ pub fn act_of(
             Act::Does(plan)
         }
         Instruction::LocalGet(x) => {
-            let plan = local_get(work, locals, depth, x);
+            let plan = body_plan_locals::local_get(work, locals, depth, x);
             Act::Does(plan)
         }
         Instruction::LocalSet(x) => {
-            let plan = local_set(work, locals, x);
+            let plan = body_plan_locals::local_set(work, locals, x);
             Act::Does(plan)
         }
         Instruction::LocalTee(x) => {
-            let plan = local_tee(work, locals, x);
+            let plan = body_plan_locals::local_tee(work, locals, x);
             Act::Does(plan)
         }
         Instruction::I32Const(_) => {

@@ -35,7 +35,7 @@ fn push_gives(work: &mut [u32], gives: u64, base: u32, height: u32)
 {
     if gives != 0 {
         let code = (gives - 1) % body_state::CODE_BOUND;
-        body_operands::push(work, base, height, code + 2);
+        body_operands::push(work, base, height, code + body_operands::KNOWN);
     }
 }
 

@@ -14,13 +14,12 @@ ghost use Rattle.type_table.specs.View.{view};
 ghost use Rattle.body_state.specs.State.{operandAtCode, stack, contextAt, stateAt, Upright, Stepped};
 ghost use Rattle.body_references.specs.OneMore.{withTop, nonNullDone, descriptorDone};
 
-// A non-null reference of unknown heap, and where the words of references begin.
-const UNKNOWN_REFERENCE: u32 = 1;
+// The operands' words, as an operand that was taken is held.
+const UNKNOWN: u32 = body_operands::UNKNOWN as u32;
 
-const REFERENCES: u32 = 6;
+const UNKNOWN_REFERENCE: u32 = body_operands::UNKNOWN_REFERENCE as u32;
 
-// In what is wanted, any reference.
-const ANY_REFERENCE: u64 = 1;
+const REFERENCES: u32 = body_operands::REFERENCES as u32;
 
 // One operand on top of those that are left of the frame's.
 fn put_operand(work: &mut [u32], locals: u16, check: Check, left: u32, o: u32) -> Step
@@ -51,7 +50,7 @@ fn put_operand(work: &mut [u32], locals: u16, check: Check, left: u32, o: u32) -
 fn non_null_word(o: u32) -> u32
     ensures { λ r. ⌜ operandAtCode r ≡ nonNullOf (operandAtCode o) ⌝ }
 {
-    if o == 0 {
+    if o == UNKNOWN {
         return UNKNOWN_REFERENCE;
     }
     if o < REFERENCES {
@@ -83,7 +82,15 @@ pub fn do_non_null(
     let base = check.base;
     let height = check.height;
     let dead = check.dead;
-    let taken = body_operands::take_one(rows, codes, work, ANY_REFERENCE, base, height, dead);
+    let taken = body_operands::take_one(
+        rows,
+        codes,
+        work,
+        body_operands::ANY_REFERENCE,
+        base,
+        height,
+        dead,
+    );
     let Take::Took(o, left) = taken else {
         return Step::Fault(refusals::BAD_OPERAND);
     };

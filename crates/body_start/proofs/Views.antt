@@ -1,6 +1,6 @@
 -- What the words at the start say: the types that were put, and that a local is set exactly where its mark is 1, since all
 -- stamps are 0.
-use Prim.Native.Nat.{ℕ, zero, suc, _+_, _≤_, _<_}
+use Prim.Native.Nat.{ℕ, zero, suc, _+_, _*_, _≤_, _<_}
 use mathlib.Core.Path.{_≡_, refl, ap, ap₂, _∙_}
 use mathlib.Core.Bool.{Bool, true, false}
 use mathlib.Core.List.{List, [], _∷_, _++_, map}
@@ -13,7 +13,7 @@ use Rattle.type_table.specs.Kept.{keptVal}
 use Rattle.type_table.specs.View.{codesAt}
 use Rattle.type_table.proofs.CodesBack.{val-code, val-code-small}
 use Rattle.type_read.specs.Codes.{valCodeKept}
-use Rattle.body_state.specs.Layout.{marksFrom, stampsFrom}
+use Rattle.body_state.specs.Layout.{marksFrom, stampsFrom, framesFrom, frameSpan, stampWord}
 use Rattle.body_state.specs.State.{valAtWord, isSetAt, setsAt}
 use Rattle.body_start.proofs.Parameters.{val-at-word}
 
@@ -62,8 +62,8 @@ sets-by g f m codes d i a (suc n) same =
     ap₂ _∷_ (simp add-zero at (same 0 (omega arith)))
     (sets-by g f m codes d (i + 1) (a + 1) n (λ k h. let l : i + suc k ≡ i + 1 + k = omega arith in let r : a + suc k ≡ a + 1 + k = omega arith in rw (l, r) at (same (suc k) (omega arith))))
 
--- a mark, where no word from 512 on is set
+-- a mark, where no word from the stamps on is set
 pub set-by-mark : (m : List ℕ) (i : ℕ) (b : Bool) → getD m (marksFrom + i) 0 ≡ flag b → ((k : ℕ) → stampsFrom ≤ k → getD m k 0 ≡ 0) → isSetAt m 1 i ≡ b
 unfolding isSetAt
-set-by-mark m i true e blank = rw (e, blank 1_293 (omega arith), blank (stampsFrom + i) (omega arith))
+set-by-mark m i true e blank = rw (e, blank (framesFrom + (frameSpan * 1 + stampWord)) (omega arith), blank (stampsFrom + i) (omega arith))
 set-by-mark m i false e blank = rw e

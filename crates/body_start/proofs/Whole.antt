@@ -1,5 +1,5 @@
 -- Each way out of the start of a body. The parameters' words, the locals' after them and the marks lie apart, and no word
--- from 512 on is written.
+-- from the stamps on is written.
 use Prim.Native.Nat.{ℕ, _+_, _^_, _≤_, _<_}
 use mathlib.Core.Path.{_≡_, sym, ap, ap₂, _∙_}
 use mathlib.Core.Logic.{_⊎_, inl, inr}

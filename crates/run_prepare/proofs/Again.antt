@@ -25,7 +25,7 @@ use Rattle.body_start.specs.declared.Started
 use Rattle.body_start.specs.Beginning.{localsFirst, Starting, StartedAs}
 use Rattle.run_ends.specs.Matching.{Fillable, Filled, EndsOf}
 use Rattle.section_call.proofs.Asking.{viewed}
-use Rattle.body_call.proofs.Typing.{started-got, started-refused, form-is}
+use Rattle.body_judge.proofs.Typing.{started-got, started-refused, form-is}
 use Rattle.run_prepare.specs.Parts.{Parts, TypesAgain, FunctionAgain, LocalsAgain}
 use Rattle.run_prepare.proofs.Bodily.{few-types, few-parameters}
 
