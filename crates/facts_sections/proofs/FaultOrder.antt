@@ -23,6 +23,7 @@ use Rattle.scope.proofs.Truths.{none-is-not-some, decided}
 use Rattle.scope.proofs.Accepted.{scan-met-none}
 use Rattle.scope.proofs.Impossible.{contradiction, impossible}
 use Rattle.facts_sections.specs.FirstFault.{Rule, AllKept, all-kept, kept-and, FirstBroken, broken, kept-then, linkRules, typeRules, FirstAmong, FirstFault, in-links, in-rules, Refused, by-bytes, by-rules}
+use Rattle.facts_sections.proofs.OwnForms.{own-matches-say, own-matches-tested}
 use Rattle.facts_sections.proofs.Judge.{scan-accepts}
 use Rattle.facts_sections.proofs.SectionReading.{section-found, section-read}
 use Rattle.facts_sections.proofs.Named.{reach-says, reach-tested}
@@ -51,7 +52,7 @@ rules-decide : (ts : Types) (x : ℕ)
     ∷ [])
     (typeRules ts x)
 rules-decide ts x =
-    a-test (λ e. e) (λ e. e)
+    a-test (own-matches-say ts x) (own-matches-tested ts x)
     (a-test (on-struct-says ts x) (on-struct-tested ts x)
     (a-test (earlier-says ts x) (earlier-tested ts x)
     (a-test (agree-says ts x) (agree-tested ts x)

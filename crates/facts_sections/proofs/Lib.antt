@@ -1,6 +1,8 @@
 pub mod Tests
 pub mod Named
 pub mod Rules
+pub mod TenTypes
+pub mod OwnForms
 pub mod Judge
 pub mod Between
 pub mod Readers

@@ -1,10 +1,9 @@
 -- Which fault of a section's rules is the first, in document 01's order: "type by type, 6, 7 and the chain; then, type by
 -- type again, 8 to 13 in rising number." The rules are the relations, each with the number that is said where it is
--- broken. Rule 2 alone is asked as a test: the order's relation and its test say the same only of a table whose forms
--- are equal along supertypes, and a fault may be said before that is known.
+-- broken. Rule 2 is asked by each type's own form (specs/OwnForms.antt): the order of rule 6 says the same only of a table
+-- whose forms are equal along supertypes, and a fault may be said before that is known.
 use Prim.Native.Nat.{ℕ, _<_}
 use mathlib.Core.Path.{_≡_}
-use mathlib.Core.Bool.{true}
 use mathlib.Core.List.{List, [], _∷_}
 use lib.ListN.{length}
 use Rattle.scope.specs.Lists.{joined}
@@ -12,9 +11,9 @@ use Rattle.scope.specs.Reading.{refused}
 use Rattle.scope.specs.Refusals.{oversize, outOfReach, badSupertype, noMatch, clauseNotOnStruct, describesNotEarlier, clausesDisagree, badDescriptor, badDescribes}
 use Rattle.scope.specs.Syntax.{Group, Types, typesOf}
 use Rattle.scope.specs.Sections.{readSection}
-use Rattle.scope.specs.TypeRules.{matchesSuper}
 use Rattle.facts_sections.specs.TypeRelations.{InReach, SupertypesOf, OnStruct, DescribesEarlier, ClausesAgree, Descriptors, Described}
 use Rattle.facts_sections.specs.WithinSizes.{ShortChain, WithinSizes}
+use Rattle.facts_sections.specs.OwnForms.{OwnMatches}
 use Rattle.facts_sections.specs.Writing.{WritesSection}
 
 -- what a rule says, and the number of its refusal
@@ -42,7 +41,7 @@ linkRules ts x =
 -- 8 to 13 in rising number
 abbrev pub typeRules : Types → ℕ → List Rule
 typeRules ts x =
-    record { says = matchesSuper ts x ≡ true; number = noMatch }
+    record { says = OwnMatches ts x; number = noMatch }
     ∷ record { says = OnStruct ts x; number = clauseNotOnStruct }
     ∷ record { says = DescribesEarlier ts x; number = describesNotEarlier }
     ∷ record { says = ClausesAgree ts x; number = clausesDisagree }
