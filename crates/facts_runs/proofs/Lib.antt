@@ -7,4 +7,5 @@ pub mod Verdicts
 pub mod AcceptedCode
 pub mod Loopless
 pub mod Trials
+pub mod NoRoom
 pub mod Laws

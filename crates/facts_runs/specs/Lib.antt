@@ -1,3 +1,4 @@
 pub mod Counting
 pub mod Laws
 pub mod Samples
+pub mod NoRoom
