@@ -121,3 +121,28 @@ fn examples_run_as_they_say() {
         assert!(endings.iter().any(|ending| ending == word), "no example is {word}");
     }
 }
+
+/// An example that is there in WebAssembly's text too is assembled to the same bytes, and printed bytes come back.
+#[test]
+fn examples_in_text_are_the_same_bytes() {
+    let texts = [("1-routes", "section"), ("6-incident", "body")];
+    for (name, kind) in texts {
+        let file = |end: &str| folder().join(format!("{name}.{end}"));
+        let hex = std::fs::read_to_string(file("hex")).expect("the example");
+        let said = chelbugan(&["assemble", kind, file("wat").to_str().expect("a name")]);
+        assert_eq!(said.status, 0, "{}", said.err);
+        assert_eq!(said.out.split_whitespace().collect::<String>(), bytes(&hex).to_lowercase());
+    }
+    for example in examples().iter().map(|file| read(file)) {
+        let kind = if example.is_body { "body" } else { "section" };
+        let printed = chelbugan(&["print", kind, &example.name]);
+        if printed.status == 1 {
+            assert_eq!((printed.out.as_str(), example.answer.as_str()), ("", "no 1 16"));
+            continue;
+        }
+        let back = common::chelbugan_fed(&["assemble", kind, "-"], printed.out.as_bytes());
+        let text = std::fs::read_to_string(&example.name).expect("the example");
+        let digits = back.out.split_whitespace().collect::<String>();
+        assert_eq!(digits, bytes(&text).to_lowercase(), "{}", example.name);
+    }
+}

@@ -1,6 +1,8 @@
 //! Runs the program `chelbugan`, and looks at what it said.
 #![allow(dead_code)] // each test file uses its own part
 
+pub mod json;
+
 use std::io::Write;
 use std::path::PathBuf;
 use std::process::{Command, Stdio};
