@@ -6,7 +6,7 @@ use mathlib.Core.List.{List, [], _++_}
 use native.Mathlib.Omega.{arith}
 use Rattle.scope.specs.Refusals.{oversize, badOperand}
 use Rattle.scope.specs.BodyRules.{Context, Ruled, allowed, fault, andRuled, fromTop}
-use Rattle.scope.specs.Bodies.{Operand, Taken, takeAll, put, marked, doPlan, State, Next, goesOn, within}
+use Rattle.scope.specs.Bodies.{Operand, Taken, takeAll, put, marked, doPlan, State, Next, goesOn, withinOperands}
 use Rattle.type_table.specs.View.{linkAt, view}
 use Rattle.body_state.specs.declared.Check.{Check}
 use Rattle.body_state.specs.declared.Scene.{Scene}
@@ -32,7 +32,7 @@ use Rattle.body_effects.specs.Effects.{afterPlain}
 
 module _ (codes : List ℕ) {work : List ℕ} {count : ℕ} {st : Check} (u : Upright work count st) (p : Plain) (left : ℕ) where
   -- the stack yields unknowns afterwards
-  pub give-stops : p .stops ≡ true → {work′ : List ℕ} → Marked work work′ count (st .depth + 1) (linkAt (p .marks)) → Stepped work work′ count (st .depth) (within (afterPlain codes (stateAt work count st) p (stack work (st .base) left))) (Step.the-variants.On (record { depth = st .depth; base = st .base; height = 0; dead = true }))
+  pub give-stops : p .stops ≡ true → {work′ : List ℕ} → Marked work work′ count (st .depth + 1) (linkAt (p .marks)) → Stepped work work′ count (st .depth) (withinOperands (afterPlain codes (stateAt work count st) p (stack work (st .base) left))) (Step.the-variants.On (record { depth = st .depth; base = st .base; height = 0; dead = true }))
   unfolding afterPlain stateAt stack
   give-stops s {work′} k =
       let v : Upright work count (record { depth = st .depth; base = st .base; height = 0; dead = true }) = record { room = u .room; few = u .few; deep = u .deep; low = omega (arith, u .low); rests = u .rests } in
@@ -40,7 +40,7 @@ module _ (codes : List ℕ) {work : List ℕ} {count : ℕ} {st : Check} (u : Up
       stepped-on _ (rw s (ap (λ (t : State). allowed (goesOn t)) (marked-state v k) ∙ sym fine)) (marked-upright v k) (marked-stamped v k) (k .types) (k .size)
 
   module _ (s : p .stops ≡ false) {r : Given} {work₁ : List ℕ} where
-    pub give-full : r ≡ Given.the-variants.Full → GivenTo work work₁ (st .base) left (givenOf codes (p .rest) (p .back) (p .gives)) r → Stepped work work₁ count (st .depth) (within (afterPlain codes (stateAt work count st) p (stack work (st .base) left))) (Step.the-variants.Fault oversize)
+    pub give-full : r ≡ Given.the-variants.Full → GivenTo work work₁ (st .base) left (givenOf codes (p .rest) (p .back) (p .gives)) r → Stepped work work₁ count (st .depth) (withinOperands (afterPlain codes (stateAt work count st) p (stack work (st .base) left))) (Step.the-variants.Fault oversize)
     unfolding afterPlain stateAt
     give-full e g =
         let many = g .full e in
@@ -57,7 +57,7 @@ module _ (codes : List ℕ) {work : List ℕ} {count : ℕ} {st : Check} (u : Up
       pub mark-given : Ready work₁ count (st .depth + 1)
       mark-given = may-mark stands
 
-      pub give-on : {work₂ : List ℕ} → Marked work₁ work₂ count (st .depth + 1) (linkAt (p .marks)) → Stepped work work₂ count (st .depth) (within (afterPlain codes (stateAt work count st) p (stack work (st .base) left))) (Step.the-variants.On (record { depth = st .depth; base = st .base; height = high; dead = st .dead }))
+      pub give-on : {work₂ : List ℕ} → Marked work₁ work₂ count (st .depth + 1) (linkAt (p .marks)) → Stepped work work₂ count (st .depth) (withinOperands (afterPlain codes (stateAt work count st) p (stack work (st .base) left))) (Step.the-variants.On (record { depth = st .depth; base = st .base; height = high; dead = st .dead }))
       unfolding afterPlain stateAt
       give-on {work₂} k =
           let vs = givenOf codes (p .rest) (p .back) (p .gives) in
@@ -78,13 +78,13 @@ left-only f (allowed u) = refl
 left-only f (fault n) = refl
 
 -- a plan that gives values needs to know only what is left
-plan-left : (codes : List ℕ) (c : Context) (st : State) (p : Plain) → doPlan c st (plainOf codes p) ≡ andRuled (leftIn (takeAll (c .types) (st .dead) (wantsAt (p .top) ++ (wantsAt (p .second) ++ fromTop (valuesOf codes (p .rest)))) (st .operands))) (λ os. within (afterPlain codes st p os))
+plan-left : (codes : List ℕ) (c : Context) (st : State) (p : Plain) → doPlan c st (plainOf codes p) ≡ andRuled (leftIn (takeAll (c .types) (st .dead) (wantsAt (p .top) ++ (wantsAt (p .second) ++ fromTop (valuesOf codes (p .rest)))) (st .operands))) (λ os. withinOperands (afterPlain codes st p os))
 unfolding doPlan plainOf afterPlain put givenOf backOf
 plan-left codes c st p =
-    left-only (λ os. within (afterPlain codes st p os)) (takeAll (c .types) (st .dead) (wantsAt (p .top) ++ (wantsAt (p .second) ++ fromTop (valuesOf codes (p .rest)))) (st .operands))
+    left-only (λ os. withinOperands (afterPlain codes st p os)) (takeAll (c .types) (st .dead) (wantsAt (p .top) ++ (wantsAt (p .second) ++ fromTop (valuesOf codes (p .rest)))) (st .operands))
 
 module _ (rows codes work : List ℕ) (k : Scene) (st : Check) (p : Plain) where
-  planned : doPlan (contextAt rows codes work k) (stateAt work (k .locals) st) (plainOf codes p) ≡ andRuled (leftIn (takeAll (view rows codes) (st .dead) (wantsAt (p .top) ++ (wantsAt (p .second) ++ fromTop (valuesOf codes (p .rest)))) (stack work (st .base) (st .height)))) (λ os. within (afterPlain codes (stateAt work (k .locals) st) p os))
+  planned : doPlan (contextAt rows codes work k) (stateAt work (k .locals) st) (plainOf codes p) ≡ andRuled (leftIn (takeAll (view rows codes) (st .dead) (wantsAt (p .top) ++ (wantsAt (p .second) ++ fromTop (valuesOf codes (p .rest)))) (stack work (st .base) (st .height)))) (λ os. withinOperands (afterPlain codes (stateAt work (k .locals) st) p os))
   unfolding contextAt stateAt
   planned = plan-left codes (contextAt rows codes work k) (stateAt work (k .locals) st) p
 
@@ -92,7 +92,7 @@ module _ (rows codes : List ℕ) {work : List ℕ} (k : Scene) (st : Check) (p :
   pub plain-missing : r ≡ Left.the-variants.Missing → leftOf work (st .base) r ≡ leftIn (takeAll (view rows codes) (st .dead) (wantsAt (p .top) ++ (wantsAt (p .second) ++ fromTop (valuesOf codes (p .rest)))) (stack work (st .base) (st .height))) → {work′ : List ℕ} → work′ ≡ work → Stepped work work′ (k .locals) (st .depth) (doPlan (contextAt rows codes work k) (stateAt work (k .locals) st) (plainOf codes p)) (Step.the-variants.Fault badOperand)
   plain-missing m a e = stepped-fault (k .locals) (st .depth) e (sym (planned rows codes work k st p ∙ rw (sym a, m) refl))
 
-  pub plain-on : {left : ℕ} → r ≡ Left.the-variants.Is left → leftOf work (st .base) r ≡ leftIn (takeAll (view rows codes) (st .dead) (wantsAt (p .top) ++ (wantsAt (p .second) ++ fromTop (valuesOf codes (p .rest)))) (stack work (st .base) (st .height))) → {work′ : List ℕ} {step : Step} → Stepped work work′ (k .locals) (st .depth) (within (afterPlain codes (stateAt work (k .locals) st) p (stack work (st .base) left))) step → Stepped work work′ (k .locals) (st .depth) (doPlan (contextAt rows codes work k) (stateAt work (k .locals) st) (plainOf codes p)) step
+  pub plain-on : {left : ℕ} → r ≡ Left.the-variants.Is left → leftOf work (st .base) r ≡ leftIn (takeAll (view rows codes) (st .dead) (wantsAt (p .top) ++ (wantsAt (p .second) ++ fromTop (valuesOf codes (p .rest)))) (stack work (st .base) (st .height))) → {work′ : List ℕ} {step : Step} → Stepped work work′ (k .locals) (st .depth) (withinOperands (afterPlain codes (stateAt work (k .locals) st) p (stack work (st .base) left))) step → Stepped work work′ (k .locals) (st .depth) (doPlan (contextAt rows codes work k) (stateAt work (k .locals) st) (plainOf codes p)) step
   plain-on m a s = stepped-as (sym (planned rows codes work k st p ∙ rw (sym a, m) refl)) s
 
 -- a plan, by its kind

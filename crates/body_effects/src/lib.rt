@@ -8,7 +8,7 @@ use body_state::Scene;
 use body_state::Step;
 use scope::refusals;
 ghost use Rattle.scope.specs.BodyRules.{andRuled};
-ghost use Rattle.scope.specs.Bodies.{within, doPlan};
+ghost use Rattle.scope.specs.Bodies.{withinOperands, doPlan};
 ghost use Rattle.body_state.specs.State.{stack, plainOf, plannedOf, contextAt, stateAt, Upright, Stepped};
 ghost use Rattle.body_effects.specs.Effects.{afterPlain};
 
@@ -27,7 +27,7 @@ fn give_plain(
         let after = now (work .exit) in
         let state = stateAt before locals check in
         let planned = afterPlain (now (codes .entry)) state plan (stack before (check .base) left) in
-        ⌜ Stepped before after locals (check .depth) (within planned) r ⌝ }
+        ⌜ Stepped before after locals (check .depth) (withinOperands planned) r ⌝ }
 {
     let depth = check.depth;
     let base = check.base;

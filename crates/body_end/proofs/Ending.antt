@@ -9,7 +9,7 @@ use lib.Dec.{eqb}
 use Rattle.scope.specs.Refusals.{oversize, badOperand, valuesLeft}
 use Rattle.scope.specs.Syntax.{Val}
 use Rattle.scope.specs.BodyRules.{Context, Ruled, allowed, andRuled, fromTop}
-use Rattle.scope.specs.Bodies.{Operand, Frame, State, Taken, Next, goesOn, finished, onTop, takeAll, noneLeft, within, leave, close, judgeInstr}
+use Rattle.scope.specs.Bodies.{Operand, Frame, State, Taken, Next, goesOn, finished, onTop, takeAll, noneLeft, withinOperands, judgeBlockEnd, judgeEnd, judgeInstr}
 use Rattle.scope.specs.Instructions.{end}
 use Rattle.scope.proofs.Impossible.{contradiction}
 use Rattle.type_table.specs.View.{view}
@@ -76,7 +76,7 @@ module _ {work : List ℕ} {count m : ℕ} {st : Check} (i : Inner work count st
       let all : Rests work (suc (st .depth - 1)) (st .base) = rw one at (i .upright .rests) in
       rw (b .is, ← two) (around (st .depth - 1) all)
 
-  left-as : (vs : List Val) → steppedOut work count (st .depth) vs ≡ within (onThose work count (st .depth - 1) base height (onTop vs) (eqb w 1) (setsAt work (st .depth - 1 + 1) 0 count))
+  left-as : (vs : List Val) → steppedOut work count (st .depth) vs ≡ withinOperands (onThose work count (st .depth - 1) base height (onTop vs) (eqb w 1) (setsAt work (st .depth - 1 + 1) 0 count))
   unfolding steppedOut
   left-as vs =
       let one : st .depth - 1 + 1 ≡ st .depth = omega (arith, i .open′) in
@@ -100,8 +100,8 @@ module _ {work : List ℕ} {count m : ℕ} {st : Check} (i : Inner work count st
 
 -- the instruction
 
-close-frame : (c : Context) (s : State) (fs : List Frame) (isLoop : Bool) (rs : List Val) (os : List Operand) (dead : Bool) (isSet : List Bool) → close c s (frameOf isLoop rs os dead isSet ∷ fs) ≡ leave c s fs rs os dead isSet
-unfolding close
+close-frame : (c : Context) (s : State) (fs : List Frame) (isLoop : Bool) (rs : List Val) (os : List Operand) (dead : Bool) (isSet : List Bool) → judgeEnd c s (frameOf isLoop rs os dead isSet ∷ fs) ≡ judgeBlockEnd c s fs rs os dead isSet
+unfolding judgeEnd
 close-frame c s fs true rs os dead isSet = refl
 close-frame c s fs false rs os dead isSet = refl
 
@@ -111,7 +111,7 @@ inner-now u n = record { upright = u; open′ = omega (arith, n); number = refl 
 module _ {rows codes work : List ℕ} (scene : Scene) {st : Check} where
   module _ (e : st .depth ≡ 0) {r : End} (a : EndsWith rows codes work (Values.the-variants.Types (scene .first) (scene .results)) (st .base) (st .height) (st .dead) r) where
     own : judgeInstr (contextAt rows codes work scene) (stateAt work (scene .locals) st) end ≡ endFault r (allowed finished)
-    unfolding judgeInstr close contextAt stateAt framesAt valuesOf
+    unfolding judgeInstr judgeEnd contextAt stateAt framesAt valuesOf
     own = rw e (sym (a .is (allowed finished)))
 
     pub own-fault : {n : ℕ} → r ≡ End.the-variants.Fault n → Stepped work work (scene .locals) (st .depth) (judgeInstr (contextAt rows codes work scene) (stateAt work (scene .locals) st) end) (Step.the-variants.Fault n)
@@ -137,7 +137,7 @@ module _ {rows codes work : List ℕ} (scene : Scene) {st : Check} where
         let c = contextAt rows codes work scene in
         let s = stateAt work (scene .locals) st in
         let same : m - 1 ≡ st .depth = omega arith in
-        ap (close c s) innermost
+        ap (judgeEnd c s) innermost
         ∙ close-frame c s (framesAt work (scene .locals) (st .depth - 1)) (eqb (frameWord work m loopWord) 1) (resultsAt (frameWord work m resultWord)) (stack work (frameWord work m baseWord) (frameWord work m heightWord)) (eqb (frameWord work m deadWord) 1) (setsAt work (m - 1) 0 (scene .locals))
         ∙ rw (← l .is codes, same) (sym (a .is (steppedOut work (scene .locals) (st .depth) (valuesOf codes list))))
 

@@ -6,7 +6,7 @@ use mathlib.Core.List.{List, _++_}
 use lib.Dec.{eqb}
 use Rattle.scope.specs.Syntax.{Val}
 use Rattle.scope.specs.BodyRules.{Ruled, fault, andRuled, fromTop}
-use Rattle.scope.specs.Bodies.{onTop, takeAll, noneLeft, Next, within}
+use Rattle.scope.specs.Bodies.{onTop, takeAll, noneLeft, Next, withinOperands}
 use Rattle.type_table.specs.View.{view}
 use Rattle.body_state.specs.declared.Check.{Check}
 use Rattle.body_state.specs.declared.Values.{Values}
@@ -32,7 +32,7 @@ pub record Inner (work : List ℕ) (count : ℕ) (st : Check) (m : ℕ) : Type 0
 -- the state in the frame around, with the results as operands
 unfoldable pub steppedOut : List ℕ → ℕ → ℕ → List Val → Ruled Next
 steppedOut work count depth rs =
-    within
+    withinOperands
     (record {
       frames = framesAt work count (depth - 1);
       operands = onTop rs ++ stack work (frameWord work (depth + 1) baseWord) (frameWord work (depth + 1) heightWord);

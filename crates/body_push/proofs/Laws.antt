@@ -11,7 +11,7 @@ use Rattle.scope.specs.Refusals.{oversize}
 use Rattle.scope.specs.Lists.{sum}
 use Rattle.scope.specs.Syntax.{Val}
 use Rattle.scope.specs.BodyRules.{allowed, fault}
-use Rattle.scope.specs.Bodies.{Operand, known, onTop, outerOf, State, operandsIn, goesOn, within}
+use Rattle.scope.specs.Bodies.{Operand, known, onTop, outerOf, State, operandsIn, goesOn, withinOperands}
 use Rattle.body_state.specs.declared.Values.{Values}
 use Rattle.body_state.specs.State.{valuesOf, resultsAt, stack, framesAt, Rests}
 use Rattle.body_state.proofs.Alike.{stack-length, below-all}
@@ -39,12 +39,12 @@ module _ {work : List ℕ} {d base : ℕ} (rests : Rests work d base) (count hei
     on-top-all : operandsIn (onThose work count d base height (onTop vs) dead isSet) ≡ base + (height + length vs)
     on-top-all = let long : length (onTop vs) ≡ length vs = length-map (reverse vs) known ∙ length-reverse vs in operands-all (onTop vs) ∙ rw long
 
-    pub within-sizes : {work′ : List ℕ} {h : ℕ} → Gave work work′ base height vs h → within (onThose work count d base height (onTop vs) dead isSet) ≡ allowed (goesOn (onThose work count d base height (onTop vs) dead isSet))
+    pub within-sizes : {work′ : List ℕ} {h : ℕ} → Gave work work′ base height vs h → withinOperands (onThose work count d base height (onTop vs) dead isSet) ≡ allowed (goesOn (onThose work count d base height (onTop vs) dead isSet))
     within-sizes g =
         let l : operandsIn (onThose work count d base height (onTop vs) dead isSet) ≤ mostOperands = omega (arith, on-top-all, g .high, g .few) in
         rw (le-leb (operandsIn (onThose work count d base height (onTop vs) dead isSet)) mostOperands l)
 
-    pub beyond-sizes : {work′ : List ℕ} → TooMany work work′ base height vs → within (onThose work count d base height (onTop vs) dead isSet) ≡ fault oversize
+    pub beyond-sizes : {work′ : List ℕ} → TooMany work work′ base height vs → withinOperands (onThose work count d base height (onTop vs) dead isSet) ≡ fault oversize
     beyond-sizes t =
         let l : mostOperands < operandsIn (onThose work count d base height (onTop vs) dead isSet) = omega (arith, on-top-all, t .many) in
         rw (lt-leb (operandsIn (onThose work count d base height (onTop vs) dead isSet)) mostOperands l)

@@ -12,7 +12,7 @@ use Rattle.scope.specs.Sizes.{mostOperands}
 use Rattle.scope.specs.Refusals.{oversize, badOperand}
 use Rattle.scope.specs.Syntax.{nullable, nonNull, defined, exact}
 use Rattle.scope.specs.BodyRules.{value, allowed}
-use Rattle.scope.specs.Bodies.{known, fits, nonNullOf, takeAll, put, doPlan, State, goesOn, within}
+use Rattle.scope.specs.Bodies.{known, fits, nonNullOf, takeAll, put, doPlan, State, goesOn, withinOperands}
 use Rattle.scope.specs.Memory.{valCode}
 use Rattle.type_table.specs.View.{view}
 use Rattle.body_state.specs.declared.Check.{Check}
@@ -36,7 +36,7 @@ module _ {work : List ℕ} {count : ℕ} {st : Check} (u : Upright work count st
   high : length (operandAtCode o ∷ stack work (st .base) left) + st .base ≡ st .base + (left + 1)
   high = omega (arith, stack-length work (st .base) left)
 
-  pub put-full : mostOperands < st .base + (left + 1) → {work′ : List ℕ} → work′ ≡ work → Stepped work work′ count (st .depth) (within (withTop (stateAt work count st) (operandAtCode o) (stack work (st .base) left))) (Step.the-variants.Fault oversize)
+  pub put-full : mostOperands < st .base + (left + 1) → {work′ : List ℕ} → work′ ≡ work → Stepped work work′ count (st .depth) (withinOperands (withTop (stateAt work count st) (operandAtCode o) (stack work (st .base) left))) (Step.the-variants.Fault oversize)
   unfolding withTop stateAt
   put-full h e =
       let more = within-full count (st .depth) (u .rests) (operandAtCode o ∷ stack work (st .base) left) (st .dead) (setsAt work (st .depth + 1) 0 count) (omega (arith, high)) in
@@ -49,7 +49,7 @@ module _ {work : List ℕ} {count : ℕ} {st : Check} (u : Upright work count st
     pub put-fits : Fits w32 (left + 1)
     put-fits = record { fits = omega arith }
 
-    pub put-on : {work′ : List ℕ} → Pushed work work′ (st .base) left (left + 1) (operandAtCode (o % wordBound) ∷ []) → o < 2 ^ 32 → Stepped work work′ count (st .depth) (within (withTop (stateAt work count st) (operandAtCode o) (stack work (st .base) left))) (Step.the-variants.On (record { depth = st .depth; base = st .base; height = left + 1; dead = st .dead }))
+    pub put-on : {work′ : List ℕ} → Pushed work work′ (st .base) left (left + 1) (operandAtCode (o % wordBound) ∷ []) → o < 2 ^ 32 → Stepped work work′ count (st .depth) (withinOperands (withTop (stateAt work count st) (operandAtCode o) (stack work (st .base) left))) (Step.the-variants.On (record { depth = st .depth; base = st .base; height = left + 1; dead = st .dead }))
     unfolding withTop stateAt
     put-on {work′} p small =
         let low : o % wordBound ≡ o = mod-eq-of-lt (omega arith) in
@@ -74,11 +74,11 @@ module _ (rows codes : List ℕ) {work : List ℕ} (k : Scene) (st : Check) {r :
     descriptor-missing x y a e = stepped-fault (k .locals) (st .depth) e (let b = rw (m, wanted-x x) at a in rw (sym b))
 
   module _ {o left : ℕ} (t : r ≡ Take.the-variants.Took o left) where
-    pub non-null-on : tookOf work (st .base) r ≡ takeAll (view rows codes) (st .dead) (wantedAtCode 1 ∷ []) (stack work (st .base) (st .height)) → (word : ℕ) → operandAtCode word ≡ nonNullOf (operandAtCode o) → {work′ : List ℕ} {step : Step} → Stepped work work′ (k .locals) (st .depth) (within (withTop (stateAt work (k .locals) st) (operandAtCode word) (stack work (st .base) left))) step → Stepped work work′ (k .locals) (st .depth) (nonNullDone (contextAt rows codes work k) (stateAt work (k .locals) st)) step
+    pub non-null-on : tookOf work (st .base) r ≡ takeAll (view rows codes) (st .dead) (wantedAtCode 1 ∷ []) (stack work (st .base) (st .height)) → (word : ℕ) → operandAtCode word ≡ nonNullOf (operandAtCode o) → {work′ : List ℕ} {step : Step} → Stepped work work′ (k .locals) (st .depth) (withinOperands (withTop (stateAt work (k .locals) st) (operandAtCode word) (stack work (st .base) left))) step → Stepped work work′ (k .locals) (st .depth) (nonNullDone (contextAt rows codes work k) (stateAt work (k .locals) st)) step
     unfolding nonNullDone doPlan contextAt stateAt wantedAtCode withTop put
     non-null-on a word w s = stepped-as (let b = rw t at a in rw (sym b, w)) s
 
-    pub descriptor-on : (x y : ℕ) → tookOf work (st .base) r ≡ takeAll (view rows codes) (st .dead) (wantedAtCode (2 + (5 + 2 * (10 + 2 * x))) ∷ []) (stack work (st .base) (st .height)) → (word : ℕ) → operandAtCode word ≡ known (nonNull (cond (fits (view rows codes) (operandAtCode o) (value (nullable (exact x)))) (exact y) (defined y))) → {work′ : List ℕ} {step : Step} → Stepped work work′ (k .locals) (st .depth) (within (withTop (stateAt work (k .locals) st) (operandAtCode word) (stack work (st .base) left))) step → Stepped work work′ (k .locals) (st .depth) (descriptorDone x y (contextAt rows codes work k) (stateAt work (k .locals) st)) step
+    pub descriptor-on : (x y : ℕ) → tookOf work (st .base) r ≡ takeAll (view rows codes) (st .dead) (wantedAtCode (2 + (5 + 2 * (10 + 2 * x))) ∷ []) (stack work (st .base) (st .height)) → (word : ℕ) → operandAtCode word ≡ known (nonNull (cond (fits (view rows codes) (operandAtCode o) (value (nullable (exact x)))) (exact y) (defined y))) → {work′ : List ℕ} {step : Step} → Stepped work work′ (k .locals) (st .depth) (withinOperands (withTop (stateAt work (k .locals) st) (operandAtCode word) (stack work (st .base) left))) step → Stepped work work′ (k .locals) (st .depth) (descriptorDone x y (contextAt rows codes work k) (stateAt work (k .locals) st)) step
     unfolding descriptorDone doPlan contextAt stateAt withTop put
     descriptor-on x y a word w s = stepped-as (let b = rw (t, wanted-x x) at a in rw (sym b, w)) s
 

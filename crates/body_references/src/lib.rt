@@ -9,7 +9,7 @@ ghost use mathlib.Core.Path.{_≡_};
 ghost use mathlib.Core.Bool.{cond};
 ghost use Rattle.scope.specs.Syntax.{nullable, nonNull, defined, exact};
 ghost use Rattle.scope.specs.BodyRules.{value};
-ghost use Rattle.scope.specs.Bodies.{known, fits, nonNullOf, within};
+ghost use Rattle.scope.specs.Bodies.{known, fits, nonNullOf, withinOperands};
 ghost use Rattle.type_table.specs.View.{view};
 ghost use Rattle.body_state.specs.State.{operandAtCode, stack, contextAt, stateAt, Upright, Stepped};
 ghost use Rattle.body_references.specs.OneMore.{withTop, nonNullDone, descriptorDone};
@@ -29,7 +29,7 @@ fn put_operand(work: &mut [u32], locals: u16, check: Check, left: u32, o: u32) -
         let after = now (work .exit) in
         let state = stateAt before locals check in
         let put = withTop state (operandAtCode o) (stack before (check .base) left) in
-        ⌜ Stepped before after locals (check .depth) (within put) r ⌝ }
+        ⌜ Stepped before after locals (check .depth) (withinOperands put) r ⌝ }
 {
     let depth = check.depth;
     let base = check.base;

@@ -9,7 +9,7 @@ use Rattle.scope.specs.Sizes.{mostLocals, mostOperands}
 use Rattle.scope.specs.Refusals.{oversize}
 use Rattle.scope.specs.Lists.{sum}
 use Rattle.scope.specs.BodyRules.{Ruled, allowed, fault}
-use Rattle.scope.specs.Bodies.{Operand, outerOf, Next, goesOn, within}
+use Rattle.scope.specs.Bodies.{Operand, outerOf, Next, goesOn, withinOperands}
 use Rattle.scope.proofs.Impossible.{contradiction}
 use Rattle.body_state.specs.declared.Check.{Check}
 use Rattle.body_state.specs.declared.Step.{Step}
@@ -51,8 +51,8 @@ module _ {work : List ℕ} (count depth : ℕ) {base : ℕ} (r : Rests work dept
   all-operands : length os + sum (map (λ f. length (outerOf f)) (framesAt work count depth)) ≡ length os + base
   all-operands = ap (λ (n : ℕ). length os + n) (below-all count depth r)
 
-  pub within-on : length os + base ≤ mostOperands → within (record { frames = framesAt work count depth; operands = os; dead = dead; isSet = isSet }) ≡ allowed (goesOn (record { frames = framesAt work count depth; operands = os; dead = dead; isSet = isSet }))
+  pub within-on : length os + base ≤ mostOperands → withinOperands (record { frames = framesAt work count depth; operands = os; dead = dead; isSet = isSet }) ≡ allowed (goesOn (record { frames = framesAt work count depth; operands = os; dead = dead; isSet = isSet }))
   within-on h = rw (all-operands, le-leb (length os + base) mostOperands h)
 
-  pub within-full : mostOperands < length os + base → within (record { frames = framesAt work count depth; operands = os; dead = dead; isSet = isSet }) ≡ fault oversize
+  pub within-full : mostOperands < length os + base → withinOperands (record { frames = framesAt work count depth; operands = os; dead = dead; isSet = isSet }) ≡ fault oversize
   within-full h = rw (all-operands, lt-leb (length os + base) mostOperands h)

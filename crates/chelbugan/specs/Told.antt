@@ -6,7 +6,7 @@ use mathlib.Core.List.{List}
 use lib.ListN.{length}
 use Rattle.scope.specs.Memory.{wiped, tableRows, tableCodes}
 use Rattle.scope.specs.Bodies.{instructions}
-use Rattle.scope.specs.Answers.{verdictOf, after, sectionCall, askCall, askedOf, askTable, bodyCall, RunMemory, RunTried}
+use Rattle.scope.specs.Answers.{verdictOf, lentAfter, sectionCall, askCall, askedOf, askTable, bodyCall, RunMemory, RunTried}
 use Rattle.scope.specs.declared.Ran.{Ran}
 use Rattle.chelbugan_told.specs.Values.{verdictKind, verdictValues, askedKind, askedValues, RanTold}
 
@@ -14,15 +14,15 @@ use Rattle.chelbugan_told.specs.Values.{verdictKind, verdictValues, askedKind, 
 pub record SectionTold (s rows codes rows′ codes′ : List ℕ) (r : ℕ) (answer′ : List ℕ) : Type 0 where
   pub kind : r ≡ verdictKind (verdictOf length (sectionCall s rows codes))
   pub values : answer′ ≡ verdictValues (verdictOf length (sectionCall s rows codes))
-  pub rowsAfter : rows′ ≡ after tableRows rows (sectionCall s rows codes)
-  pub codesAfter : codes′ ≡ after tableCodes codes (sectionCall s rows codes)
+  pub rowsAfter : rows′ ≡ lentAfter tableRows rows (sectionCall s rows codes)
+  pub codesAfter : codes′ ≡ lentAfter tableCodes codes (sectionCall s rows codes)
 
 -- asking for a type: the same, as `TypeAsked` has it
 pub record TypeTold (s : List ℕ) (x : ℕ) (rows codes rows′ codes′ : List ℕ) (r : ℕ) (answer′ : List ℕ) : Type 0 where
   pub kind : r ≡ askedKind (askedOf (askCall s x rows codes))
   pub values : answer′ ≡ askedValues (askedOf (askCall s x rows codes))
-  pub rowsAfter : rows′ ≡ after tableRows rows (askTable s x rows codes)
-  pub codesAfter : codes′ ≡ after tableCodes codes (askTable s x rows codes)
+  pub rowsAfter : rows′ ≡ lentAfter tableRows rows (askTable s x rows codes)
+  pub codesAfter : codes′ ≡ lentAfter tableCodes codes (askTable s x rows codes)
 
 -- judging a body: the same, as `BodyJudged` has it
 pub record BodyTold (section s : List ℕ) (x : ℕ) (rows codes work rows′ codes′ work′ : List ℕ) (r : ℕ) (answer′ : List ℕ) : Type 0 where

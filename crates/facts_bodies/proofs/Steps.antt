@@ -13,11 +13,11 @@ use Rattle.scope.specs.Syntax.{Val}
 use Rattle.scope.specs.TypeRules.{valNames}
 use Rattle.scope.specs.Instructions.{Op, Instr, block, loop, end, op}
 use Rattle.scope.specs.BodyRules.{Context, Scope, Plan, Ruled, allowed, fromTop, reached}
-use Rattle.scope.specs.Bodies.{Operand, Taken, put, Frame, ofBlock, ofLoop, State, scopeOf, operandsIn, marked, Next, goesOn, within, after, doPlan, entered, noneLeft, ending, leave, close, judgeInstr}
+use Rattle.scope.specs.Bodies.{Operand, Taken, put, Frame, ofBlock, ofLoop, State, scopeOf, operandsIn, marked, Next, goesOn, withinOperands, afterPlan, doPlan, entered, noneLeft, ending, judgeBlockEnd, judgeEnd, judgeInstr}
 use Rattle.facts_bodies.specs.Premises.{Takes}
 use Rattle.facts_bodies.specs.Apart.{Sees}
 use Rattle.facts_bodies.specs.Rules.{Rule}
-use Rattle.facts_bodies.specs.Typing.{inside, past, Roomy, Opens, Results, TypedInstr, passes, stops, opens-block, opens-loop, ends-block, ends-loop, ends-body}
+use Rattle.facts_bodies.specs.Typing.{inside, pastBlock, Roomy, Opens, Results, TypedInstr, passes, stops, opens-block, opens-loop, ends-block, ends-loop, ends-body}
 use Rattle.facts_bodies.proofs.Ruled.{fault-is-not-allowed, same-allowed, test-passed, first-allowed}
 use Rattle.facts_bodies.proofs.Premises.{Ordered, tested-values-reached, values-reached-tested}
 use Rattle.facts_bodies.proofs.Apart.{scope-stands, only-scope, operands-stand, only-operands}
@@ -33,12 +33,12 @@ few-roomy {st} few = record { fewOperands = λ all. let same = only-operands all
 pub roomy-few : {st : State} → Roomy st → operandsIn st ≤ mostOperands
 roomy-few {st} r = r .fewOperands (operands-stand st)
 
-pub within-roomy : (st : State) {n : Next} → within st ≡ allowed n → Roomy st × (goesOn st ≡ n)
+pub within-roomy : (st : State) {n : Next} → withinOperands st ≡ allowed n → Roomy st × (goesOn st ≡ n)
 within-roomy st e =
     let (few, same) = test-passed _ _ _ e in
     (few-roomy (leb-true _ _ few), same-allowed same)
 
-pub roomy-within : {st : State} → Roomy st → within st ≡ allowed (goesOn st)
+pub roomy-within : {st : State} → Roomy st → withinOperands st ≡ allowed (goesOn st)
 roomy-within r = rw (le-leb _ _ (roomy-few r))
 
 module _ (c : Context) (st : State) where
@@ -82,15 +82,15 @@ module _ (c : Context) (st : State) where
       go t = none-left (t .left)
 
   leave-past : (fs : List Frame) (rs : List Val) (os : List Operand) (dead : Bool) (isSet : List Bool) {n : Next}
-      → leave c st fs rs os dead isSet ≡ allowed n
-      → Results c st rs × Roomy (past fs rs os dead isSet) × (goesOn (past fs rs os dead isSet) ≡ n)
+      → judgeBlockEnd c st fs rs os dead isSet ≡ allowed n
+      → Results c st rs × Roomy (pastBlock fs rs os dead isSet) × (goesOn (pastBlock fs rs os dead isSet) ≡ n)
   leave-past fs rs os dead isSet e =
       let (results, more) = ending-results rs _ e in
-      let (roomy, same) = within-roomy (past fs rs os dead isSet) more in
+      let (roomy, same) = within-roomy (pastBlock fs rs os dead isSet) more in
       (results, roomy, same)
 
-  closed-typed : (fs : List Frame) {n : Next} → st .frames ≡ fs → close c st fs ≡ allowed n → TypedInstr c st end n
-  unfolding close
+  closed-typed : (fs : List Frame) {n : Next} → st .frames ≡ fs → judgeEnd c st fs ≡ allowed n → TypedInstr c st end n
+  unfolding judgeEnd
   closed-typed [] p e =
       let (results, same) = ending-results (c .results) _ e in
       as-typed (ends-body p results) (same-allowed same)
@@ -115,7 +115,7 @@ module _ (c : Context) (st : State) where
     unfolding doPlan
     planned-typed {o} {p} rule e =
         let (t, took, more) = first-allowed _ _ e in
-        let (roomy, same) = within-roomy (after c st p t) more in
+        let (roomy, same) = within-roomy (afterPlan c st p t) more in
         as-typed (go t (allowed-takes (c .types) _ _ _ took) (p .stops) refl roomy) same
       where
         go : (t : Taken)
@@ -129,11 +129,11 @@ module _ (c : Context) (st : State) where
 
     planned : (p : Plan) {taken left : List Operand} {next : State}
         → Takes (c .types) (st .dead) (p .wants) (st .operands) taken left
-        → after c st p (record { taken = taken; left = left }) ≡ next
+        → afterPlan c st p (record { taken = taken; left = left }) ≡ next
         → Roomy next
         → doPlan c st p ≡ allowed (goesOn next)
     unfolding doPlan
-    planned p k e roomy = rw (takes-allowed ordered k) (ap within e ∙ roomy-within roomy)
+    planned p k e roomy = rw (takes-allowed ordered k) (ap withinOperands e ∙ roomy-within roomy)
 
     pub allowed-typed : (i : Instr) {n : Next} → judgeInstr c st i ≡ allowed n → TypedInstr c st i n
     unfolding judgeInstr
@@ -145,14 +145,14 @@ module _ (c : Context) (st : State) where
         planned-typed (planned-rule c (scopeOf c st) o plan) more
 
     pub typed-allowed : {i : Instr} {n : Next} → TypedInstr c st i n → judgeInstr c st i ≡ allowed n
-    unfolding judgeInstr close
+    unfolding judgeInstr judgeEnd
     typed-allowed (passes {p = p} seen rule s k puts roomy) = rw (derived-plan c (scopeOf c st) ordered (as-seen seen rule)) (planned p k (rw (s, puts-put ordered puts)) roomy)
     typed-allowed (stops {p = p} seen rule s k roomy) = rw (derived-plan c (scopeOf c st) ordered (as-seen seen rule)) (planned p k (rw s) roomy)
     typed-allowed (opens-block o) = opens-entered _ o
     typed-allowed (opens-loop o) = opens-entered _ o
-    typed-allowed (ends-block p results roomy) = ap (close c st) p ∙ results-ending _ results ∙ roomy-within roomy
-    typed-allowed (ends-loop p results roomy) = ap (close c st) p ∙ results-ending _ results ∙ roomy-within roomy
-    typed-allowed (ends-body p results) = ap (close c st) p ∙ results-ending _ results
+    typed-allowed (ends-block p results roomy) = ap (judgeEnd c st) p ∙ results-ending _ results ∙ roomy-within roomy
+    typed-allowed (ends-loop p results roomy) = ap (judgeEnd c st) p ∙ results-ending _ results ∙ roomy-within roomy
+    typed-allowed (ends-body p results) = ap (judgeEnd c st) p ∙ results-ending _ results
 
     pub allowed-exactly-when-typed : {i : Instr} {n : Next} → (judgeInstr c st i ≡ allowed n) ↔ TypedInstr c st i n
     allowed-exactly-when-typed {i} = (allowed-typed i, typed-allowed)

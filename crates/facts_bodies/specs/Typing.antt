@@ -34,8 +34,8 @@ abbrev pub inside : State → Frame → State
 inside st f = record { frames = f ∷ st .frames; operands = []; dead = false; isSet = st .isSet }
 
 -- past a block's end: its results lie on the operands around it; "sets inside a block are forgotten at its end"
-abbrev pub past : List Frame → List Val → List Operand → Bool → List Bool → State
-past fs rs os dead isSet = record { frames = fs; operands = onTop rs ++ os; dead = dead; isSet = isSet }
+abbrev pub pastBlock : List Frame → List Val → List Operand → Bool → List Bool → State
+pastBlock fs rs os dead isSet = record { frames = fs; operands = onTop rs ++ os; dead = dead; isSet = isSet }
 
 -- 512 operands in all frames after an instruction
 pub record Roomy (st : State) : Type 0 where
@@ -78,13 +78,13 @@ pub data TypedInstr (c : Context) (st : State) : Instr → Next → Type 0 where
   ends-block : {rs : List Val} {os : List Operand} {dead : Bool} {isSet : List Bool} {fs : List Frame}
       → st .frames ≡ ofBlock rs os dead isSet ∷ fs
       → Results c st rs
-      → Roomy (past fs rs os dead isSet)
-      → TypedInstr c st end (goesOn (past fs rs os dead isSet))
+      → Roomy (pastBlock fs rs os dead isSet)
+      → TypedInstr c st end (goesOn (pastBlock fs rs os dead isSet))
   ends-loop : {rs : List Val} {os : List Operand} {dead : Bool} {isSet : List Bool} {fs : List Frame}
       → st .frames ≡ ofLoop rs os dead isSet ∷ fs
       → Results c st rs
-      → Roomy (past fs rs os dead isSet)
-      → TypedInstr c st end (goesOn (past fs rs os dead isSet))
+      → Roomy (pastBlock fs rs os dead isSet)
+      → TypedInstr c st end (goesOn (pastBlock fs rs os dead isSet))
   ends-body : st .frames ≡ [] → Results c st (c .results) → TypedInstr c st end finished
 
 -- instructions up to the last `end`

@@ -20,7 +20,7 @@ use Rattle.scope.specs.Judging.{accepted, judgeSection}
 use Rattle.scope.specs.Bodies.{Body, instructions, judgeBody}
 use Rattle.scope.specs.Running.{programOf, startOf}
 use Rattle.scope.specs.Memory.{wiped, tableRows, tableCodes}
-use Rattle.scope.specs.Answers.{after, sectionCall, SectionJudged, askTable, TypeAsked, TypeHanded, BodyJudged, RunMemory, runCall, ranOf, stateAfter, RunTried}
+use Rattle.scope.specs.Answers.{lentAfter, sectionCall, SectionJudged, askTable, TypeAsked, TypeHanded, BodyJudged, RunMemory, runCall, ranOf, stateAfter, RunTried}
 use Rattle.scope.proofs.Computes.{computes}
 use Rattle.facts_sections.specs.FirstFault.{Refused}
 use Rattle.facts_sections.specs.Writing.{WritesDefinition}
@@ -46,7 +46,7 @@ abbrev codes : List ℕ
 codes = replicate codesSize 7
 
 abbrev judged : List ℕ → List ℕ → Verdict → Type 0
-judged s lent r = SectionJudged s lent codes (after tableRows lent (sectionCall s lent codes)) (after tableCodes codes (sectionCall s lent codes)) r
+judged s lent r = SectionJudged s lent codes (lentAfter tableRows lent (sectionCall s lent codes)) (lentAfter tableCodes codes (sectionCall s lent codes)) r
 
 -- two types, each the other's clause
 abbrev pair : List ℕ
@@ -201,14 +201,14 @@ two-stops = runs two-run .loopless (sample twoObjects) memory-suffices two-can-r
 
 -- asking: type 1 of the pair is `4C 00 5F 00`, from byte 7 to byte 11; there is no type 2
 
-pair-handed : TypeHanded pair 1 rows codes (after tableRows rows (askTable pair 1 rows codes)) (after tableCodes codes (askTable pair 1 rows codes)) (0x4C ∷ 0x00 ∷ 0x5F ∷ 0x00 ∷ [])
+pair-handed : TypeHanded pair 1 rows codes (lentAfter tableRows rows (askTable pair 1 rows codes)) (lentAfter tableCodes codes (askTable pair 1 rows codes)) (0x4C ∷ 0x00 ∷ 0x5F ∷ 0x00 ∷ [])
 unfolding computes
 pair-handed = record { bytes = refl; rowsAfter = refl; codesAfter = refl }
 
 abbrev second : Definition
 second = record { isOpen = false; supers = []; describes = some 0; descriptor = none; form = struct []; from = 7; to = 11; reach = 2 }
 
-pair-asked : TypeAsked pair 1 rows codes (after tableRows rows (askTable pair 1 rows codes)) (after tableCodes codes (askTable pair 1 rows codes)) (Asked.the-variants.Bytes 7 11)
+pair-asked : TypeAsked pair 1 rows codes (lentAfter tableRows rows (askTable pair 1 rows codes)) (lentAfter tableCodes codes (askTable pair 1 rows codes)) (Asked.the-variants.Bytes 7 11)
 unfolding computes
 pair-asked = record { answer = refl; rowsAfter = refl; codesAfter = refl }
 

@@ -17,7 +17,7 @@ use Rattle.scope.specs.Lists.{joined}
 use Rattle.scope.specs.Syntax.{Definition, typesOf}
 use Rattle.scope.specs.Judging.{Judged, accepted, rejected, andThen, judgeSection, askType, partOf}
 use Rattle.scope.specs.Memory.{filled, wiped, tableRows, tableCodes}
-use Rattle.scope.specs.Answers.{tableLent, lentEnough, after, sectionCall, askCall, askedOf, askedTypes, askTable, TypeAsked, TypeHanded}
+use Rattle.scope.specs.Answers.{tableLent, lentEnough, lentAfter, sectionCall, askCall, askedOf, askedTypes, askTable, TypeAsked, TypeHanded}
 use Rattle.scope.proofs.Computes.{computes}
 use Rattle.scope.proofs.Impossible.{contradiction}
 use Rattle.scope.proofs.Truths.{none-is-not-some}
@@ -159,10 +159,10 @@ module _ {s : List ℕ} {x : ℕ} {rows codes rows′ codes′ : List ℕ} {r : 
         refused = λ number place. (said, λ no′. promise .answer ∙ ap askedOf (says-no s x no′));
         table = λ ds d t a e.
             let call = table-said s x t a e in
-            (promise .rowsAfter ∙ ap (after tableRows rows) call, promise .codesAfter ∙ ap (after tableCodes codes) call);
+            (promise .rowsAfter ∙ ap (lentAfter tableRows rows) call, promise .codesAfter ∙ ap (lentAfter tableCodes codes) call);
         wipes = λ number place e.
             let call = table-no s x (said e) in
-            (promise .rowsAfter ∙ ap (after tableRows rows) call, promise .codesAfter ∙ ap (after tableCodes codes) call);
+            (promise .rowsAfter ∙ ap (lentAfter tableRows rows) call, promise .codesAfter ∙ ap (lentAfter tableCodes codes) call);
       }
 
 module _ {s : List ℕ} {x : ℕ} {rows codes rows′ codes′ part : List ℕ} (promise : TypeHanded s x rows codes rows′ codes′ part) where
@@ -181,7 +181,7 @@ module _ {s : List ℕ} {x : ℕ} {rows codes rows′ codes′ part : List ℕ} 
 
     row-says : (getElem? rows′ (beginsAt x) ≡ some (d .from)) × (getElem? rows′ (endsAt x) ≡ some (d .to))
     row-says =
-        let there = promise .rowsAfter ∙ ap (after tableRows rows) (table-said s x t (is .allowed) (is .present)) in
+        let there = promise .rowsAfter ∙ ap (lentAfter tableRows rows) (table-said s x t (is .allowed) (is .present)) in
         rw there (rows-say (is .types) 0 x _ (is .present))
 
   pub of-handed : OfHanded promise

@@ -21,7 +21,7 @@ use Rattle.scope.specs.Bodies.{Body, instructions, judgeBody}
 use Rattle.scope.specs.Machine.{Machine}
 use Rattle.scope.specs.Running.{Ending, done, trapped, spent, wrong, run, startOf, programOf, Trial, trialOf, withParameters, trialRun}
 use Rattle.scope.specs.Memory.{StateWords, filled, stateWords}
-use Rattle.scope.specs.Answers.{runLent, machineOf, endedAs, ranOf, runCall, stateAfter, RunMemory, RunTried}
+use Rattle.scope.specs.Answers.{runLent, machineOf, ranAs, ranOf, runCall, stateAfter, RunMemory, RunTried}
 use Rattle.scope.proofs.Soundness.{Trap, Runs, EndsWell, isDone, isTrapped, isSpent, RanSoundly, Soundness}
 use Rattle.scope.proofs.SoundnessHolds.{soundness}
 use Rattle.facts_bodies.specs.Premises.{Each, Default}
@@ -99,7 +99,7 @@ module _ (section s : List ℕ) (x budget : ℕ) where
 
 -- how it stops
 
-stopped : (s : List ℕ) {b : Body} {budget most : ℕ} (e : Ending) → EndsWell b budget e → counting.isSpent e ≡ false → stepsOf e ≤ most → Stops most (endedAs s e)
+stopped : (s : List ℕ) {b : Body} {budget most : ℕ} (e : Ending) → EndsWell b budget e → counting.isSpent e ≡ false → stepsOf e ≤ most → Stops most (ranAs s e)
 stopped s e (isDone few reaches ends typed) f within = stops-done within
 stopped s e (isTrapped few reaches traps trap typed) f within = stops-at-trap trap within
 stopped s e (isSpent reaches typed) f within = absurd (false≢true (sym f))

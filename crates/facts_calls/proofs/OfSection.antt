@@ -11,7 +11,7 @@ use Rattle.scope.specs.Refusals.{bufferTooSmall}
 use Rattle.scope.specs.Syntax.{Definition}
 use Rattle.scope.specs.Judging.{Judged, accepted, rejected, judgeSection}
 use Rattle.scope.specs.Memory.{filled, wiped, tableRows, tableCodes}
-use Rattle.scope.specs.Answers.{tableLent, verdictOf, after, sectionCall, SectionJudged}
+use Rattle.scope.specs.Answers.{tableLent, verdictOf, lentAfter, sectionCall, SectionJudged}
 use Rattle.facts_sections.specs.Allowed.{Allowed}
 use Rattle.facts_sections.specs.FirstFault.{Refused}
 use Rattle.facts_sections.proofs.Exactly.{accepted-exactly}
@@ -60,10 +60,10 @@ module _ {s rows codes rows′ codes′ : List ℕ} {r : Verdict} (promise : Sec
         accepted = λ n. (yes-allowed n, allowed-yes n);
         table = λ ds t a.
             let call = called ds t a in
-            (promise .rowsAfter ∙ ap (after tableRows rows) call, promise .codesAfter ∙ ap (after tableCodes codes) call);
+            (promise .rowsAfter ∙ ap (lentAfter tableRows rows) call, promise .codesAfter ∙ ap (lentAfter tableCodes codes) call);
         never = λ n number place t a e. accepted-is-not-rejected (sym (called (a .types) t (a .allowed)) ∙ said e);
         short = (λ e. fourteen 0 e .0, λ t. says (too-short t));
         only = fourteen;
         refused = λ number place t. (λ e. refused-exactly s number place .0 (sym (own-call t) ∙ said e), λ e. says (own-call t ∙ refused-exactly s number place .1 e));
-        wipes = λ number place e. (promise .rowsAfter ∙ ap (after tableRows rows) (said e), promise .codesAfter ∙ ap (after tableCodes codes) (said e));
+        wipes = λ number place e. (promise .rowsAfter ∙ ap (lentAfter tableRows rows) (said e), promise .codesAfter ∙ ap (lentAfter tableCodes codes) (said e));
       }

@@ -11,7 +11,7 @@ use Rattle.scope.specs.declared.Ran
 use Rattle.scope.specs.Refusals.{bufferTooSmall}
 use Rattle.scope.specs.Judging.{Judged, accepted, rejected}
 use Rattle.scope.specs.Running.{Ending, done, trapped, spent, wrong, Trial}
-use Rattle.scope.specs.Answers.{lentEnough, verdictOf, endedAs, ranOf}
+use Rattle.scope.specs.Answers.{lentEnough, verdictOf, ranAs, ranOf}
 use Rattle.scope.proofs.Impossible.{contradiction}
 
 pub same-accepted : {A : Type 0} {x y : A} → accepted x ≡ accepted y → x ≡ y
@@ -30,7 +30,7 @@ module _ {A : Type 0} (count : A → ℕ) where
   verdict-no (rejected k q) {n} {p} e = let number : k ≡ n = cc in let place : q ≡ p = cc in rw (number, place)
 
 module _ (s : List ℕ) where
-  ended-is-not-refused : (e : Ending) {n p : ℕ} → endedAs s e ≡ Ran.the-variants.Refused n p → ⊥
+  ended-is-not-refused : (e : Ending) {n p : ℕ} → ranAs s e ≡ Ran.the-variants.Refused n p → ⊥
   ended-is-not-refused (done steps m) f = contradiction cc
   ended-is-not-refused (trapped number steps m) f = contradiction cc
   ended-is-not-refused (spent steps m) f = contradiction cc

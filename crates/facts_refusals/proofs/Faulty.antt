@@ -19,7 +19,7 @@ use Rattle.scope.specs.Syntax.{Val, Types}
 use Rattle.scope.specs.TypeRules.{valNames}
 use Rattle.scope.specs.Instructions.{Op, Instr, block, loop, end, op, instrAt}
 use Rattle.scope.specs.BodyRules.{Context, Wanted, Plan, Ruled, allowed, fault, test, andRuled, fromTop, reached, planOf}
-use Rattle.scope.specs.Bodies.{Operand, unknown, fits, Taken, alsoTaken, takeAll, put, Frame, ofBlock, ofLoop, State, scopeOf, operandsIn, marked, Next, goesOn, finished, within, after, doPlan, entered, noneLeft, ending, leave, close, judgeInstr, Code, onRuled, onNext, judgeFrom}
+use Rattle.scope.specs.Bodies.{Operand, unknown, fits, Taken, alsoTaken, takeAll, put, Frame, ofBlock, ofLoop, State, scopeOf, operandsIn, marked, Next, goesOn, finished, withinOperands, afterPlan, doPlan, entered, noneLeft, ending, judgeBlockEnd, judgeEnd, judgeInstr, Code, onRuled, onNext, judgeFrom}
 use Rattle.scope.proofs.Impossible.{contradiction}
 use Rattle.scope.proofs.Forward.{never-back}
 use Rattle.scope.proofs.ForwardBodies.{instr-takes}
@@ -27,7 +27,7 @@ use Rattle.facts_sections.specs.FirstFault as rules
 use Rattle.facts_sections.specs.FirstFault.{AllKept, all-kept, kept-and, FirstBroken, broken, kept-then}
 use Rattle.facts_bodies.specs.Premises.{Each, ValReached, Takes, Puts}
 use Rattle.facts_bodies.specs.Rules.{Rule}
-use Rattle.facts_bodies.specs.Typing.{passed, stopped, past, Roomy, Results, TypedInstr, InstrsAt, no-instr, next-instr}
+use Rattle.facts_bodies.specs.Typing.{passed, stopped, pastBlock, Roomy, Results, TypedInstr, InstrsAt, no-instr, next-instr}
 use Rattle.facts_bodies.proofs.Ruled.{fault-is-not-allowed, same-allowed}
 use Rattle.facts_bodies.proofs.Premises.{Ordered, tested-values-reached, values-reached-tested}
 use Rattle.facts_bodies.proofs.Planned.{planned-rule}
@@ -102,44 +102,44 @@ module _ (c : Context) (st : State) (ordered : Ordered (c .types)) where
         go : OperandsThere c st p → (t : Taken) × (takeAll (c .types) (st .dead) (p .wants) (st .operands) ≡ allowed t)
         go (operands-there k) = (_, takes-allowed ordered k)
 
-    room-said : (t : Taken) → takeAll (c .types) (st .dead) (p .wants) (st .operands) ≡ allowed t → leb (operandsIn (after c st p t)) mostOperands ≡ true → Room c st o
+    room-said : (t : Taken) → takeAll (c .types) (st .dead) (p .wants) (st .operands) ≡ allowed t → leb (operandsIn (afterPlan c st p t)) mostOperands ≡ true → Room c st o
     room-said t e few =
         record {
           goingOn = λ {p = q} r goes k puts.
-              let here : Roomy (after c st p t) = few-roomy (leb-true _ _ few) in
+              let here : Roomy (afterPlan c st p t) = few-roomy (leb-true _ _ few) in
               on-going q (same-plan r) goes k puts here;
           stopping = λ {p = q} r stops k.
-              let here : Roomy (after c st p t) = few-roomy (leb-true _ _ few) in
+              let here : Roomy (afterPlan c st p t) = few-roomy (leb-true _ _ few) in
               on-stopping q (same-plan r) stops here;
         }
       where
         on-going : (q : Plan) {taken left out : List Operand} → p ≡ q → q .stops ≡ false
-            → Takes (c .types) (st .dead) (q .wants) (st .operands) taken left → Puts (c .types) (q .gives) taken out → Roomy (after c st p t) → Roomy (passed st q out left)
+            → Takes (c .types) (st .dead) (q .wants) (st .operands) taken left → Puts (c .types) (q .gives) taken out → Roomy (afterPlan c st p t) → Roomy (passed st q out left)
         on-going q {taken} {left} {out} same goes k puts here =
             let one : t ≡ record { taken = taken; left = left } = same-taken e (rw same k) in
-            let so : after c st p t ≡ passed st q out left = rw (one, same, goes, puts-put ordered puts) in
+            let so : afterPlan c st p t ≡ passed st q out left = rw (one, same, goes, puts-put ordered puts) in
             subst Roomy so here
 
-        on-stopping : (q : Plan) → p ≡ q → q .stops ≡ true → Roomy (after c st p t) → Roomy (stopped st q)
+        on-stopping : (q : Plan) → p ≡ q → q .stops ≡ true → Roomy (afterPlan c st p t) → Roomy (stopped st q)
         on-stopping q same stops here =
-            let so : after c st p t ≡ stopped st q = rw (same, stops) in
+            let so : afterPlan c st p t ≡ stopped st q = rw (same, stops) in
             subst Roomy so here
 
-    room-tested : (t : Taken) → takeAll (c .types) (st .dead) (p .wants) (st .operands) ≡ allowed t → Room c st o → leb (operandsIn (after c st p t)) mostOperands ≡ true
+    room-tested : (t : Taken) → takeAll (c .types) (st .dead) (p .wants) (st .operands) ≡ allowed t → Room c st o → leb (operandsIn (afterPlan c st p t)) mostOperands ≡ true
     room-tested t e room = go (p .stops) refl
       where
         k : Takes (c .types) (st .dead) (p .wants) (st .operands) (t .taken) (t .left)
         k = takes-of (p .wants) t e
 
-        few : Roomy (after c st p t) → leb (operandsIn (after c st p t)) mostOperands ≡ true
+        few : Roomy (afterPlan c st p t) → leb (operandsIn (afterPlan c st p t)) mostOperands ≡ true
         few r = le-leb _ _ (roomy-few r)
 
-        go : (b : Bool) → p .stops ≡ b → leb (operandsIn (after c st p t)) mostOperands ≡ true
+        go : (b : Bool) → p .stops ≡ b → leb (operandsIn (afterPlan c st p t)) mostOperands ≡ true
         go true stops =
-            let so : after c st p t ≡ stopped st p = rw stops in
+            let so : afterPlan c st p t ≡ stopped st p = rw stops in
             few (subst Roomy (sym so) (room .stopping rule-here stops k))
         go false goes =
-            let so : after c st p t ≡ passed st p (put (c .types) (p .gives) (t .taken)) (t .left) = rw goes in
+            let so : afterPlan c st p t ≡ passed st p (put (c .types) (p .gives) (t .taken)) (t .left) = rw goes in
             few (subst Roomy (sym so) (room .goingOn rule-here goes k (rule-puts ordered rule-here k)))
 
     plan-done : Judges (doPlan c st p) (record { says = Operands c st o; number = badOperand } ∷ record { says = Room c st o; number = oversize } ∷ [])
@@ -184,16 +184,16 @@ module _ (c : Context) (st : State) (ordered : Ordered (c .types)) where
       go (o ∷ os) q m = says-no (broken (some-left q))
 
   past-block-tested : {rs : List Val} {os : List Operand} {dead : Bool} {isSet : List Bool} {fs : List Frame}
-      → RoomPast (ofBlock rs os dead isSet ∷ fs) → leb (operandsIn (past fs rs os dead isSet)) mostOperands ≡ true
+      → RoomPast (ofBlock rs os dead isSet ∷ fs) → leb (operandsIn (pastBlock fs rs os dead isSet)) mostOperands ≡ true
   past-block-tested (past-block r) = le-leb _ _ (roomy-few r)
 
   past-loop-tested : {rs : List Val} {os : List Operand} {dead : Bool} {isSet : List Bool} {fs : List Frame}
-      → RoomPast (ofLoop rs os dead isSet ∷ fs) → leb (operandsIn (past fs rs os dead isSet)) mostOperands ≡ true
+      → RoomPast (ofLoop rs os dead isSet ∷ fs) → leb (operandsIn (pastBlock fs rs os dead isSet)) mostOperands ≡ true
   past-loop-tested (past-loop r) = le-leb _ _ (roomy-few r)
 
-  close-asked : (fs : List Frame) → Judges (close c st fs)
+  close-asked : (fs : List Frame) → Judges (judgeEnd c st fs)
       (record { says = CanTake c st (resultsOf c fs); number = badOperand } ∷ record { says = Results c st (resultsOf c fs); number = valuesLeft } ∷ record { says = RoomPast fs; number = oversize } ∷ [])
-  unfolding close
+  unfolding judgeEnd
   close-asked [] =
       took (fromTop (c .results)) (can-said (c .results)) (can-tested (c .results)) (λ t e.
       none-left (c .results) t e (says-yes (kept-and past-body all-kept)))

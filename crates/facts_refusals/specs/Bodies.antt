@@ -22,7 +22,7 @@ use Rattle.facts_sections.specs.FirstFault.{FirstBroken}
 use Rattle.facts_sections.specs.FirstFault as rules
 use Rattle.facts_bodies.specs.Premises.{Each, ValReached, Takes, Puts}
 use Rattle.facts_bodies.specs.Rules.{Rule}
-use Rattle.facts_bodies.specs.Typing.{passed, stopped, past, Roomy, Results, TypedInstr, TypedBody, Entry, Locals, EntriesAt, InstrsAt, FunctionType}
+use Rattle.facts_bodies.specs.Typing.{passed, stopped, pastBlock, Roomy, Results, TypedInstr, TypedBody, Entry, Locals, EntriesAt, InstrsAt, FunctionType}
 use Rattle.facts_refusals.specs.Numbers.{ByteFault, InstructionFault, EntryNumber}
 use Rattle.facts_refusals.specs.Sections.{SaysNo}
 use Rattle.facts_refusals.specs.Instructions.{numberOf, asks, rising, askedRules}
@@ -54,8 +54,8 @@ resultsOf c (ofLoop rs os dead isSet ∷ fs) = rs
 -- 4 at an `end`: the function's own leaves nothing behind it
 pub data RoomPast : List Frame → Type 0 where
   past-body : RoomPast []
-  past-block : {rs : List Val} {os : List Operand} {dead : Bool} {isSet : List Bool} {fs : List Frame} → Roomy (past fs rs os dead isSet) → RoomPast (ofBlock rs os dead isSet ∷ fs)
-  past-loop : {rs : List Val} {os : List Operand} {dead : Bool} {isSet : List Bool} {fs : List Frame} → Roomy (past fs rs os dead isSet) → RoomPast (ofLoop rs os dead isSet ∷ fs)
+  past-block : {rs : List Val} {os : List Operand} {dead : Bool} {isSet : List Bool} {fs : List Frame} → Roomy (pastBlock fs rs os dead isSet) → RoomPast (ofBlock rs os dead isSet ∷ fs)
+  past-loop : {rs : List Val} {os : List Operand} {dead : Bool} {isSet : List Bool} {fs : List Frame} → Roomy (pastBlock fs rs os dead isSet) → RoomPast (ofLoop rs os dead isSet ∷ fs)
 
 -- the conditions of an instruction, in document 01's order
 

@@ -15,7 +15,7 @@ use Rattle.scope.specs.TypeRules.{valNames}
 use Rattle.scope.specs.Judging.{accepted, judgeSection}
 use Rattle.scope.specs.Instructions.{Op, Instr, block, loop, end, op, instrAt}
 use Rattle.scope.specs.BodyRules.{Context, Plan, Ruled, fromTop, reached, planOf}
-use Rattle.scope.specs.Bodies.{Operand, onTop, scopeOf, Frame, ofBlock, ofLoop, State, operandsIn, Next, goesOn, finished, within, after, takeAll, doPlan, entered, ending, noneLeft, leave, close, judgeInstr, Code, onNext, judgeFrom, localsAt, functionOf, Body, startState, contextOf, bodyAt, judgeBody}
+use Rattle.scope.specs.Bodies.{Operand, onTop, scopeOf, Frame, ofBlock, ofLoop, State, operandsIn, Next, goesOn, finished, withinOperands, afterPlan, takeAll, doPlan, entered, ending, noneLeft, judgeBlockEnd, judgeEnd, judgeInstr, Code, onNext, judgeFrom, localsAt, functionOf, Body, startState, contextOf, bodyAt, judgeBody}
 use Rattle.facts_runs.specs.Counting.{hasLoop}
 use Rattle.facts_runs.proofs.Straight.{Ahead, last, closing, opening, plain}
 use Rattle.facts_runs.proofs.Verdicts.{Allows, allowing, faulting, Reads, reading, refusing, Accepts, rejecting, allows-test, allows-and, reads-then, reads-after, reads-ruled, reads-cond, accepts-read, accepts-then, accepts-given, accepts-cond, accepted-is}
@@ -29,12 +29,12 @@ data Frames : ℕ → Instr → Next → Type 0 where
   all-out : Frames zero end finished
 
 module _ (c : Context) where
-  within-frames : {d : ℕ} {i : Instr} (st : State) → Frames d i (goesOn st) → Allows (Frames d i) (within st)
+  within-frames : {d : ℕ} {i : Instr} (st : State) → Frames d i (goesOn st) → Allows (Frames d i) (withinOperands st)
   within-frames st f = allows-test (leb (operandsIn st) mostOperands) _ (allowing f)
 
   plan-frames : (st : State) {o : Op} (p : Plan) → Allows (Frames (length (st .frames)) (op o)) (doPlan c st p)
   unfolding doPlan
-  plan-frames st p = allows-and (takeAll (c .types) (st .dead) (p .wants) (st .operands)) (λ t. within-frames (after c st p t) as-many)
+  plan-frames st p = allows-and (takeAll (c .types) (st .dead) (p .wants) (st .operands)) (λ t. within-frames (afterPlan c st p t) as-many)
 
   enter-frames : {i : Instr} {d : ℕ} (names : List ℕ) (st : State) (f : Frame)
       → Frames d i (goesOn (record { frames = f ∷ st .frames; operands = []; dead = false; isSet = st .isSet }))
@@ -50,11 +50,11 @@ module _ (c : Context) where
       go [] = a
       go (o ∷ os) = faulting
 
-  leave-frames : (st : State) (fs : List Frame) (rs : List Val) (os : List Operand) (dead : Bool) (isSet : List Bool) → Allows (Frames (suc (length fs)) end) (leave c st fs rs os dead isSet)
+  leave-frames : (st : State) (fs : List Frame) (rs : List Val) (os : List Operand) (dead : Bool) (isSet : List Bool) → Allows (Frames (suc (length fs)) end) (judgeBlockEnd c st fs rs os dead isSet)
   leave-frames st fs rs os dead isSet = let later : State = record { frames = fs; operands = onTop rs ++ os; dead = dead; isSet = isSet } in end-frames st rs (within-frames later one-out)
 
-  close-frames : (st : State) (fs : List Frame) → Allows (Frames (length fs) end) (close c st fs)
-  unfolding close
+  close-frames : (st : State) (fs : List Frame) → Allows (Frames (length fs) end) (judgeEnd c st fs)
+  unfolding judgeEnd
   close-frames st [] = end-frames st (c .results) (allowing all-out)
   close-frames st (ofBlock rs os dead isSet ∷ fs) = leave-frames st fs rs os dead isSet
   close-frames st (ofLoop rs os dead isSet ∷ fs) = leave-frames st fs rs os dead isSet

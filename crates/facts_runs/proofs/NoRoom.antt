@@ -17,7 +17,7 @@ use Rattle.scope.specs.Lists.{sum}
 use Rattle.scope.specs.Syntax.{Heap, Number, i32, i64, f32, f64, Val, Field, Form, struct, func, Types}
 use Rattle.scope.specs.BodyRules.{fieldsOf, holdsOf}
 use Rattle.scope.specs.Instructions.{Op, unreachable, nop, return, drop-value, br, br-if, local-get, local-set, local-tee, i32-const, ref-null, ref-is-null, ref-eq, ref-as-non-null, struct-new, struct-new-default, struct-get, struct-set, ref-test, ref-cast, br-on-cast, br-on-cast-fail, struct-new-desc, struct-new-default-desc, ref-get-desc, ref-cast-desc-eq, br-on-cast-desc-eq, br-on-cast-desc-eq-fail}
-use Rattle.scope.specs.Machine.{Value, number, null, object, Object, Store, Block, openBlock, openLoop, Machine, Program, Outcome, goes, ends, traps, stuck, withOperands, withHeap, onI32, onReference, onObject, onTaken, truth, splitTop, cellsOf, hasRoom, make, makeGiven, defaultsOf, defaultOf, makeDefault, onDescriptor, passes, passesDescriptor, onSet, finish, jump, branch, doOp}
+use Rattle.scope.specs.Machine.{Value, number, null, object, Object, Store, Block, openBlock, openLoop, Machine, Program, Outcome, goes, ends, traps, stuck, withOperands, withHeap, onI32, onReference, onObject, onTaken, truth, splitTop, cellsOf, hasRoom, make, makeGiven, defaultsOf, defaultOf, makeDefault, onDescriptor, castPasses, descriptorCastPasses, onSet, finish, jump, branch, doOp}
 use Rattle.scope.proofs.Impossible.{contradiction}
 use Rattle.scope.proofs.Truths.{none-is-not-some, from-both, both, decided}
 use Rattle.facts_runs.specs.Counting.{makesObject}
@@ -114,12 +114,12 @@ other-descriptor vs {f} k = other-taken vs (λ v below. other-reference v (λ r.
     go none below = is-43
     go (some o) below = k o below
 
-other-passes : (ts : Types) (os : Store) (n : Bool) (h : Heap) (v : Value) {f : Bool → Outcome} → ((b : Bool) → Other (f b)) → Other (passes ts os n h v f)
+other-passes : (ts : Types) (os : Store) (n : Bool) (h : Heap) (v : Value) {f : Bool → Outcome} → ((b : Bool) → Other (f b)) → Other (castPasses ts os n h v f)
 other-passes ts os n h (number k m) f = is-stuck
 other-passes ts os n h null f = f n
 other-passes ts os n h (object o) f = other-given (getElem? os o) (λ x. f _)
 
-other-passes-descriptor : (os : Store) (n : Bool) (d : ℕ) (v : Value) {f : Bool → Outcome} → ((b : Bool) → Other (f b)) → Other (passesDescriptor os n d v f)
+other-passes-descriptor : (os : Store) (n : Bool) (d : ℕ) (v : Value) {f : Bool → Outcome} → ((b : Bool) → Other (f b)) → Other (descriptorCastPasses os n d v f)
 other-passes-descriptor os n d (number k m) f = is-stuck
 other-passes-descriptor os n d null f = f n
 other-passes-descriptor os n d (object o) f = other-given (getElem? os o) (λ x. f _)

@@ -17,7 +17,7 @@ use Rattle.scope.specs.Order.{heapBelow}
 use Rattle.scope.specs.Instructions.{Op, unreachable, nop, return, drop-value, br, br-if, local-get, local-set, local-tee, i32-const, ref-null, ref-is-null, ref-eq, ref-as-non-null, struct-new, struct-new-default, struct-get, struct-set, ref-test, ref-cast, br-on-cast, br-on-cast-fail, struct-new-desc, struct-new-default-desc, ref-get-desc, ref-cast-desc-eq, br-on-cast-desc-eq, br-on-cast-desc-eq-fail, Instr, block, loop, end, op}
 use Rattle.scope.specs.BodyRules.{fieldsOf, holdsOf}
 use Rattle.scope.specs.Bodies.{Code}
-use Rattle.scope.specs.Machine.{Value, number, null, object, Object, Store, Block, openBlock, openLoop, Machine, Program, Outcome, goes, ends, traps, stuck, truth, withControl, onI32, onReference, onObject, onTaken, splitTop, make, hasRoom, defaultsOf, makeGiven, makeDefault, onDescriptor, passes, isVery, passesDescriptor, finish, jump, branch, close, doOp, doInstr, stepOn, step}
+use Rattle.scope.specs.Machine.{Value, number, null, object, Object, Store, Block, openBlock, openLoop, Machine, Program, Outcome, goes, ends, traps, stuck, truth, withControl, onI32, onReference, onObject, onTaken, splitTop, make, hasRoom, defaultsOf, makeGiven, makeDefault, onDescriptor, castPasses, isVery, descriptorCastPasses, finish, jump, branch, doEnd, doOp, doInstr, stepOn, step}
 use Rattle.facts_runs.specs.Counting.{makesObject, isAllocation, startsWithAllocation, allocates, oneMoreIf}
 use Rattle.facts_runs.proofs.Straight.{Straight, past-no-longer, straight-op, straight-block, straight-no-loop, straight-end, no-loop-open, Seeks, seeks-first, seeks-next, found-block, found-no-loop}
 
@@ -69,10 +69,10 @@ module _ {P Q : Machine → Type 0} where
   on-tested os nullToo test v f =
       on-reference v (λ r. on-given r (f nullToo) (λ o. on-given (getElem? os o) failing (λ it. f (test it))))
 
-  on-passes : (ts : Types) (os : Store) (nullToo : Bool) (h : Heap) (v : Value) {f : Bool → Outcome} → ((b : Bool) → Comes P Q (f b)) → Comes P Q (passes ts os nullToo h v f)
+  on-passes : (ts : Types) (os : Store) (nullToo : Bool) (h : Heap) (v : Value) {f : Bool → Outcome} → ((b : Bool) → Comes P Q (f b)) → Comes P Q (castPasses ts os nullToo h v f)
   on-passes ts os nullToo h v f = on-tested os nullToo (λ it. heapBelow ts (exact (it .type)) h) v f
 
-  on-descriptor-passes : (os : Store) (nullToo : Bool) (d : ℕ) (v : Value) {f : Bool → Outcome} → ((b : Bool) → Comes P Q (f b)) → Comes P Q (passesDescriptor os nullToo d v f)
+  on-descriptor-passes : (os : Store) (nullToo : Bool) (d : ℕ) (v : Value) {f : Bool → Outcome} → ((b : Bool) → Comes P Q (f b)) → Comes P Q (descriptorCastPasses os nullToo d v f)
   on-descriptor-passes os nullToo d v f = on-tested os nullToo (λ it. isVery (it .descriptor) d) v f
 
   on-descriptor : (vs : List Value) {f : ℕ → List Value → Outcome} → ((d : ℕ) (below : List Value) → Comes P Q (f d below)) → Comes P Q (onDescriptor vs f)
@@ -188,7 +188,7 @@ module _ (p : Program) (m : Machine) where
 
   -- One step: `m` is the machine past its instruction, and what is fine is said of the machine before it
 
-  closes : (at : ℕ) (bs : List Block) → Comes (Went false (Straight bs ((at, end) ∷ m .code)) m) (Grown false m) (close p m bs)
+  closes : (at : ℕ) (bs : List Block) → Comes (Went false (Straight bs ((at, end) ∷ m .code)) m) (Grown false m) (doEnd p m bs)
   closes at [] = finishes (m .operands)
   closes at (openBlock place n below ∷ bs) = going (record { objects = refl; onward = λ fine. record { straight = straight-end fine; noLonger = le-refl _ } })
   closes at (openLoop place below again ∷ bs) = going (record { objects = refl; onward = λ fine. absurd (no-loop-open (fine .blocks)) })

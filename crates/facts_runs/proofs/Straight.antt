@@ -9,7 +9,7 @@ use lib.ListN.{length}
 use Rattle.scope.specs.Syntax.{Val}
 use Rattle.scope.specs.Instructions.{Op, block, loop, end, op}
 use Rattle.scope.specs.Bodies.{Code}
-use Rattle.scope.specs.Machine.{Value, Block, openBlock, openLoop, endsLeft, past}
+use Rattle.scope.specs.Machine.{Value, Block, openBlock, openLoop, endsLeft, pastEnds}
 
 -- with so many blocks open
 pub data Ahead : ℕ → Code → Type 0 where
@@ -31,24 +31,24 @@ pub record Straight (bs : List Block) (code : Code) : Type 0 where
   pub blocks : Blocks bs depth
   pub ahead : Ahead depth code
 
-past-none : (code : Code) → past zero code ≡ code
-unfolding past
+past-none : (code : Code) → pastEnds zero code ≡ code
+unfolding pastEnds
 past-none [] = refl
 past-none (i ∷ code) = refl
 
-pub past-ahead : {e : ℕ} {code : Code} → Ahead e code → (n d : ℕ) → e ≡ suc n + d → Ahead d (past (suc n) code)
-unfolding past
+pub past-ahead : {e : ℕ} {code : Code} → Ahead e code → (n d : ℕ) → e ≡ suc n + d → Ahead d (pastEnds (suc n) code)
+unfolding pastEnds
 past-ahead last n d q = absurd (omega arith)
 past-ahead (closing {d = e} {code = code} a) zero d q = let same : d ≡ e = omega arith in rw (past-none code, same) a
 past-ahead (closing a) (suc n) d q = past-ahead a n d (omega arith)
 past-ahead (opening a) n d q = past-ahead a (suc n) d (omega arith)
 past-ahead (plain a) n d q = past-ahead a n d q
 
-pub past-no-longer : (n : ℕ) (code : Code) → length (past n code) ≤ length code
-unfolding past
+pub past-no-longer : (n : ℕ) (code : Code) → length (pastEnds n code) ≤ length code
+unfolding pastEnds
 past-no-longer n [] = le-refl 0
 past-no-longer zero (i ∷ code) = le-refl _
-past-no-longer (suc n) (i ∷ code) = let h : length (past (endsLeft (i .1) n) code) ≤ length code = past-no-longer _ code in omega arith
+past-no-longer (suc n) (i ∷ code) = let h : length (pastEnds (endsLeft (i .1) n) code) ≤ length code = past-no-longer _ code in omega arith
 
 pub straight-some : {bs : List Block} {code : Code} → Straight bs code → 1 ≤ length code
 straight-some s = go (s .ahead)
@@ -107,7 +107,7 @@ module _ {l : ℕ} {code : Code} {bs : List Block} where
       let (e, outer, q) = one-fewer (s .blocks) in
       record { depth = s .depth; ahead = s .ahead; left = e; blocks = outer; same = omega arith }
 
-  pub found-block : {at n : ℕ} {below : List Value} → Seeks l code (openBlock at n below ∷ bs) zero → Straight bs (past (suc l) code)
+  pub found-block : {at n : ℕ} {below : List Value} → Seeks l code (openBlock at n below ∷ bs) zero → Straight bs (pastEnds (suc l) code)
   found-block s =
       let (e, outer, q) = one-fewer (s .blocks) in
       record { depth = e; blocks = outer; ahead = past-ahead (s .ahead) l e (omega arith) }

@@ -12,7 +12,7 @@ use lib.ListN.{length, getElem?}
 use lib.Dec.{ltb}
 use borrow.Author.Tests.{ltb-true, ltb-false, leb-true, lt-ltb, le-ltb, le-leb}
 use Rattle.scope.specs.Reading.{got, Reader}
-use Rattle.scope.specs.Numbers.{Bits, bits, cut, long, under, bitsAt, greatestLength, inRange, unsigned, Whole, plus, minus, signed-of, within, signed}
+use Rattle.scope.specs.Numbers.{Bits, bits, cut, long, under, bitsAt, greatestLength, inRange, unsigned, Whole, plus, minus, signed-of, withinSigned, signed}
 use Rattle.scope.proofs.Impossible.{contradiction}
 use Rattle.facts_sections.specs.Writing.{Sevens, last-seven, seven-more, Unsigned, a-natural, Signed, not-negative, negative, Anywhere}
 use Rattle.facts_sections.proofs.Between.{Between, nothing, byte}
@@ -134,27 +134,27 @@ unsigned-reads width = record {
 
 -- sN
 
-whole-standing : {width : ℕ} {w : List ℕ} {x : Whole} → Signed width w x → Standing width signed-of (within width) w x
+whole-standing : {width : ℕ} {w : List ℕ} {x : Whole} → Signed width w x → Standing width signed-of (withinSigned width) w x
 whole-standing {width} {w} (not-negative {v = v} sevens short positive small) =
     record { bits-value = v; sevens = sevens; short = short; meant = rw (lt-ltb v (2 ^ (7 * length w - 1)) positive); ranged = lt-ltb v (2 ^ (width - 1)) small }
 whole-standing {width} {w} (negative {v = v} sevens short signed small) =
     record { bits-value = v; sevens = sevens; short = short; meant = rw (le-ltb v (2 ^ (7 * length w - 1)) signed); ranged = le-leb (2 ^ (7 * length w) - v) (2 ^ (width - 1)) small }
 
-standing-whole : (width : ℕ) (w : List ℕ) (x : Whole) → Standing width signed-of (within width) w x → Signed width w x
+standing-whole : (width : ℕ) (w : List ℕ) (x : Whole) → Standing width signed-of (withinSigned width) w x → Signed width w x
 standing-whole width w x n = go (ltb (n .bits-value) (2 ^ (7 * length w - 1))) refl (n .meant)
   where
     go : (t : Bool) → ltb (n .bits-value) (2 ^ (7 * length w - 1)) ≡ t
         → cond t (plus (n .bits-value)) (minus (2 ^ (7 * length w) - n .bits-value)) ≡ x → Signed width w x
     go true q e =
-        let fits : within width (plus (n .bits-value)) ≡ true = ap (within width) e ∙ n .ranged in
+        let fits : withinSigned width (plus (n .bits-value)) ≡ true = ap (withinSigned width) e ∙ n .ranged in
         rw (← e) (not-negative (n .sevens) (n .short) (ltb-true _ _ q) (ltb-true _ _ fits))
     go false q e =
-        let fits : within width (minus (2 ^ (7 * length w) - n .bits-value)) ≡ true = ap (within width) e ∙ n .ranged in
+        let fits : withinSigned width (minus (2 ^ (7 * length w) - n .bits-value)) ≡ true = ap (withinSigned width) e ∙ n .ranged in
         rw (← e) (negative (n .sevens) (n .short) (ltb-false _ _ q) (leb-true _ _ fits))
 
 pub signed-reads : (width : ℕ) → Reads (Anywhere (Signed width)) AnySize (signed width)
 unfolding signed
 signed-reads width = record {
-  sound = number-sound width signed-of (within width) (standing-whole width);
-  complete = λ stretch writes small. number-complete width signed-of (within width) stretch (whole-standing writes);
+  sound = number-sound width signed-of (withinSigned width) (standing-whole width);
+  complete = λ stretch writes small. number-complete width signed-of (withinSigned width) stretch (whole-standing writes);
 }

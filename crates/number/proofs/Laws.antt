@@ -8,7 +8,7 @@ use lib.Dec.{ltb, leb}
 use borrow.Author.Tests.{ltb-true, leb-true}
 use Rattle.scope.specs.Refusals.{badNumber}
 use Rattle.scope.specs.Reading.{Read, got, refused}
-use Rattle.scope.specs.Numbers.{Bits, bits, cut, long, bitsAt, greatestLength, inRange, Whole, plus, minus, signed-of, within, unsigned, signed, u32, s33}
+use Rattle.scope.specs.Numbers.{Bits, bits, cut, long, bitsAt, greatestLength, inRange, Whole, plus, minus, signed-of, withinSigned, unsigned, signed, u32, s33}
 use Rattle.scope.proofs.Forward.{unsigned-takes, signed-takes, never-back}
 use Rattle.scope.proofs.Impossible.{impossible}
 use Rattle.number.specs.declared.Natural.{Natural}
@@ -59,11 +59,11 @@ unsigned-small width s at {v} e = ltb-true v (2 ^ width) (range-kept at (bitsAt 
 
 pub signed-small : (width : ℕ) (s : List ℕ) (at : ℕ) {v next : ℕ} → signed width s at ≡ got (plus v) next → v < 2 ^ (width - 1)
 unfolding signed
-signed-small width s at {v} e = ltb-true v (2 ^ (width - 1)) (range-kept at (bitsAt (greatestLength width) s at) signed-of (within width) e)
+signed-small width s at {v} e = ltb-true v (2 ^ (width - 1)) (range-kept at (bitsAt (greatestLength width) s at) signed-of (withinSigned width) e)
 
 pub signed-least : (width : ℕ) (s : List ℕ) (at : ℕ) {v next : ℕ} → signed width s at ≡ got (minus v) next → v ≤ 2 ^ (width - 1)
 unfolding signed
-signed-least width s at {v} e = leb-true v (2 ^ (width - 1)) (range-kept at (bitsAt (greatestLength width) s at) signed-of (within width) e)
+signed-least width s at {v} e = leb-true v (2 ^ (width - 1)) (range-kept at (bitsAt (greatestLength width) s at) signed-of (withinSigned width) e)
 
 -- a number read by `u32_at`, and a type number read by `s33_at`
 

@@ -12,7 +12,7 @@ use lib.Dec.{ltb, leb, lit≤}
 use borrow.Author.Tests.{lt-ltb, le-ltb, le-leb, lt-leb}
 use Rattle.scope.specs.Refusals.{bytesEnd, badNumber}
 use Rattle.scope.specs.Reading.{Read, got, refused}
-use Rattle.scope.specs.Numbers.{Bits, bits, cut, long, bitsAt, greatestLength, inRange, Whole, plus, minus, signed-of, within, unsigned, signed, u32, s32, s33}
+use Rattle.scope.specs.Numbers.{Bits, bits, cut, long, bitsAt, greatestLength, inRange, Whole, plus, minus, signed-of, withinSigned, unsigned, signed, u32, s32, s33}
 use Rattle.scope.proofs.Forward.{Takes, unsigned-takes, signed-takes, never-back}
 use Rattle.scope.proofs.Impossible.{impossible}
 use Rattle.number.specs.declared.Leb.{Leb}
@@ -124,15 +124,15 @@ pub ruleset signed-exits = (plus-fits, plus-beyond, minus-fits, minus-beyond, un
 
 -- signed_at, over the width: one to which five bytes are the greatest length
 
-same-range : (half width : ℕ) → half ≡ 2 ^ (width - 1) → (w : Whole) → inHalf half w ≡ within width w
+same-range : (half width : ℕ) → half ≡ 2 ^ (width - 1) → (w : Whole) → inHalf half w ≡ withinSigned width w
 same-range half width h (plus v) = rw h
 same-range half width h (minus v) = rw h
 
-range-is : (at half width : ℕ) → half ≡ 2 ^ (width - 1) → (v k n : ℕ) → rangeOf at half v k n ≡ inRange at (bits v k n) signed-of (within width)
+range-is : (at half width : ℕ) → half ≡ 2 ^ (width - 1) → (v k n : ℕ) → rangeOf at half v k n ≡ inRange at (bits v k n) signed-of (withinSigned width)
 unfolding rangeOf
 range-is at half width h v k n = rw (same-range half width h (signed-of v k))
 
-signed-is : (width : ℕ) (s : List ℕ) (at : ℕ) {o : Bits} → greatestLength width ≡ 5 → bitsAt 5 s at ≡ o → signed width s at ≡ inRange at o signed-of (within width)
+signed-is : (width : ℕ) (s : List ℕ) (at : ℕ) {o : Bits} → greatestLength width ≡ 5 → bitsAt 5 s at ≡ o → signed width s at ≡ inRange at o signed-of (withinSigned width)
 unfolding signed
 signed-is width s at l e = rw (l, e)
 

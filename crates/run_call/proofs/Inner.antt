@@ -11,7 +11,7 @@ use Rattle.scope.specs.Judging.{Judged, rejected}
 use Rattle.scope.specs.Running as running
 use Rattle.scope.specs.Running.{Trial}
 use Rattle.scope.specs.Memory.{StateWords, stateWords, filled}
-use Rattle.scope.specs.Answers.{machineOf, endedAs}
+use Rattle.scope.specs.Answers.{machineOf, ranAs}
 use Rattle.run_stack.specs.Pile.{LocalRoom, Started}
 use Rattle.run_state.specs.declared.Stage.{Stage}
 use Rattle.run_state.specs.Machines.{words, machineAt, Valued}
@@ -59,7 +59,7 @@ module _ {s rows codes ends : List ℕ} {count : ℕ} {c o e l p b : List ℕ} {
         let written = settled-told settled told in
         let machine = last-machine in
         record {
-          answer = tells ∙ told-ending s count (words o′ e′ l′ p′ b′) first ended (ran .told) ∙ ap (endedAs s) (ran .is);
+          answer = tells ∙ told-ending s count (words o′ e′ l′ p′ b′) first ended (ran .told) ∙ ap (ranAs s) (ran .is);
           written =
               rw (← machine)
               (record {
@@ -103,7 +103,7 @@ module _ {s rows codes work ends : List ℕ} {count : ℕ} {c o e l p b : List �
           is = λ body placing.
               let same = trial-is (placing .table) (placing .function) (placing .locals) started o e p b budget in
               record {
-                answer = a .answer ∙ ap (endedAs s) (sym same);
+                answer = a .answer ∙ ap (ranAs s) (sym same);
                 counts = a .written .counts ∙ ap (λ (x : running.Ending). filled c (stateWords s (machineOf x) .counts)) (sym same);
                 objects = a .written .objects ∙ ap (λ (x : running.Ending). filled o (stateWords s (machineOf x) .objects)) (sym same);
                 cells = a .written .cells ∙ ap (λ (x : running.Ending). filled e (stateWords s (machineOf x) .cells)) (sym same);

@@ -12,7 +12,7 @@ use Rattle.scope.specs.Layout.{countsSize, objectsSize, cellsSize, localsSize, 
 use Rattle.scope.specs.Judging.{Judged, accepted, rejected}
 use Rattle.scope.specs.Running.{Trial, trialRun}
 use Rattle.scope.specs.Memory.{StateWords, stateWords, filled, wiped}
-use Rattle.scope.specs.Answers.{after, lentEnough, stateLent, runCall, machineOf, ranOf, RunTried}
+use Rattle.scope.specs.Answers.{lentAfter, lentEnough, stateLent, runCall, machineOf, ranOf, RunTried}
 use Rattle.scope.proofs.Truths.{from-both}
 use Rattle.run_buffers.specs.States.{stateOf, memory, Cleared}
 use Rattle.run_limits.specs.Limits.{scratchLent}
@@ -82,10 +82,10 @@ cleared-zeroed {state} z =
     }
 
 -- the words of a buffer afterwards depend on its length alone
-after-wiped : {A : Type 0} (words : A → List ℕ) (m : List ℕ) {m₁ : List ℕ} {j j₁ : Judged A} → m₁ ≡ wiped m → j₁ ≡ j → after words m₁ j₁ ≡ after words m j
-after-wiped words m {m₁} {j} e f = ap (after words m₁) f ∙ go j
+after-wiped : {A : Type 0} (words : A → List ℕ) (m : List ℕ) {m₁ : List ℕ} {j j₁ : Judged A} → m₁ ≡ wiped m → j₁ ≡ j → lentAfter words m₁ j₁ ≡ lentAfter words m j
+after-wiped words m {m₁} {j} e f = ap (lentAfter words m₁) f ∙ go j
   where
-    go : (j : Judged _) → after words m₁ j ≡ after words m j
+    go : (j : Judged _) → lentAfter words m₁ j ≡ lentAfter words m j
     go (accepted a) = filled-long m m₁ (words a) (wiped-long m e)
     go (rejected n p) = rw (wiped-long m e)
 

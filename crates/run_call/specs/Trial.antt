@@ -10,7 +10,7 @@ use Rattle.scope.specs.Bodies.{Body}
 use Rattle.scope.specs.Running as running
 use Rattle.scope.specs.Running.{run, trialOf, Trial}
 use Rattle.scope.specs.Memory.{StateWords, stateWords, wiped}
-use Rattle.scope.specs.Answers.{after, RunMemory, runCall, machineOf, endedAs, ranOf}
+use Rattle.scope.specs.Answers.{lentAfter, RunMemory, runCall, machineOf, ranAs, ranOf}
 use Rattle.scope.specs.Layout.{countsSize, objectsSize, cellsSize, localsSize, operandsSize, blocksSize}
 use Rattle.run_ends.specs.Matching.{EndsOf}
 use Rattle.run_state.specs.Machines.{Words, words, machineAt, programAt, startStage}
@@ -44,12 +44,12 @@ pub record Zeroed (state : StateWords) : Type 0 where
 -- the answer and each buffer of the state are those of a verdict
 pub record Tried (s : List ℕ) (want : Judged Trial) (state state′ : StateWords) (r : Ran) : Type 0 where
   pub answer : r ≡ ranOf s want
-  pub counts : state′ .counts ≡ after (λ t. stateWords s (machineOf (t .ending)) .counts) (state .counts) want
-  pub objects : state′ .objects ≡ after (λ t. stateWords s (machineOf (t .ending)) .objects) (state .objects) want
-  pub cells : state′ .cells ≡ after (λ t. stateWords s (machineOf (t .ending)) .cells) (state .cells) want
-  pub locals : state′ .locals ≡ after (λ t. stateWords s (machineOf (t .ending)) .locals) (state .locals) want
-  pub operands : state′ .operands ≡ after (λ t. stateWords s (machineOf (t .ending)) .operands) (state .operands) want
-  pub blocks : state′ .blocks ≡ after (λ t. stateWords s (machineOf (t .ending)) .blocks) (state .blocks) want
+  pub counts : state′ .counts ≡ lentAfter (λ t. stateWords s (machineOf (t .ending)) .counts) (state .counts) want
+  pub objects : state′ .objects ≡ lentAfter (λ t. stateWords s (machineOf (t .ending)) .objects) (state .objects) want
+  pub cells : state′ .cells ≡ lentAfter (λ t. stateWords s (machineOf (t .ending)) .cells) (state .cells) want
+  pub locals : state′ .locals ≡ lentAfter (λ t. stateWords s (machineOf (t .ending)) .locals) (state .locals) want
+  pub operands : state′ .operands ≡ lentAfter (λ t. stateWords s (machineOf (t .ending)) .operands) (state .operands) want
+  pub blocks : state′ .blocks ≡ lentAfter (λ t. stateWords s (machineOf (t .ending)) .blocks) (state .blocks) want
 
 -- the run
 
@@ -63,7 +63,7 @@ runHere s rows codes count state results first budget =
     run (programAt rows codes results) budget 0 (machineAt s count (wordsOf state) (startStage first))
 
 pub record RunStarted (s rows codes : List ℕ) (count : ℕ) (state state′ : StateWords) (results first budget : ℕ) (r : Ran) : Type 0 where
-  pub answer : r ≡ endedAs s (runHere s rows codes count state results first budget)
+  pub answer : r ≡ ranAs s (runHere s rows codes count state results first budget)
   pub written : Written (stateWords s (machineOf (runHere s rows codes count state results first budget))) state state′
 
 -- the run of a body whose parts are at hand

@@ -9,7 +9,7 @@ use mir.Syntax.{w32}
 use mir.Val.{Fits}
 use Rattle.scope.specs.Instructions.{end}
 use Rattle.scope.specs.Bodies.{Code}
-use Rattle.scope.specs.Machine.{Value, Block, Machine, Program, goes, ends, withControl, finish, close, doInstr}
+use Rattle.scope.specs.Machine.{Value, Block, Machine, Program, goes, ends, withControl, finish, doEnd, doInstr}
 use Rattle.run_values.specs.Layout.{kindWord, placeWord, belowWord}
 use Rattle.run_stack.specs.Pile.{pile, Lower, Moved}
 use Rattle.run_stack.proofs.Laws.{pile-join, split-some, split-none}
@@ -58,9 +58,9 @@ pub ruleset finish-exits = (finish-short, finish-fits, finish-lower, finish-done
 -- the innermost block is left, whatever its kind
 close-block :
     (s : List ℕ) (p : Program) (m : Machine) (kind at : ℕ) (below : List Value) (bs : List Block)
-    → close p m (blockOf s kind at below ∷ bs) ≡ goes (withControl m (m .operands ++ below) bs (m .code))
+    → doEnd p m (blockOf s kind at below ∷ bs) ≡ goes (withControl m (m .operands ++ below) bs (m .code))
 close-block s p m kind at below bs =
-    either-block (λ b. close p m (b ∷ bs) ≡ goes (withControl m (m .operands ++ below) bs (m .code))) s kind at below (λ again. refl) (λ n. refl)
+    either-block (λ b. doEnd p m (b ∷ bs) ≡ goes (withControl m (m .operands ++ below) bs (m .code))) s kind at below (λ again. refl) (λ n. refl)
 
 pub close-piled : {operands blocks : List ℕ} {st : Stage} → Closable operands blocks st → Piled operands (atHeight st (st .height))
 close-piled c = record { room = c .piled .room; canon = c .piled .canon; high = c .piled .high }
@@ -73,7 +73,7 @@ close-last {operands} {st = st} e f blocks next =
     record {
       is = λ s ends p m framed read results bytes c.
           let none : m .blocks ≡ [] = c .opened ∙ ap (blocksAt s blocks operands) e in
-          control-for (ap (close p m) none ∙ ap (finish p m) (c .values)) (f .is s ends blocks p m results bytes);
+          control-for (ap (doEnd p m) none ∙ ap (finish p m) (c .values)) (f .is s ends blocks p m results bytes);
     }
 
 module _ {operands blocks : List ℕ} {st : Stage} (c : Closable operands blocks st) (n : st .depth ≡ 0 → ⊥) {lowest : ℕ} (l : lowest ≡ lower blocks (st .depth - 1)) where
@@ -101,7 +101,7 @@ module _ {operands blocks : List ℕ} {st : Stage} (c : Closable operands blocks
             ap (λ (vs : List Value). vs ++ pile operands lowest (st .base - lowest)) (k .values ∙ ap (λ (x : ℕ). pile operands x (st .height)) (sym from)) ∙ pile-join operands lowest (st .base - lowest) (st .height) in
             control-goes _
             (sym
-            (ap (close p m) opened
+            (ap (doEnd p m) opened
             ∙ close-block s p m (blockWord blocks (st .depth - 1) kindWord) (blockWord blocks (st .depth - 1) placeWord) (pile operands lowest (st .base - lowest)) (blocksAt s blocks operands (st .depth - 1))
             ∙ ap₂ (λ (vs : List Value) (code : Code). goes (withControl m vs (blocksAt s blocks operands (st .depth - 1)) code)) values (k .code)))
             (record { room = c .piled .room; canon = rw all (c .piled .canon); high = rw all (c .piled .high) })

@@ -9,7 +9,7 @@ use Rattle.scope.specs.Reading.{got, given}
 use Rattle.scope.specs.Syntax.{Val}
 use Rattle.scope.specs.Instructions.{block, loop, instrAt}
 use Rattle.scope.specs.Bodies.{Code}
-use Rattle.scope.specs.Machine.{Value, Block, openBlock, openLoop, Machine, Program, goes, stuck, withControl, splitTop, past, finish, jump, branch}
+use Rattle.scope.specs.Machine.{Value, Block, openBlock, openLoop, Machine, Program, goes, stuck, withControl, splitTop, pastEnds, finish, jump, branch}
 use Rattle.scope.proofs.Impossible.{impossible}
 use Rattle.run_values.specs.Layout.{kindWord, placeWord, belowWord}
 use Rattle.run_stack.specs.Pile.{pile}
@@ -48,7 +48,7 @@ module _ (p : Program) (m : Machine) (label : ℕ) (vs : List Value) where
 
   jump-block :
       (at n : ℕ) (below : List Value) (bs : List Block)
-      → jump p m label (openBlock at n below ∷ bs) vs 0 ≡ given (splitTop n vs) stuck (λ s. goes (withControl m (s .0 ++ below) bs (past (suc label) (m .code))))
+      → jump p m label (openBlock at n below ∷ bs) vs 0 ≡ given (splitTop n vs) stuck (λ s. goes (withControl m (s .0 ++ below) bs (pastEnds (suc label) (m .code))))
   unfolding jump
   jump-block at n below bs = refl
 
@@ -93,7 +93,7 @@ module _ {s ends operands blocks : List ℕ} {st : Stage} (p : Program) (m : Mac
 
   pub reaches-block :
       (vs : List Value) {rs : List Val} {next : ℕ} → instrAt s (blockWord blocks d placeWord) ≡ got (block rs) next
-      → branch p m l vs ≡ given (splitTop (length rs) vs) stuck (λ parts. goes (withControl m (parts .0 ++ lying operands blocks d) (blocksAt s blocks operands d) (past (suc l) (m .code))))
+      → branch p m l vs ≡ given (splitTop (length rs) vs) stuck (λ parts. goes (withControl m (parts .0 ++ lying operands blocks d) (blocksAt s blocks operands d) (pastEnds (suc l) (m .code))))
   reaches-block vs {rs} read =
       reaches vs
       ∙ ap (λ (b : Block). jump p m l (b ∷ blocksAt s blocks operands d) vs 0) (opened-block (target d l is f .opened) read (lying operands blocks d))

@@ -10,7 +10,7 @@ use mir.Val.{Fits}
 use borrow.Author.Tests.{eq-eqb, ne-eqb}
 use Rattle.scope.specs.Layout.{blockSpan}
 use Rattle.scope.specs.Syntax.{Val}
-use Rattle.scope.specs.Machine.{past}
+use Rattle.scope.specs.Machine.{pastEnds}
 use Rattle.run_values.specs.Layout.{placeWord, belowWord}
 use Rattle.lent_u16.specs.Words.{WordAt}
 use Rattle.body_immediates.specs.Coding.{resultCode}
@@ -94,7 +94,7 @@ module _ {operands blocks : List ℕ} (st : Stage) {left d : ℕ} (e : Descends 
                       let at : to ≡ getD ends (blockWord blocks d placeWord) 0 = v .is ∙ ap (λ (k : ℕ). getD ends k 0) (w .is) in
                       let values : pile operands′ lowest (below - lowest + takes) ≡ pile operands (st .base + (left - takes)) takes ++ pile operands lowest (below - lowest) = moved-onto lowest (below - lowest) (rw whole moved) in
                       let same : blocksAt s blocks operands′ d ≡ blocksAt s blocks operands d = operands-same operands operands′ d (t .nested) (λ i k. moved .below i (omega (arith, b .is, t .low))) in
-                      let code : past (suc l) (m .code) ≡ codeAt s to = ap (past (suc l)) (c .code) ∙ t .landing ∙ ap (codeAt s) (sym at) in
+                      let code : pastEnds (suc l) (m .code) ≡ codeAt s to = ap (pastEnds (suc l)) (c .code) ∙ t .landing ∙ ap (codeAt s) (sym at) in
                       control-goes _
                       (sym
                       (reaches-block p m d l is f c (pile operands (st .base) left) read

@@ -5,7 +5,7 @@ use mathlib.Core.List.{List, _∷_}
 use Rattle.scope.specs.declared.Ran.{Ran}
 use Rattle.scope.specs.declared.Ran
 use Rattle.scope.specs.Memory.{stateWords}
-use Rattle.scope.specs.Answers.{machineOf, endedAs}
+use Rattle.scope.specs.Answers.{machineOf, ranAs}
 use Rattle.run_stack.proofs.Laws.{pile-length}
 use Rattle.run_state.specs.Machines.{Words, machineAt}
 use Rattle.run_state.specs.Written.{StateTold}
@@ -21,7 +21,7 @@ head-same e = cc
 pub told-ending :
     (s : List ℕ) (count : ℕ) (w : Words) (first : ℕ) (ended : Ending)
     → StateTold count w (stageOf first ended) (stateWords s (machineAt s count w (stageOf first ended)))
-    → tellOf first ended ≡ endedAs s (endingAt s count w first ended)
+    → tellOf first ended ≡ ranAs s (endingAt s count w first ended)
 unfolding endingAt stateWords machineAt
 told-ending s count w first (Ending.the-variants.Done st steps) t = ap (Ran.the-variants.Done steps) (sym (pile-length (w .operands) (st .base) (st .height)))
 told-ending s count w first (Ending.the-variants.Trapped number st steps) t = ap (λ (place : ℕ). Ran.the-variants.Trapped number place steps) (sym (head-same (t .counts)))

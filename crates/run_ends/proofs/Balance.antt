@@ -8,7 +8,7 @@ use lib.ListN.{length}
 use Rattle.scope.specs.Reading.{Read, got, refused, then}
 use Rattle.scope.specs.Instructions.{Instr, block, loop, end, op, instrAt}
 use Rattle.scope.specs.BodyRules.{Context, Ruled, allowed, fault, fromTop}
-use Rattle.scope.specs.Bodies.{Frame, ofBlock, ofLoop, State, Next, goesOn, finished, Code, onRuled, onNext, takeAll, close, judgeInstr, judgeFrom}
+use Rattle.scope.specs.Bodies.{Frame, ofBlock, ofLoop, State, Next, goesOn, finished, Code, onRuled, onNext, takeAll, judgeEnd, judgeInstr, judgeFrom}
 use Rattle.scope.proofs.Telling.{Allows, this, after-and, whatever}
 use Rattle.scope.proofs.Standing.{Accepts, last as judged-last, next as judged-next, judged-accepts, after-none-left, leftOf, KeepsFrames, keepsFrames, Enters, enters, Leaves, op-keeps, block-enters, loop-enters, end-leaves, after-end, finished-goes-not-on}
 use Rattle.scope.proofs.Impossible.{impossible}
@@ -64,8 +64,8 @@ one-fewer (ofLoop rs os dead isSet) fs b = b
 
 module _ (c : Context) (st : State) where
   -- the function's own end is the last
-  own-end : Allows (λ n. n ≡ finished) (close c st [])
-  unfolding close
+  own-end : Allows (λ n. n ≡ finished) (judgeEnd c st [])
+  unfolding judgeEnd
   own-end =
       after-and (takeAll (c .types) (st .dead) (fromTop (c .results)) (st .operands)) whatever (λ t v.
       after-none-left (t .left) (λ none-left. this refl))
@@ -77,7 +77,7 @@ module _ (c : Context) (st : State) where
   last-balanced at (loop rs) e = let k : Enters (st .frames) finished = loop-enters c st rs .tells finished e in elim k [ ]
   last-balanced at end e = go (st .frames) e
     where
-      go : (fs : List Frame) → close c st fs ≡ allowed finished → Balanced (length fs) ((at, end) ∷ [])
+      go : (fs : List Frame) → judgeEnd c st fs ≡ allowed finished → Balanced (length fs) ((at, end) ∷ [])
       go [] f = last
       go (g ∷ fs) f = let k : Leaves g fs finished = end-leaves c st g fs .tells finished f in elim k [ ]
 
@@ -88,7 +88,7 @@ module _ (c : Context) (st : State) where
   next-balanced at (loop rs) e more = opening-loop (one-more (loop-enters c st rs .tells _ e) more)
   next-balanced at end {later} {code} e more = go (st .frames) refl e
     where
-      go : (fs : List Frame) → st .frames ≡ fs → close c st fs ≡ allowed (goesOn later) → Balanced (length fs) ((at, end) ∷ code)
+      go : (fs : List Frame) → st .frames ≡ fs → judgeEnd c st fs ≡ allowed (goesOn later) → Balanced (length fs) ((at, end) ∷ code)
       go [] q f = absurd (finished-goes-not-on (own-end .tells _ f))
       go (g ∷ fs) q f = closing (one-fewer g fs (more-open (ap (λ (x : State). x .frames) (after-end c st q e)) more))
 

@@ -8,7 +8,7 @@ use lib.ListN.{length}
 use Rattle.scope.specs.Reading.{Read, got, refused}
 use Rattle.scope.specs.Instructions.{Instr, block, loop, end, op, instrAt}
 use Rattle.scope.specs.Bodies.{Code}
-use Rattle.scope.specs.Machine.{endsLeft, past}
+use Rattle.scope.specs.Machine.{endsLeft, pastEnds}
 use Rattle.scope.proofs.Forward.{never-back}
 use Rattle.scope.proofs.ForwardBodies.{instr-takes}
 use Rattle.run_ends.specs.Matching.{onRead, codeFrom, codeAt, Reached, here, further}
@@ -71,22 +71,22 @@ one-next e f = cc
 
 -- past the ends of what is open
 
-pub past-past : (m n : ℕ) (code : Code) → past m (past n code) ≡ past (m + n) code
-unfolding past
+pub past-past : (m n : ℕ) (code : Code) → pastEnds m (pastEnds n code) ≡ pastEnds (m + n) code
+unfolding pastEnds
 past-past m n [] = refl
 past-past m zero (i ∷ code) = let all : m + 0 ≡ m = omega arith in rw all
-past-past m (suc n) (i ∷ code) = past-past m (endsLeft (i .1) n) code ∙ more (i .1) ∙ ap (λ (k : ℕ). past k (i ∷ code)) (sym (onto n))
+past-past m (suc n) (i ∷ code) = past-past m (endsLeft (i .1) n) code ∙ more (i .1) ∙ ap (λ (k : ℕ). pastEnds k (i ∷ code)) (sym (onto n))
   where
     onto : (k : ℕ) → m + suc k ≡ suc (m + k)
     onto k = omega arith
 
-    more : (j : Instr) → past (m + endsLeft j n) code ≡ past (endsLeft j (m + n)) code
+    more : (j : Instr) → pastEnds (m + endsLeft j n) code ≡ pastEnds (endsLeft j (m + n)) code
     more (block rs) = rw (onto (suc n), onto n)
     more (loop rs) = rw (onto (suc n), onto n)
     more end = refl
     more (op o) = rw (onto n)
 
-pub past-own-end : (at : ℕ) (code : Code) → past 1 ((at, end) ∷ code) ≡ code
-unfolding past
+pub past-own-end : (at : ℕ) (code : Code) → pastEnds 1 ((at, end) ∷ code) ≡ code
+unfolding pastEnds
 past-own-end at [] = refl
 past-own-end at (i ∷ code) = refl

@@ -14,7 +14,7 @@ use Rattle.scope.specs.Reading.{Read, got, refused}
 use Rattle.scope.specs.Syntax.{Val}
 use Rattle.scope.specs.Instructions.{Op, Instr, block, loop, end, op, instrAt}
 use Rattle.scope.specs.Bodies.{Code}
-use Rattle.scope.specs.Machine.{past}
+use Rattle.scope.specs.Machine.{pastEnds}
 use Rattle.scope.proofs.Forward.{never-back}
 use Rattle.scope.proofs.ForwardBodies.{instr-takes}
 use Rattle.scope.proofs.Truths.{decided}
@@ -155,7 +155,7 @@ module _ {s ends₀ : List ℕ} {first : ℕ} {ends : List ℕ} {next innermost 
     turn-inside : {o : Op} → instrAt s next ≡ got (op o) onto → Going s ends₀ first ends onto innermost (left - 1)
     turn-inside {o} read =
         let (forward, ends-inside) = never-back instr-takes s next read in
-        let same : (n : ℕ) → past (n + 1) (codeAt s next) ≡ past (n + 1) (codeAt s onto) = λ n. ap (past (n + 1)) (code-here s next read) ∙ past-inside next n (codeAt s onto) o in
+        let same : (n : ℕ) → pastEnds (n + 1) (codeAt s next) ≡ pastEnds (n + 1) (codeAt s onto) = λ n. ap (pastEnds (n + 1)) (code-here s next read) ∙ past-inside next n (codeAt s onto) o in
         let bound : next ≤ onto = omega arith in
         advance f read (g .places) (open-later bound (open-from same (g .chain))) (λ at onward r opener. go at onward opener (g .passed at onward r opener)) balanced-inside inside refl
       where
@@ -170,13 +170,13 @@ module _ {s ends₀ : List ℕ} {first : ℕ} {ends : List ℕ} {next innermost 
 
     -- a block or a loop
     turn-opens :
-        {ends′ : List ℕ} {j : Instr} → instrAt s next ≡ got j onto → Opener s next onto → ((n : ℕ) → past (n + 1) ((next, j) ∷ codeAt s onto) ≡ past (n + 2) (codeAt s onto))
+        {ends′ : List ℕ} {j : Instr} → instrAt s next ≡ got j onto → Opener s next onto → ((n : ℕ) → pastEnds (n + 1) ((next, j) ∷ codeAt s onto) ≡ pastEnds (n + 2) (codeAt s onto))
         → (Balanced (length (g .places)) ((next, j) ∷ codeAt s onto) → Balanced (suc (length (g .places))) (codeAt s onto))
         → (Balanced (suc (length (g .places))) (codeAt s onto) → Balanced (length (g .places)) ((next, j) ∷ codeAt s onto)) → Stored ends ends′ next innermost
         → Going s ends₀ first ends′ onto (suc next) (left - 1)
     turn-opens {ends′} {j} read opener shift to from st =
         let (forward, ends-inside) = never-back instr-takes s next read in
-        let same : (n : ℕ) → past (n + 1) (codeAt s next) ≡ past (n + 2) (codeAt s onto) = λ n. ap (past (n + 1)) (code-here s next read) ∙ shift n in
+        let same : (n : ℕ) → pastEnds (n + 1) (codeAt s next) ≡ pastEnds (n + 2) (codeAt s onto) = λ n. ap (pastEnds (n + 1)) (code-here s next read) ∙ shift n in
         let kept : Open s ends′ (codeAt s onto) next 2 innermost (g .places) = open-in (λ i h. st .others i (λ e. omega arith)) (open-from same (g .chain)) in
         let link : Open s ends′ (codeAt s onto) next 2 (getD ends′ next 0) (g .places) = rw (st .here) kept in
         advance f read (next ∷ g .places) (one-open forward opener refl link) (λ at onward r o. go at onward o (decided (eqb at next)) (g .passed at onward r o)) to from (st .size)
@@ -198,11 +198,11 @@ module _ {s ends₀ : List ℕ} {first : ℕ} {ends : List ℕ} {next innermost 
         forward : (next < onto) × (onto ≤ length s)
         forward = never-back instr-takes s next read
 
-        lands : (onward : ℕ) → past 1 (codeAt s onward) ≡ past 1 (codeAt s next) → Lands s first onward (getD ends′ p 0)
+        lands : (onward : ℕ) → pastEnds 1 (codeAt s onward) ≡ pastEnds 1 (codeAt s next) → Lands s first onward (getD ends′ p 0)
         lands onward e =
             rw (st .here)
             (record {
-              code = sym (e ∙ ap (past 1) (code-here s next read) ∙ past-own-end next (codeAt s onto));
+              code = sym (e ∙ ap (pastEnds 1) (code-here s next read) ∙ past-own-end next (codeAt s onto));
               reached = reached-next (g .reached) read;
               inside = forward .1;
             })
@@ -226,7 +226,7 @@ module _ {s ends₀ : List ℕ} {first : ℕ} {ends : List ℕ} {next innermost 
 
         go : Innermost s ends (codeAt s next) next 1 p (g .places) → Going s ends₀ first ends′ onto (getD ends p 0) (left - 1)
         go n =
-            let same : (k : ℕ) → past (k + 2) (codeAt s next) ≡ past (k + 1) (codeAt s onto) = λ k. ap (past (k + 2)) (code-here s next read) ∙ past-end next k (codeAt s onto) in
+            let same : (k : ℕ) → pastEnds (k + 2) (codeAt s next) ≡ pastEnds (k + 1) (codeAt s onto) = λ k. ap (pastEnds (k + 2)) (code-here s next read) ∙ past-end next k (codeAt s onto) in
             let bound : p ≤ onto = omega (arith, n .below, forward .0) in
             let kept : Open s ends′ (codeAt s onto) p 1 (getD ends p 0) (n .outer) = open-in (λ i h. st .others i (λ e. omega arith)) (open-from same (n .around)) in
             advance f read (n .outer) (open-later bound kept) (λ at onward r o. pass n at onward o (decided (eqb at p)) (g .passed at onward r o)) (λ b. balanced-end (rw (n .split) at b)) (λ b. rw (n .split) (closing b)) (st .size)

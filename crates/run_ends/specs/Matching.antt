@@ -10,7 +10,7 @@ use Rattle.scope.specs.Reading.{Read, got, refused}
 use Rattle.scope.specs.Syntax.{Val}
 use Rattle.scope.specs.Instructions.{Op, Instr, block, loop, end, op, instrAt}
 use Rattle.scope.specs.Bodies.{Code}
-use Rattle.scope.specs.Machine.{past}
+use Rattle.scope.specs.Machine.{pastEnds}
 
 -- code by its place
 
@@ -47,7 +47,7 @@ pub data Opener (s : List ℕ) (at next : ℕ) : Type 0 where
 
 -- from the place `to` the code is what comes after the `end` that closes what is open at `next`
 pub record Lands (s : List ℕ) (first next to : ℕ) : Type 0 where
-  pub code : codeAt s to ≡ past 1 (codeAt s next)
+  pub code : codeAt s to ≡ pastEnds 1 (codeAt s next)
   pub reached : Reached s first to
   pub inside : to ≤ length s
 

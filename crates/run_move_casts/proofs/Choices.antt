@@ -7,7 +7,7 @@ use mathlib.Core.List.{List}
 use lib.ListN.{drop}
 use Rattle.scope.specs.Reading.{given}
 use Rattle.scope.specs.Refusals.{trapNullDescriptor}
-use Rattle.scope.specs.Machine.{Value, Store, Machine, Program, Outcome, traps, onTaken, onReference, passes, passesDescriptor}
+use Rattle.scope.specs.Machine.{Value, Store, Machine, Program, Outcome, traps, onTaken, onReference, castPasses, descriptorCastPasses}
 use Rattle.type_table.specs.View.{heapAtCode}
 use Rattle.run_stack.specs.declared.Topmost.{Topmost}
 use Rattle.run_stack.specs.Pile.{headOf}
@@ -42,14 +42,14 @@ pub cast-chosen :
 cast-chosen {codes} {nullToo} {h} {passing} a {yes′} {no′} e =
     record {
       is = λ p m second cells total types knows f yes-is no-is.
-          let here : Answers (m .operands) (passes (p .types) (m .heap) nullToo (heapAtCode h)) passing = rw (types, knows .heap) (a .answers (m .operands) cells (knows .top)) in
+          let here : Answers (m .operands) (castPasses (p .types) (m .heap) nullToo (heapAtCode h)) passing = rw (types, knows .heap) (a .answers (m .operands) cells (knows .top)) in
           rw e (choice p codes m here yes′ no′ f yes-is no-is);
     }
 
 -- past the descriptor, as a reference
 abbrev pastDescriptor : Store → Bool → (List Value → Bool → Outcome) → List Value → Option ℕ → Outcome
 pastDescriptor os nullToo f others r =
-    given r (traps trapNullDescriptor) (λ d. onTaken others (λ w below. passesDescriptor os nullToo d w (f others)))
+    given r (traps trapNullDescriptor) (λ d. onTaken others (λ w below. descriptorCastPasses os nullToo d w (f others)))
 
 module _ {objects : List ℕ} {n : ℕ} {first second : Topmost} {nullToo : Bool} {yes′ no′ : Move} {q : Reference} (is : q ≡ referenceAt first) where
   pub descriptor-wrong : q ≡ Reference.the-variants.Wrong → DescriptorChosen objects n first second nullToo yes′ no′ Move.the-variants.Astray
@@ -74,7 +74,7 @@ module _ {objects : List ℕ} {n : ℕ} {first second : Topmost} {nullToo : Bool
         is = λ p codes m cells total knows f yes-is no-is.
             let top = object-top (knows .top) is e in
             let low = top-low (m .operands) top in
-            let here : Answers (drop 1 (m .operands)) (passesDescriptor (m .heap) nullToo d) passing = rw (knows .heap) (a .answers (drop 1 (m .operands)) cells (knows .next)) in
+            let here : Answers (drop 1 (m .operands)) (descriptorCastPasses (m .heap) nullToo d) passing = rw (knows .heap) (a .answers (drop 1 (m .operands)) cells (knows .next)) in
             rw (g, on-top (m .operands) top (λ v others. onReference v (pastDescriptor (m .heap) nullToo f others)))
             (choice p codes m here yes′ no′ (λ v below. f (drop 1 (m .operands))) (λ v h. yes-is low) (λ v h. no-is low));
       }

@@ -5,7 +5,7 @@ use mathlib.Core.Bool.{Bool, true, false, cond}
 use mathlib.Core.Option.{some}
 use mathlib.Core.List.{List}
 use lib.ListN.{length, drop}
-use Rattle.scope.specs.Machine.{Value, Machine, Program, Outcome, stuck, onTaken, onDescriptor, passes, passesDescriptor}
+use Rattle.scope.specs.Machine.{Value, Machine, Program, Outcome, stuck, onTaken, onDescriptor, castPasses, descriptorCastPasses}
 use Rattle.type_table.specs.View.{heapAtCode, view}
 use Rattle.run_heap.specs.Heap.{storeAt}
 use Rattle.run_stack.specs.declared.Topmost.{Topmost}
@@ -25,10 +25,10 @@ pub record Answers (vs : List Value) (ask : Value → (Bool → Outcome) → Out
       → onTaken vs (λ w below. ask w (f w below)) ≡ f v (drop 1 vs) b
 
 pub record PassesAs (rows codes objects : List ℕ) (n : ℕ) (top : Topmost) (null : Bool) (h : ℕ) (r : Passing) : Type 0 where
-  pub answers : (vs : List Value) (cells : List ℕ) → Seen vs top → Answers vs (passes (view rows codes) (storeAt objects cells n) null (heapAtCode h)) r
+  pub answers : (vs : List Value) (cells : List ℕ) → Seen vs top → Answers vs (castPasses (view rows codes) (storeAt objects cells n) null (heapAtCode h)) r
 
 pub record PassesDescriptorAs (objects : List ℕ) (n : ℕ) (top : Topmost) (null : Bool) (d : ℕ) (r : Passing) : Type 0 where
-  pub answers : (vs : List Value) (cells : List ℕ) → Seen vs top → Answers vs (passesDescriptor (storeAt objects cells n) null d) r
+  pub answers : (vs : List Value) (cells : List ℕ) → Seen vs top → Answers vs (descriptorCastPasses (storeAt objects cells n) null d) r
 
 abbrev pub chosenOf : Passing → Move → Move → Move
 chosenOf Passing.the-variants.Wrong yes′ no′ = Move.the-variants.Astray
@@ -41,7 +41,7 @@ pub record CastChosen (rows codes objects : List ℕ) (n : ℕ) (first : Topmost
       → (f : Value → List Value → Bool → Outcome)
       → ((v : Value) → headOf (m .operands) ≡ some v → MoveIs p codes m (f v (drop 1 (m .operands)) true) yes′)
       → ((v : Value) → headOf (m .operands) ≡ some v → MoveIs p codes m (f v (drop 1 (m .operands)) false) no′)
-      → MoveIs p codes m (onTaken (m .operands) (λ v below. passes (p .types) (m .heap) null (heapAtCode h) v (f v below))) r
+      → MoveIs p codes m (onTaken (m .operands) (λ v below. castPasses (p .types) (m .heap) null (heapAtCode h) v (f v below))) r
 
 pub record DescriptorChosen (objects : List ℕ) (n : ℕ) (first second : Topmost) (null : Bool) (yes′ no′ r : Move) : Type 0 where
   pub is : (p : Program) (codes : List ℕ) (m : Machine) (cells : List ℕ) (total : ℕ)
@@ -49,4 +49,4 @@ pub record DescriptorChosen (objects : List ℕ) (n : ℕ) (first second : Topmo
       → (f : List Value → Bool → Outcome)
       → (1 ≤ length (m .operands) → MoveIs p codes m (f (drop 1 (m .operands)) true) yes′)
       → (1 ≤ length (m .operands) → MoveIs p codes m (f (drop 1 (m .operands)) false) no′)
-      → MoveIs p codes m (onDescriptor (m .operands) (λ d others. onTaken others (λ v below. passesDescriptor (m .heap) null d v (f others)))) r
+      → MoveIs p codes m (onDescriptor (m .operands) (λ d others. onTaken others (λ v below. descriptorCastPasses (m .heap) null d v (f others)))) r

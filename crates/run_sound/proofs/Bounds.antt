@@ -15,7 +15,7 @@ use Rattle.scope.specs.Syntax.{Val}
 use Rattle.scope.specs.TypeRules.{valNames}
 use Rattle.scope.specs.Instructions.{Instr, block, loop, end, op}
 use Rattle.scope.specs.BodyRules.{Context, Ruled, fromTop, reached, planOf}
-use Rattle.scope.specs.Bodies.{Frame, ofBlock, ofLoop, outerOf, State, scopeOf, operandsIn, Next, goesOn, finished, within, after, doPlan, takeAll, entered, ending, close, judgeInstr, Code, Body}
+use Rattle.scope.specs.Bodies.{Frame, ofBlock, ofLoop, outerOf, State, scopeOf, operandsIn, Next, goesOn, finished, withinOperands, afterPlan, doPlan, takeAll, entered, ending, judgeEnd, judgeInstr, Code, Body}
 use Rattle.scope.specs.Machine.{Store, Block, Machine}
 use Rattle.scope.specs.Memory.{belowOf}
 use Rattle.scope.proofs.Telling.{Allows, this, after-test, after-and, whatever}
@@ -37,7 +37,7 @@ data Remains : Next → Type 0 where
 sized-then : {st : State} → Remains (goesOn st) → Sized st
 sized-then (remains h) = h
 
-tested : (later : State) → length (later .frames) ≤ mostBlocks → Allows Remains (within later)
+tested : (later : State) → length (later .frames) ≤ mostBlocks → Allows Remains (withinOperands later)
 tested later h =
     after-test (leb (operandsIn later) mostOperands) oversize (λ fits.
     this (remains (record { operands = leb-true (operandsIn later) mostOperands fits; frames = h })))
@@ -47,8 +47,8 @@ module _ (c : Context) (st : State) where
   ended-with rs more =
       after-and (takeAll (c .types) (st .dead) (fromTop rs) (st .operands)) whatever (λ t u. after-none-left (t .left) (λ none-left. more))
 
-  closed : (fs : List Frame) → length fs ≤ mostBlocks → Allows Remains (close c st fs)
-  unfolding close
+  closed : (fs : List Frame) → length fs ≤ mostBlocks → Allows Remains (judgeEnd c st fs)
+  unfolding judgeEnd
   closed [] h = ended-with (c .results) (this over)
   closed (ofBlock rs os dead set ∷ fs) h = ended-with rs (tested (leftOf (ofBlock rs os dead set) fs) (omega arith))
   closed (ofLoop rs os dead set ∷ fs) h = ended-with rs (tested (leftOf (ofLoop rs os dead set) fs) (omega arith))
@@ -68,7 +68,7 @@ module _ (c : Context) (st : State) where
     judged end = closed (st .frames) (h .frames)
     judged (op o) =
         after-and (planOf c (scopeOf c st) o) whatever (λ p u.
-        after-and (takeAll (c .types) (st .dead) (p .wants) (st .operands)) whatever (λ t v. tested (after c st p t) (h .frames)))
+        after-and (takeAll (c .types) (st .dead) (p .wants) (st .operands)) whatever (λ t v. tested (afterPlan c st p t) (h .frames)))
 
 pub bounded : {b : Body} {st : State} {code : Code} → Stands b st code → Sized st
 bounded first = record { operands = omega arith; frames = omega arith }

@@ -11,7 +11,7 @@ use Rattle.scope.specs.Reading.{got}
 use Rattle.scope.specs.Lists.{joined}
 use Rattle.scope.specs.Instructions.{Op, Instr, block, end, op, instrAt}
 use Rattle.scope.specs.Bodies.{Code}
-use Rattle.scope.specs.Machine.{Value, Block, openBlock, openLoop, past}
+use Rattle.scope.specs.Machine.{Value, Block, openBlock, openLoop, pastEnds}
 use Rattle.scope.specs.Memory.{belowOf, allOperands}
 use Rattle.run_values.specs.Layout.{kindWord, placeWord, belowWord, openedLoop}
 use Rattle.run_stack.specs.Pile.{pile}
@@ -40,7 +40,7 @@ module _ {s ends : List ℕ} {at next : ℕ} (c : Charted s ends at) (o : Opener
   lands = c .matching .lands (c .reached) o
 
   -- the place that is kept for a block: after its end
-  pub charted-lands : codeAt s (getD ends at 0) ≡ past 1 (codeAt s next)
+  pub charted-lands : codeAt s (getD ends at 0) ≡ pastEnds 1 (codeAt s next)
   charted-lands = lands .code
 
   pub charted-end : Charted s ends (getD ends at 0)
@@ -73,7 +73,7 @@ pub record Around (s ends blocks : List ℕ) (d l : ℕ) (code : Code) : Type 0 
   pub charted : Charted s ends (blockWord blocks d placeWord)
   pub opened : Opened s (blockWord blocks d kindWord) (blockWord blocks d placeWord) next
   pub low : lower blocks d ≤ blockWord blocks d belowWord
-  pub landing : past (suc l) code ≡ codeAt s (getD ends (blockWord blocks d placeWord) 0)
+  pub landing : pastEnds (suc l) code ≡ codeAt s (getD ends (blockWord blocks d placeWord) 0)
   pub nested : Nested s ends blocks d (codeAt s (getD ends (blockWord blocks d placeWord) 0))
   pub high : blockWord blocks d belowWord ≤ lower blocks (d + 1 + l)
 
@@ -99,7 +99,7 @@ module _ {s ends blocks : List ℕ} where
       record { next = next; charted = charted; opened = opened; low = low; landing = landing; nested = nested; high = rw one (omega arith) }
 
   -- only what comes after the innermost end matters
-  pub nested-past : (d : ℕ) {code code′ : Code} → past 1 code ≡ past 1 code′ → Nested s ends blocks d code → Nested s ends blocks d code′
+  pub nested-past : (d : ℕ) {code code′ : Code} → pastEnds 1 code ≡ pastEnds 1 code′ → Nested s ends blocks d code → Nested s ends blocks d code′
   nested-past zero e n = outermost
   nested-past (suc d) e n =
       let a = innermost d n in
@@ -128,13 +128,13 @@ module _ {s ends blocks : List ℕ} where
       let a = innermost (d + 1 + l) (rw more at n) in
       let b = around d l (a .nested) in
       let onto : suc l + 1 ≡ suc (suc l) = omega arith in
-      let code-is : past (suc (suc l)) code ≡ past (suc l) (past 1 code) = sym (past-past (suc l) 1 code ∙ ap (λ (k : ℕ). past k code) onto) in
+      let code-is : pastEnds (suc (suc l)) code ≡ pastEnds (suc l) (pastEnds 1 code) = sym (past-past (suc l) 1 code ∙ ap (λ (k : ℕ). pastEnds k code) onto) in
       record {
         next = b .next;
         charted = b .charted;
         opened = b .opened;
         low = b .low;
-        landing = code-is ∙ ap (past (suc l)) (a .landing) ∙ b .landing;
+        landing = code-is ∙ ap (pastEnds (suc l)) (a .landing) ∙ b .landing;
         nested = b .nested;
         high = rw (more, lower-more blocks (d + 1 + l)) (omega (arith, a .low, b .high));
       }
@@ -147,21 +147,21 @@ module _ {s ends blocks : List ℕ} where
 
   -- an instruction that neither opens nor closes a block
   pub nested-op : (at : ℕ) {d next : ℕ} {o : Op} → instrAt s at ≡ got (op o) next → Nested s ends blocks d (codeAt s at) → Nested s ends blocks d (codeAt s next)
-  nested-op at {d} {next} {o} e n = nested-past d (ap (past 1) (code-here s at e) ∙ past-inside at 0 (codeAt s next) o) n
+  nested-op at {d} {next} {o} e n = nested-past d (ap (pastEnds 1) (code-here s at e) ∙ past-inside at 0 (codeAt s next) o) n
 
   pub nested-end : (at : ℕ) {d next : ℕ} → instrAt s at ≡ got end next → Nested s ends blocks (suc d) (codeAt s at) → Nested s ends blocks d (codeAt s next)
   nested-end at {d} {next} e n =
       let a = innermost d n in
-      let same : codeAt s (getD ends (blockWord blocks d placeWord) 0) ≡ codeAt s next = sym (a .landing) ∙ ap (past 1) (code-here s at e) ∙ past-own-end at (codeAt s next) in
+      let same : codeAt s (getD ends (blockWord blocks d placeWord) 0) ≡ codeAt s next = sym (a .landing) ∙ ap (pastEnds 1) (code-here s at e) ∙ past-own-end at (codeAt s next) in
       rw same at (a .nested)
 
   -- after the end of the block that is opened here
   pub nested-opener : {d at next : ℕ} → Charted s ends at → Opener s at next → Nested s ends blocks d (codeAt s at) → Nested s ends blocks d (codeAt s (getD ends at 0))
-  nested-opener {d} {at} {next} c o n = nested-past d (two o ∙ sym (past-past 1 1 (codeAt s next)) ∙ ap (past 1) (sym (charted-lands c o))) n
+  nested-opener {d} {at} {next} c o n = nested-past d (two o ∙ sym (past-past 1 1 (codeAt s next)) ∙ ap (pastEnds 1) (sym (charted-lands c o))) n
     where
-      two : Opener s at next → past 1 (codeAt s at) ≡ past 2 (codeAt s next)
-      two (is-block {rs} e) = ap (past 1) (code-here s at e) ∙ past-block at 0 (codeAt s next) rs
-      two (is-loop {rs} e) = ap (past 1) (code-here s at e) ∙ past-loop at 0 (codeAt s next) rs
+      two : Opener s at next → pastEnds 1 (codeAt s at) ≡ pastEnds 2 (codeAt s next)
+      two (is-block {rs} e) = ap (pastEnds 1) (code-here s at e) ∙ past-block at 0 (codeAt s next) rs
+      two (is-loop {rs} e) = ap (pastEnds 1) (code-here s at e) ∙ past-loop at 0 (codeAt s next) rs
 
   -- words of operands that lie below all of them
   pub operands-same :

@@ -12,7 +12,7 @@ use Rattle.scope.specs.Reading.{got}
 use Rattle.scope.specs.Syntax.{Val}
 use Rattle.scope.specs.Instructions.{Instr, block, loop, end, op, instrAt}
 use Rattle.scope.specs.Bodies.{Code}
-use Rattle.scope.specs.Machine.{Value, Block, openBlock, openLoop, Machine, Program, past}
+use Rattle.scope.specs.Machine.{Value, Block, openBlock, openLoop, Machine, Program, pastEnds}
 use Rattle.run_values.specs.Layout.{kindWord, placeWord, belowWord, openedBlock, openedLoop}
 use Rattle.type_table.specs.View.{view}
 use Rattle.run_values.specs.Values.{heldFrom, AllCanon, AllHeldCanon}
@@ -127,7 +127,7 @@ pub data Nested (s ends blocks : List ℕ) : ℕ → Code → Type 0 where
       → Charted s ends (blockWord blocks d placeWord)
       → Opened s (blockWord blocks d kindWord) (blockWord blocks d placeWord) next
       → lower blocks d ≤ blockWord blocks d belowWord
-      → past 1 code ≡ codeAt s (getD ends (blockWord blocks d placeWord) 0)
+      → pastEnds 1 code ≡ codeAt s (getD ends (blockWord blocks d placeWord) 0)
       → Nested s ends blocks d (codeAt s (getD ends (blockWord blocks d placeWord) 0))
       → Nested s ends blocks (suc d) code
 

@@ -9,7 +9,7 @@ use mathlib.Core.List.{List, [], _∷_, _++_, map, reverse, Forall₂·nil}
 use lib.ListN.{getElem?}
 use Rattle.scope.specs.Syntax.{Val, typesOf}
 use Rattle.scope.specs.Bodies.{Operand, Frame, ofBlock, labelOf, Body}
-use Rattle.scope.specs.Machine.{Value, Block, Machine, finish, jump, past}
+use Rattle.scope.specs.Machine.{Value, Block, Machine, finish, jump, pastEnds}
 use Rattle.scope.specs.Running.{programOf}
 use Rattle.scope.proofs.Truths.{none-is-not-some}
 use Rattle.scope.proofs.Pairs.{some-is-one, append-both}
@@ -29,7 +29,7 @@ module _ {b : Body} (m : Machine) (store : StoreTyped b (m .heap) (m .locals)) {
       → BlocksTyped b (m .heap) (m .locals) frames bs
       → getElem? (map labelOf frames ++ b .function .results ∷ []) k ≡ some rs
       → Tops (typesOf (b .types)) (m .heap) (reverse rs) left vs below
-      → ((f : Frame) (fs : List Frame) → Opens k frames f fs → Stands b (leftOf f fs) (past (suc l) (m .code)))
+      → ((f : Frame) (fs : List Frame) → Opens k frames f fs → Stands b (leftOf f fs) (pastEnds (suc l) (m .code)))
       → Proceeds b (m .heap) (jump (programOf b) m l bs vs k)
   unfolding jump
   jumps l zero rs noBlock e t lands = finishes (rw (some-is-one e) t)

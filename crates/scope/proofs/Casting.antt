@@ -13,7 +13,7 @@ use Rattle.scope.specs.Syntax.{Heap, abstract, defined, exact, Val, ref,
 use Rattle.scope.specs.Order.{heapBelow}
 use Rattle.scope.specs.BodyRules.{descriptorFor, lastOf}
 use Rattle.scope.specs.Bodies.{Operand, Body}
-use Rattle.scope.specs.Machine.{Value, null, object, Object, Store, Outcome, isVery, passes, passesDescriptor}
+use Rattle.scope.specs.Machine.{Value, null, object, Object, Store, Outcome, isVery, castPasses, descriptorCastPasses}
 use Rattle.scope.proofs.Truths.{none-is-not-some}
 use Rattle.scope.proofs.Accepted.{Kept, kept-passes}
 use Rattle.scope.proofs.Chains.{chain-climbs}
@@ -38,7 +38,7 @@ pub cast-decided :
     {b : Body} {ts : Types} {heap : Store} {v : Value} {m : Bool} {s : Heap} (n : Bool) (h : Heap) (f : Bool → Outcome)
     → Has ts heap v (ref m s)
     → (Has ts heap v (ref n h) → Proceeds b heap (f true)) → (Has ts heap v (rest m n s) → Proceeds b heap (f false))
-    → Proceeds b heap (passes ts heap n h v f)
+    → Proceeds b heap (castPasses ts heap n h v f)
 cast-decided {s} n h f ofNull yes′ no′ = null-decided n h s f yes′ no′
 cast-decided {ts} n h f (ofObject {it = it} e below) yes′ no′ =
     rw e (decide (heapBelow ts (exact (it .type)) h) f (λ p. yes′ (ofObject e p)) (λ p. no′ (ofObject e below)))
@@ -80,7 +80,7 @@ module _ (ds : List Definition) (kept : Kept (typesOf ds)) where
       → HeapTyped ds heap → descriptorFor (typesOf ds) h ≡ some k
       → Has (typesOf ds) heap (object o) (ref true k) → Has (typesOf ds) heap v (ref m s)
       → (Has (typesOf ds) heap v (ref n h) → Proceeds b heap (f true)) → (Has (typesOf ds) heap v (rest m n s) → Proceeds b heap (f false))
-      → Proceeds b heap (passesDescriptor heap n o v f)
+      → Proceeds b heap (descriptorCastPasses heap n o v f)
   descriptor-cast-decided {s} n h f heap asked has ofNull yes′ no′ = null-decided n h s f yes′ no′
   descriptor-cast-decided {o} n h f heap asked (ofObject {it = d} there is-below) (ofObject {o = q} {it = it} e below) yes′ no′ =
       rw e

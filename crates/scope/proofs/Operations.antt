@@ -15,7 +15,7 @@ use Rattle.scope.specs.Order.{valBelow}
 use Rattle.scope.specs.TypeRules.{heapNames}
 use Rattle.scope.specs.Instructions.{Op, unreachable, nop, return, drop-value, br, br-if, local-get, local-set, local-tee, i32-const, ref-null, ref-is-null, ref-eq, ref-as-non-null, struct-new, struct-new-default, struct-get, struct-set, ref-test, ref-cast, br-on-cast, br-on-cast-fail, struct-new-desc, struct-new-default-desc, ref-get-desc, ref-cast-desc-eq, br-on-cast-desc-eq, br-on-cast-desc-eq-fail}
 use Rattle.scope.specs.BodyRules.{Plan, planOf, fieldsOf, holdsOf, hasDefault, descriptorFor, lastOf, sourceOf, targetOf, restOf}
-use Rattle.scope.specs.Bodies.{Operand, State, scopeOf, after, put, Body, startState}
+use Rattle.scope.specs.Bodies.{Operand, State, scopeOf, afterPlan, put, Body, startState}
 use Rattle.scope.specs.Machine.{Value, Machine, doOp}
 use Rattle.scope.proofs.Truths.{from-both}
 use Rattle.scope.proofs.Accepted.{Kept}
@@ -30,7 +30,7 @@ use Rattle.scope.proofs.Soundness.{Stands, contextFor, Typed, isTrap, i
 pub record Acts (b : Body) (st : State) (m : Machine) (o : Op) (plan : Plan) : Type 0 where
   pub acts :
       {taken left : List Operand} {vs below : List Value}
-      → On b m (plan .wants) taken left vs below → Stands b (after (contextFor b) st plan (record { taken = taken; left = left })) (m .code) → Does b m vs o
+      → On b m (plan .wants) taken left vs below → Stands b (afterPlan (contextFor b) st plan (record { taken = taken; left = left })) (m .code) → Does b m vs o
 
 reach-one : (x n : ℕ) → every (λ y. ltb y n) (x ∷ []) ≡ true → x < n
 reach-one x n e = ltb-true x n (from-both (ltb x n) true e .0)

@@ -19,7 +19,7 @@ use Rattle.scope.specs.TypeRules.{matchesSuper, clausesOnStruct, describ
 use Rattle.scope.specs.Judging.{accepted, rejected, firstBroken, linksFault, scan, judgeSection}
 use Rattle.scope.specs.Instructions.{Op, block, loop, end, op, instrAt}
 use Rattle.scope.specs.BodyRules.{Context, Scope, Wanted, value, anyValue, anyReference, values, Plan, Ruled, allowed, fault, test, andRuled, takes, fromTop, reached, structOf, described, defaulted, planOf}
-use Rattle.scope.specs.Bodies.{Operand, known, unknown, unknownReference, fits, Taken, alsoTaken, State, scopeOf, after, Code, Body, startState, contextOf, judgeBody}
+use Rattle.scope.specs.Bodies.{Operand, known, unknown, unknownReference, fits, Taken, alsoTaken, State, scopeOf, afterPlan, Code, Body, startState, contextOf, judgeBody}
 use Rattle.scope.specs.Machine.{Value, number, null, object, Object}
 use Rattle.scope.specs.Running.{Ending, done, trapped, spent, wrong, run, startOf, programOf, placeOf}
 use Rattle.scope.proofs.Computes.{computes}
@@ -52,7 +52,7 @@ accepts plan fit c st ((at, loop rs) ∷ code) = false
 accepts plan fit c st ((at, end) ∷ code) = yes-to (takeBy fit (c .types) (fromTop (c .results)) (st .operands)) (λ t. empty (t .left) && empty code)
 accepts plan fit c st ((at, op o) ∷ code) =
     yes-to (plan at c (scopeOf c st) o) (λ p.
-    yes-to (takeBy fit (c .types) (p .wants) (st .operands)) (λ t. accepts plan fit c (after c st p t) code))
+    yes-to (takeBy fit (c .types) (p .wants) (st .operands)) (λ t. accepts plan fit c (afterPlan c st p t) code))
 
 -- the instructions that the bytes hold from a place on
 abbrev onRead : {A B : Type 0} → Read A → B → (A → ℕ → B) → B

@@ -21,7 +21,7 @@ use Rattle.scope.specs.Bodies.{Operand, known, Frame, ofBlock, ofLoop, S
 use Rattle.scope.specs.Machine.{Value, number, null, object, Object, Store, Block, openBlock, openLoop, Machine, Program, Outcome, goes, ends, traps, step}
 use Rattle.scope.specs.Running.{Ending, done, trapped, spent, run, startOf, programOf, Trial, trialRun}
 use Rattle.scope.specs.Memory.{filled, stateWords}
-use Rattle.scope.specs.Answers.{RunMemory, machineOf, endedAs, RunTried}
+use Rattle.scope.specs.Answers.{RunMemory, machineOf, ranAs, RunTried}
 
 -- values and objects
 
@@ -163,7 +163,7 @@ pub data EndsWell (b : Body) (budget : ℕ) : Ending → Type 0 where
 pub record RanSoundly (s : List ℕ) (b : Body) (budget : ℕ) (lent later : RunMemory) (r : Ran) : Type 0 where
   pub ending : Ending
   pub endsWell : EndsWell b budget ending
-  pub answer : r ≡ endedAs s ending
+  pub answer : r ≡ ranAs s ending
   pub counts : later .state .counts ≡ filled (lent .state .counts) (stateWords s (machineOf ending) .counts)
   pub objects : later .state .objects ≡ filled (lent .state .objects) (stateWords s (machineOf ending) .objects)
   pub cells : later .state .cells ≡ filled (lent .state .cells) (stateWords s (machineOf ending) .cells)

@@ -22,7 +22,7 @@ use Rattle.scope.specs.BodyRules.{hasDefault}
 use Rattle.scope.specs.Bodies.{Code, Body, judgeBody}
 use Rattle.scope.specs.Machine.{Value, null, object, Object, Store, Machine, Outcome, goes, ends, traps, stuck, withControl, withOperands, withHeap, withField, doOp, doInstr, stepOn, step}
 use Rattle.scope.specs.Running.{Ending, spent, onOutcome, run, startOf, programOf, Trial, trialOf, trialRun}
-use Rattle.scope.specs.Answers.{RunMemory, endedAs, ranOf, stateAfter, runCall, runLent, RunTried}
+use Rattle.scope.specs.Answers.{RunMemory, ranAs, ranOf, stateAfter, runCall, runLent, RunTried}
 use Rattle.scope.proofs.Pairs.{inside}
 use Rattle.scope.proofs.HeapLaws.{exact-very}
 use Rattle.scope.proofs.OneState.{one-state}
@@ -118,7 +118,7 @@ answer-sound {section} {s} {x} {budget} {lent} {later} {r} tried = go (runCall s
           blocks = tried .blocks ∙ ap (stateAfter s (λ w. w .blocks) lent) is;
         })
 
-trap-of : (s : List ℕ) {b : Body} {budget t p n : ℕ} {e : Ending} → EndsWell b budget e → Ran.the-variants.Trapped t p n ≡ endedAs s e → Trap t
+trap-of : (s : List ℕ) {b : Body} {budget t p n : ℕ} {e : Ending} → EndsWell b budget e → Ran.the-variants.Trapped t p n ≡ ranAs s e → Trap t
 trap-of s (isDone below reaches is typed) q = impossible cc
 trap-of s (isTrapped {t = u} below reaches is trap typed) q = subst Trap (let same : u ≡ _ = cc in same) trap
 trap-of s (isSpent reaches typed) q = impossible cc

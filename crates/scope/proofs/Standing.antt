@@ -13,8 +13,8 @@ use Rattle.scope.specs.Syntax.{Val}
 use Rattle.scope.specs.TypeRules.{valNames}
 use Rattle.scope.specs.Instructions.{Op, Instr, block, loop, end, op, instrAt}
 use Rattle.scope.specs.BodyRules.{Context, Ruled, allowed, planOf, fromTop}
-use Rattle.scope.specs.Bodies.{Operand, Frame, ofBlock, ofLoop, State, scopeOf, Next, goesOn, finished, operandsIn, after, doPlan, takeAll, onTop, noneLeft, close, judgeInstr, Code, judgeFrom, Body, startState}
-use Rattle.scope.specs.Machine.{past}
+use Rattle.scope.specs.Bodies.{Operand, Frame, ofBlock, ofLoop, State, scopeOf, Next, goesOn, finished, operandsIn, afterPlan, doPlan, takeAll, onTop, noneLeft, judgeEnd, judgeInstr, Code, judgeFrom, Body, startState}
+use Rattle.scope.specs.Machine.{pastEnds}
 use Rattle.scope.proofs.Telling.{Allows, this, nothing, after-test, after-and, allowed-is-one, whatever, Gives, gives-this, gives-nothing, gives-then, gives-ruled, gives-next}
 use Rattle.scope.proofs.Soundness.{Stands, first, further, contextFor}
 use Rattle.scope.proofs.Impossible.{contradiction}
@@ -84,7 +84,7 @@ module _ (c : Context) (st : State) where
   op-keeps o =
       after-and (planOf c (scopeOf c st) o) whatever (λ p u.
       after-and (takeAll (c .types) (st .dead) (p .wants) (st .operands)) whatever (λ t v.
-      after-test (leb (operandsIn (after c st p t)) mostOperands) oversize (λ fits. this (keepsFrames refl))))
+      after-test (leb (operandsIn (afterPlan c st p t)) mostOperands) oversize (λ fits. this (keepsFrames refl))))
 
   pub block-enters : (rs : List Val) → Allows (Enters (st .frames)) (judgeInstr c st (block rs))
   unfolding judgeInstr
@@ -98,8 +98,8 @@ module _ (c : Context) (st : State) where
       after-test (every (λ x. ltb x (c .count)) (joined (map valNames rs))) outOfReach (λ named.
       after-test (ltb (length (st .frames) + 1) mostFrames) oversize (λ fits. this (enters refl)))
 
-  pub end-leaves : (f : Frame) (fs : List Frame) → Allows (Leaves f fs) (close c st (f ∷ fs))
-  unfolding close
+  pub end-leaves : (f : Frame) (fs : List Frame) → Allows (Leaves f fs) (judgeEnd c st (f ∷ fs))
+  unfolding judgeEnd
   end-leaves (ofBlock rs os dead set) fs =
       after-and (takeAll (c .types) (st .dead) (fromTop rs) (st .operands)) whatever (λ t v.
       after-none-left (t .left) (λ none-left. after-test (leb (operandsIn (leftOf (ofBlock rs os dead set) fs)) mostOperands) oversize (λ fits. this leaves)))
@@ -112,8 +112,8 @@ pub data Opens : ℕ → List Frame → Frame → List Frame → Type 0 where
   innermost : {f : Frame} {fs : List Frame} → Opens 0 (f ∷ fs) f fs
   deeper : {n : ℕ} {e f : Frame} {es fs : List Frame} → Opens n es f fs → Opens (suc n) (e ∷ es) f fs
 
-past-none : (code : Code) → past 0 code ≡ code
-unfolding past
+past-none : (code : Code) → pastEnds 0 code ≡ code
+unfolding pastEnds
 past-none [] = refl
 past-none (i ∷ code) = refl
 
@@ -133,7 +133,7 @@ left-frames (ofLoop rs os dead set) fs = refl
 module _ (c : Context) (st : State) where
   pub after-end : {later : State} {f : Frame} {fs : List Frame} → st .frames ≡ f ∷ fs → judgeInstr c st end ≡ allowed (goesOn later) → later ≡ leftOf f fs
   unfolding judgeInstr
-  after-end {later} {f} {fs} q e = left-state (end-leaves c st f fs .tells (goesOn later) (subst (λ (gs : List Frame). close c st gs ≡ allowed (goesOn later)) q e))
+  after-end {later} {f} {fs} q e = left-state (end-leaves c st f fs .tells (goesOn later) (subst (λ (gs : List Frame). judgeEnd c st gs ≡ allowed (goesOn later)) q e))
 
   -- the last `end` is not inside a block
   not-finished : (i : Instr) {f : Frame} {fs : List Frame} → st .frames ≡ f ∷ fs → judgeInstr c st i ≡ allowed finished → ⊥
@@ -141,7 +141,7 @@ module _ (c : Context) (st : State) where
   not-finished (op o) q e = let k : KeepsFrames (st .frames) finished = op-keeps c st o .tells finished e in elim k [ ]
   not-finished (block rs) q e = let k : Enters (st .frames) finished = block-enters c st rs .tells finished e in elim k [ ]
   not-finished (loop rs) q e = let k : Enters (st .frames) finished = loop-enters c st rs .tells finished e in elim k [ ]
-  not-finished end {f} {fs} q e = let k : Leaves f fs finished = end-leaves c st f fs .tells finished (subst (λ (gs : List Frame). close c st gs ≡ allowed finished) q e) in elim k [ ]
+  not-finished end {f} {fs} q e = let k : Leaves f fs finished = end-leaves c st f fs .tells finished (subst (λ (gs : List Frame). judgeEnd c st gs ≡ allowed finished) q e) in elim k [ ]
 
 some-frame : {n : ℕ} {frames fs : List Frame} {f : Frame} → Opens n frames f fs → (g : Frame) × (gs : List Frame) × (frames ≡ g ∷ gs)
 some-frame (innermost {f = f} {fs = fs}) = (f, fs, refl)
@@ -150,8 +150,8 @@ some-frame (deeper {e = e} {es = es} opens) = (e, es, refl)
 -- a branch lands where the checker stood
 pub lands :
     {b : Body} {n : ℕ} {frames fs : List Frame} {f : Frame} {st : State} {code : Code} → Opens n frames f fs → st .frames ≡ frames → Stands b st code
-    → Accepts (contextFor b) st code → Stands b (leftOf f fs) (past (suc n) code)
-unfolding past
+    → Accepts (contextFor b) st code → Stands b (leftOf f fs) (pastEnds (suc n) code)
+unfolding pastEnds
 lands {b} {st} opens q stands (last {i = i} e) = let (g, gs, is) = some-frame opens in absurd (not-finished (contextFor b) st i (q ∙ is) e)
 lands {b} {st} opens q stands (next {i = op o} e more) =
     lands opens (kept-frames (op-keeps (contextFor b) st o .tells _ e) ∙ q) (further stands e) more

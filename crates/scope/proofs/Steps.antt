@@ -13,7 +13,7 @@ use Rattle.scope.specs.Syntax.{Val, Types, typesOf}
 use Rattle.scope.specs.TypeRules.{valNames}
 use Rattle.scope.specs.Instructions.{Op, Instr, block, loop, end, op}
 use Rattle.scope.specs.BodyRules.{Ruled, planOf, fromTop}
-use Rattle.scope.specs.Bodies.{Operand, takeAll, Frame, ofBlock, ofLoop, State, scopeOf, Next, goesOn, finished, operandsIn, after, doPlan, ending, close, judgeInstr, Code, Body, startState}
+use Rattle.scope.specs.Bodies.{Operand, takeAll, Frame, ofBlock, ofLoop, State, scopeOf, Next, goesOn, finished, operandsIn, afterPlan, doPlan, ending, judgeEnd, judgeInstr, Code, Body, startState}
 use Rattle.scope.specs.Machine.{Value, Store, Block, Machine, Outcome, goes, withControl, doOp, doInstr, stepOn, step}
 use Rattle.scope.specs.Machine
 use Rattle.scope.specs.Running.{programOf}
@@ -50,7 +50,7 @@ module _ {b : Body} (kept : Kept (typesOf (b .types))) (accepts : Accepts (conte
   op-leads o =
       after-and (planOf (contextFor b) (scopeOf (contextFor b) st) o) (acting kept accepts m typed alive o) (λ plan can.
       after-and (takeAll (typesOf (b .types)) (st .dead) (plan .wants) (st .operands)) (taking (plan .wants)) (λ t taken.
-      after-test (leb (operandsIn (after (contextFor b) st plan t)) mostOperands) oversize (λ fits.
+      after-test (leb (operandsIn (afterPlan (contextFor b) st plan t)) mostOperands) oversize (λ fits.
       this (record { leads = λ give. can .acts (taken .1) (give _ refl) }))))
 
   -- at `end`, the operands are the results
@@ -76,8 +76,8 @@ module _ {b : Body} (kept : Kept (typesOf (b .types))) (accepts : Accepts (conte
 
   end-leads :
       {frames : List Frame} {bs : List Block} → BlocksTyped b (m .heap) (m .locals) frames bs
-      → Allows (Leads b (m .code) (m .heap) (Machine.close (programOf b) m bs)) (close (contextFor b) st frames)
-  unfolding close
+      → Allows (Leads b (m .code) (m .heap) (Machine.doEnd (programOf b) m bs)) (judgeEnd (contextFor b) st frames)
+  unfolding judgeEnd
   end-leads noBlock = ended (b .function .results) (λ has. this (record { leads = λ give. finishes m (typed .store) (results-tops (b .function .results) has) }))
   end-leads (inBlock {rs = rs} {os = os} {set = set} {fs = fs} under covers rest) =
       ended rs (λ has.

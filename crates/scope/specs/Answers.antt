@@ -34,9 +34,9 @@ verdictOf count (accepted x) = Verdict.the-variants.Accepted (count x)
 verdictOf count (rejected n p) = Verdict.the-variants.Refused n p
 
 -- zero after a refusal
-abbrev pub after : {A : Type 0} → (A → List ℕ) → List ℕ → Judged A → List ℕ
-after words buffer (accepted x) = filled buffer (words x)
-after words buffer (rejected n p) = wiped buffer
+abbrev pub lentAfter : {A : Type 0} → (A → List ℕ) → List ℕ → Judged A → List ℕ
+lentAfter words buffer (accepted x) = filled buffer (words x)
+lentAfter words buffer (rejected n p) = wiped buffer
 
 -- judging a section: its type count and its table
 
@@ -48,8 +48,8 @@ sectionCall s rows codes = lentEnough (tableLent rows codes) (judgeSection s)
 
 pub record SectionJudged (s rows codes rows′ codes′ : List ℕ) (r : Verdict) : Type 0 where
   pub answer : r ≡ verdictOf length (sectionCall s rows codes)
-  pub rowsAfter : rows′ ≡ after tableRows rows (sectionCall s rows codes)
-  pub codesAfter : codes′ ≡ after tableCodes codes (sectionCall s rows codes)
+  pub rowsAfter : rows′ ≡ lentAfter tableRows rows (sectionCall s rows codes)
+  pub codesAfter : codes′ ≡ lentAfter tableCodes codes (sectionCall s rows codes)
 
 -- asking for a type: where its bytes lie, and the very bytes; lent memory is as after the section alone
 
@@ -70,13 +70,13 @@ askTable s x rows codes = andThen (sectionCall s rows codes) (askedTypes s (askC
 
 pub record TypeAsked (s : List ℕ) (x : ℕ) (rows codes rows′ codes′ : List ℕ) (r : Asked) : Type 0 where
   pub answer : r ≡ askedOf (askCall s x rows codes)
-  pub rowsAfter : rows′ ≡ after tableRows rows (askTable s x rows codes)
-  pub codesAfter : codes′ ≡ after tableCodes codes (askTable s x rows codes)
+  pub rowsAfter : rows′ ≡ lentAfter tableRows rows (askTable s x rows codes)
+  pub codesAfter : codes′ ≡ lentAfter tableCodes codes (askTable s x rows codes)
 
 pub record TypeHanded (s : List ℕ) (x : ℕ) (rows codes rows′ codes′ part : List ℕ) : Type 0 where
   pub bytes : part ≡ partOf s (askCall s x rows codes)
-  pub rowsAfter : rows′ ≡ after tableRows rows (askTable s x rows codes)
-  pub codesAfter : codes′ ≡ after tableCodes codes (askTable s x rows codes)
+  pub rowsAfter : rows′ ≡ lentAfter tableRows rows (askTable s x rows codes)
+  pub codesAfter : codes′ ≡ lentAfter tableCodes codes (askTable s x rows codes)
 
 -- judging a body: its count of instructions; all lent memory is scratch, zero whatever the answer
 
@@ -123,19 +123,19 @@ machineOf (spent steps m) = m
 machineOf (wrong steps m) = m
 
 -- `wrong` is given a number that no trap has; soundness is that no run comes to it
-abbrev pub endedAs : List ℕ → Ending → Ran
-endedAs s (done steps m) = Ran.the-variants.Done steps (length (m .operands))
-endedAs s (trapped number steps m) = Ran.the-variants.Trapped number (placeOf s (m .code)) steps
-endedAs s (spent steps m) = Ran.the-variants.Spent steps
-endedAs s (wrong steps m) = Ran.the-variants.Trapped 0 (placeOf s (m .code)) steps
+abbrev pub ranAs : List ℕ → Ending → Ran
+ranAs s (done steps m) = Ran.the-variants.Done steps (length (m .operands))
+ranAs s (trapped number steps m) = Ran.the-variants.Trapped number (placeOf s (m .code)) steps
+ranAs s (spent steps m) = Ran.the-variants.Spent steps
+ranAs s (wrong steps m) = Ran.the-variants.Trapped 0 (placeOf s (m .code)) steps
 
 abbrev pub ranOf : List ℕ → Judged Trial → Ran
-ranOf s (accepted t) = endedAs s (t .ending)
+ranOf s (accepted t) = ranAs s (t .ending)
 ranOf s (rejected n p) = Ran.the-variants.Refused n p
 
 -- one buffer of the state afterwards
 abbrev pub stateAfter : List ℕ → (StateWords → List ℕ) → RunMemory → Judged Trial → List ℕ
-stateAfter s part m judged = after (λ t. part (stateWords s (machineOf (t .ending)))) (part (m .state)) judged
+stateAfter s part m judged = lentAfter (λ t. part (stateWords s (machineOf (t .ending)))) (part (m .state)) judged
 
 pub record RunTried (section s : List ℕ) (x budget : ℕ) (m m′ : RunMemory) (r : Ran) : Type 0 where
   pub answer : r ≡ ranOf s (runCall section s x budget m)

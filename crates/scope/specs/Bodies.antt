@@ -115,15 +115,15 @@ pub data Next : Type 0 where
   finished : Next
 
 -- 4: 512 operands in all frames after an instruction
-abbrev pub within : State → Ruled Next
-within st = test (leb (operandsIn st) mostOperands) oversize (allowed (goesOn st))
+abbrev pub withinOperands : State → Ruled Next
+withinOperands st = test (leb (operandsIn st) mostOperands) oversize (allowed (goesOn st))
 
 abbrev pub marked : Option ℕ → List Bool → List Bool
 marked none isSet = isSet
 marked (some x) isSet = set isSet x true
 
-abbrev pub after : Context → State → Plan → Taken → State
-after c st p t =
+abbrev pub afterPlan : Context → State → Plan → Taken → State
+afterPlan c st p t =
     record {
       frames = st .frames;
       operands = cond (p .stops) [] (put (c .types) (p .gives) (t .taken) ++ t .left);
@@ -132,7 +132,7 @@ after c st p t =
     }
 
 unfoldable pub doPlan : Context → State → Plan → Ruled Next
-doPlan c st p = andRuled (takeAll (c .types) (st .dead) (p .wants) (st .operands)) (λ t. within (after c st p t))
+doPlan c st p = andRuled (takeAll (c .types) (st .dead) (p .wants) (st .operands)) (λ t. withinOperands (afterPlan c st p t))
 
 -- a block opened after unreachable starts empty and strict. 4: 64 frames, the function's own counted
 abbrev pub entered : State → Frame → Ruled Next
@@ -151,20 +151,20 @@ ending c st rs more =
     andRuled (takeAll (c .types) (st .dead) (fromTop rs) (st .operands)) (λ t. noneLeft (t .left) more)
 
 -- "Sets inside a block are forgotten at its end."
-abbrev pub leave : Context → State → List Frame → List Val → List Operand → Bool → List Bool → Ruled Next
-leave c st fs rs os dead isSet =
-    ending c st rs (within (record { frames = fs; operands = onTop rs ++ os; dead = dead; isSet = isSet }))
+abbrev pub judgeBlockEnd : Context → State → List Frame → List Val → List Operand → Bool → List Bool → Ruled Next
+judgeBlockEnd c st fs rs os dead isSet =
+    ending c st rs (withinOperands (record { frames = fs; operands = onTop rs ++ os; dead = dead; isSet = isSet }))
 
-unfoldable pub close : Context → State → List Frame → Ruled Next
-close c st [] = ending c st (c .results) (allowed finished)
-close c st (ofBlock rs os dead isSet ∷ fs) = leave c st fs rs os dead isSet
-close c st (ofLoop rs os dead isSet ∷ fs) = leave c st fs rs os dead isSet
+unfoldable pub judgeEnd : Context → State → List Frame → Ruled Next
+judgeEnd c st [] = ending c st (c .results) (allowed finished)
+judgeEnd c st (ofBlock rs os dead isSet ∷ fs) = judgeBlockEnd c st fs rs os dead isSet
+judgeEnd c st (ofLoop rs os dead isSet ∷ fs) = judgeBlockEnd c st fs rs os dead isSet
 
 -- one instruction: its tests in order, then its operands, 28 and 4
 unfoldable pub judgeInstr : Context → State → Instr → Ruled Next
 judgeInstr c st (block rs) = reached c (joined (map valNames rs)) (entered st (ofBlock rs (st .operands) (st .dead) (st .isSet)))
 judgeInstr c st (loop rs) = reached c (joined (map valNames rs)) (entered st (ofLoop rs (st .operands) (st .dead) (st .isSet)))
-judgeInstr c st end = close c st (st .frames)
+judgeInstr c st end = judgeEnd c st (st .frames)
 judgeInstr c st (op o) = andRuled (planOf c (scopeOf c st) o) (doPlan c st)
 
 -- the body

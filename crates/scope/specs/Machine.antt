@@ -152,16 +152,16 @@ onDescriptor vs f = onTaken vs (λ d below. onReference d (λ r. given r (traps 
 -- casts
 
 -- does the value belong to the target? null where the target may be null, an object by the type it was made as
-abbrev pub passes : Types → Store → Bool → Heap → Value → (Bool → Outcome) → Outcome
-passes ts os nullToo h v f =
+abbrev pub castPasses : Types → Store → Bool → Heap → Value → (Bool → Outcome) → Outcome
+castPasses ts os nullToo h v f =
     onReference v (λ r. given r (f nullToo) (λ o. given (getElem? os o) stuck (λ x. f (heapBelow ts (exact (x .type)) h))))
 
 -- "ref.cast_desc_eq passes when the object's descriptor is the very object given, or on null with a nullable target."
 abbrev pub isVery : Option ℕ → ℕ → Bool
 isVery d o = given d false (λ e. eqb e o)
 
-abbrev pub passesDescriptor : Store → Bool → ℕ → Value → (Bool → Outcome) → Outcome
-passesDescriptor os nullToo d v f =
+abbrev pub descriptorCastPasses : Store → Bool → ℕ → Value → (Bool → Outcome) → Outcome
+descriptorCastPasses os nullToo d v f =
     onReference v (λ r. given r (f nullToo) (λ o. given (getElem? os o) stuck (λ x. f (isVery (x .descriptor) d))))
 
 -- null is the same as null, an object as itself
@@ -189,10 +189,10 @@ endsLeft end n = n
 endsLeft (op o) n = suc n
 
 -- "a branch out goes past the `end`": the code after so many ends that close what is open here
-unfoldable pub past : ℕ → Code → Code
-past n [] = []
-past zero (i ∷ code) = i ∷ code
-past (suc n) (i ∷ code) = past (endsLeft (i .1) n) code
+unfoldable pub pastEnds : ℕ → Code → Code
+pastEnds n [] = []
+pastEnds zero (i ∷ code) = i ∷ code
+pastEnds (suc n) (i ∷ code) = pastEnds (endsLeft (i .1) n) code
 
 -- the run is done: the operands are the results, no block is open
 abbrev pub finish : Program → Machine → List Value → Outcome
@@ -203,7 +203,7 @@ unfoldable pub jump : Program → Machine → ℕ → List Block → List Value 
 jump p m l [] vs zero = finish p m vs
 jump p m l [] vs (suc k) = stuck
 jump p m l (openBlock at n below ∷ bs) vs zero =
-    given (splitTop n vs) stuck (λ s. goes (withControl m (s .0 ++ below) bs (past (suc l) (m .code))))
+    given (splitTop n vs) stuck (λ s. goes (withControl m (s .0 ++ below) bs (pastEnds (suc l) (m .code))))
 jump p m l (openLoop at below again ∷ bs) vs zero = goes (withControl m [] (openLoop at below again ∷ bs) again)
 jump p m l (b ∷ bs) vs (suc k) = jump p m l bs vs k
 
@@ -211,10 +211,10 @@ abbrev pub branch : Program → Machine → ℕ → List Value → Outcome
 branch p m l vs = jump p m l (m .blocks) vs l
 
 -- at `end`
-abbrev pub close : Program → Machine → List Block → Outcome
-close p m [] = finish p m (m .operands)
-close p m (openBlock at n below ∷ bs) = goes (withControl m (m .operands ++ below) bs (m .code))
-close p m (openLoop at below again ∷ bs) = goes (withControl m (m .operands ++ below) bs (m .code))
+abbrev pub doEnd : Program → Machine → List Block → Outcome
+doEnd p m [] = finish p m (m .operands)
+doEnd p m (openBlock at n below ∷ bs) = goes (withControl m (m .operands ++ below) bs (m .code))
+doEnd p m (openLoop at below again ∷ bs) = goes (withControl m (m .operands ++ below) bs (m .code))
 
 -- one instruction; `m` is the machine past it, `vs` its operands
 
@@ -251,15 +251,15 @@ doOp p m vs (struct-set x i) =
     onObject (m .heap) trapNull v (λ o it.
     given (getElem? (it .fields) i) stuck (λ old. goes (withOperands (withHeap m (set (m .heap) o (withField it i new))) below)))))
 doOp p m vs (ref-test n h) =
-    onTaken vs (λ v below. passes (p .types) (m .heap) n h v (λ b. goes (withOperands m (truth b ∷ below))))
+    onTaken vs (λ v below. castPasses (p .types) (m .heap) n h v (λ b. goes (withOperands m (truth b ∷ below))))
 doOp p m vs (ref-cast n h) =
-    onTaken vs (λ v below. passes (p .types) (m .heap) n h v (λ b. cond b (goes (withOperands m (v ∷ below))) (traps trapCast)))
+    onTaken vs (λ v below. castPasses (p .types) (m .heap) n h v (λ b. cond b (goes (withOperands m (v ∷ below))) (traps trapCast)))
 doOp p m vs (br-on-cast k) =
     onTaken vs (λ v below.
-    passes (p .types) (m .heap) (k .targetNull) (k .target) v (λ b. cond b (branch p m (k .label) vs) (goes m)))
+    castPasses (p .types) (m .heap) (k .targetNull) (k .target) v (λ b. cond b (branch p m (k .label) vs) (goes m)))
 doOp p m vs (br-on-cast-fail k) =
     onTaken vs (λ v below.
-    passes (p .types) (m .heap) (k .targetNull) (k .target) v (λ b. cond b (goes m) (branch p m (k .label) vs)))
+    castPasses (p .types) (m .heap) (k .targetNull) (k .target) v (λ b. cond b (goes m) (branch p m (k .label) vs)))
 doOp p m vs (struct-new-desc x) = onDescriptor vs (λ d below. makeGiven p m x (some d) below)
 doOp p m vs (struct-new-default-desc x) = onDescriptor vs (λ d below. makeDefault p m x (some d) below)
 doOp p m vs (ref-get-desc x) =
@@ -268,21 +268,21 @@ doOp p m vs (ref-get-desc x) =
 doOp p m vs (ref-cast-desc-eq n h) =
     onDescriptor vs (λ d others.
     onTaken others (λ v below.
-    passesDescriptor (m .heap) n d v (λ b. cond b (goes (withOperands m others)) (traps trapCast))))
+    descriptorCastPasses (m .heap) n d v (λ b. cond b (goes (withOperands m others)) (traps trapCast))))
 doOp p m vs (br-on-cast-desc-eq k) =
     onDescriptor vs (λ d others.
     onTaken others (λ v below.
-    passesDescriptor (m .heap) (k .targetNull) d v (λ b. cond b (branch p m (k .label) others) (goes (withOperands m others)))))
+    descriptorCastPasses (m .heap) (k .targetNull) d v (λ b. cond b (branch p m (k .label) others) (goes (withOperands m others)))))
 doOp p m vs (br-on-cast-desc-eq-fail k) =
     onDescriptor vs (λ d others.
     onTaken others (λ v below.
-    passesDescriptor (m .heap) (k .targetNull) d v (λ b. cond b (goes (withOperands m others)) (branch p m (k .label) others))))
+    descriptorCastPasses (m .heap) (k .targetNull) d v (λ b. cond b (goes (withOperands m others)) (branch p m (k .label) others))))
 
 -- `at` is the instruction's place
 unfoldable pub doInstr : Program → Machine → ℕ → Instr → Outcome
 doInstr p m at (block rs) = goes (withControl m [] (openBlock at (length rs) (m .operands) ∷ m .blocks) (m .code))
 doInstr p m at (loop rs) = goes (withControl m [] (openLoop at (m .operands) (m .code) ∷ m .blocks) (m .code))
-doInstr p m at end = close p m (m .blocks)
+doInstr p m at end = doEnd p m (m .blocks)
 doInstr p m at (op o) = doOp p m (m .operands) o
 
 -- "One instruction is one step, `end` and a trapping one included."

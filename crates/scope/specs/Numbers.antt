@@ -49,13 +49,13 @@ pub data Whole : Type 0 where
 abbrev pub signed-of : ℕ → ℕ → Whole
 signed-of v k = cond (ltb v (2 ^ (7 * k - 1))) (plus v) (minus (2 ^ (7 * k) - v))
 
-abbrev pub within : ℕ → Whole → Bool
-within width (plus v) = ltb v (2 ^ (width - 1))
-within width (minus v) = leb v (2 ^ (width - 1))
+abbrev pub withinSigned : ℕ → Whole → Bool
+withinSigned width (plus v) = ltb v (2 ^ (width - 1))
+withinSigned width (minus v) = leb v (2 ^ (width - 1))
 
 -- sN
 unfoldable pub signed : ℕ → Reader Whole
-signed width s at = inRange at (bitsAt (greatestLength width) s at) signed-of (within width)
+signed width s at = inRange at (bitsAt (greatestLength width) s at) signed-of (withinSigned width)
 
 abbrev pub u32 : Reader ℕ
 u32 = unsigned 32

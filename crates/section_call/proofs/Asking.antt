@@ -12,7 +12,7 @@ use Rattle.scope.specs.Refusals.{outOfReach}
 use Rattle.scope.specs.Syntax.{Definition, typesOf}
 use Rattle.scope.specs.Judging.{Judged, accepted, rejected, andThen, judgeSection, askType, partOf}
 use Rattle.scope.specs.Memory.{tableRows, tableCodes}
-use Rattle.scope.specs.Answers.{tableLent, lentEnough, verdictOf, after, sectionCall, SectionJudged, askCall, askedOf, askTable, TypeAsked, TypeHanded}
+use Rattle.scope.specs.Answers.{tableLent, lentEnough, verdictOf, lentAfter, sectionCall, SectionJudged, askCall, askedOf, askTable, TypeAsked, TypeHanded}
 use Rattle.scope.specs.declared.Verdict.{Verdict}
 use Rattle.scope.specs.declared.Verdict
 use Rattle.scope.specs.declared.Asked.{Asked}
@@ -64,8 +64,8 @@ module _ {s rows codes rows₁ codes₁ : List ℕ} {v : Verdict} (a : SectionJu
       let no-table : askTable s x rows codes ≡ rejected k p = rw no-section in
       record {
         answer = rw no-type;
-        rowsAfter = a .rowsAfter ∙ ap (after tableRows rows) (no-section ∙ sym no-table);
-        codesAfter = a .codesAfter ∙ ap (after tableCodes codes) (no-section ∙ sym no-table);
+        rowsAfter = a .rowsAfter ∙ ap (lentAfter tableRows rows) (no-section ∙ sym no-table);
+        codesAfter = a .codesAfter ∙ ap (lentAfter tableCodes codes) (no-section ∙ sym no-table);
       }
 
   module _ (ds : List Definition) (yes-section : sectionCall s rows codes ≡ accepted ds) where
@@ -73,8 +73,8 @@ module _ {s rows codes rows₁ codes₁ : List ℕ} {v : Verdict} (a : SectionJu
     pub viewed : view rows₁ codes₁ ≡ typesOf ds
     viewed =
         let (n, judged) = accepted-judged s (call-accepted s rows codes yes-section) in
-        let r : rows₁ ≡ rowsOf 0 ds ++ replicate (length rows - length (tableRows ds)) 0 = a .rowsAfter ∙ ap (after tableRows rows) yes-section ∙ ap (λ ws. ws ++ replicate (length rows - length (tableRows ds)) 0) (sym (accepted-rows ds judged)) in
-        let c : codes₁ ≡ codesOf ds ++ replicate (length codes - length (tableCodes ds)) 0 = a .codesAfter ∙ ap (after tableCodes codes) yes-section ∙ ap (λ ws. ws ++ replicate (length codes - length (tableCodes ds)) 0) (sym (table-codes ds)) in
+        let r : rows₁ ≡ rowsOf 0 ds ++ replicate (length rows - length (tableRows ds)) 0 = a .rowsAfter ∙ ap (lentAfter tableRows rows) yes-section ∙ ap (λ ws. ws ++ replicate (length rows - length (tableRows ds)) 0) (sym (accepted-rows ds judged)) in
+        let c : codes₁ ≡ codesOf ds ++ replicate (length codes - length (tableCodes ds)) 0 = a .codesAfter ∙ ap (lentAfter tableCodes codes) yes-section ∙ ap (λ ws. ws ++ replicate (length codes - length (tableCodes ds)) 0) (sym (table-codes ds)) in
         ap₂ view r c ∙ view-is ds (length rows - length (tableRows ds)) (replicate (length codes - length (tableCodes ds)) 0) (two-few (accepted-few ds judged))
 
     type-there : {x f t : ℕ} → x < length ds → f ≡ view rows₁ codes₁ x .from → t ≡ view rows₁ codes₁ x .to → TypeAsked s x rows codes rows₁ codes₁ (Asked.the-variants.Bytes f t)
@@ -83,8 +83,8 @@ module _ {s rows codes rows₁ codes₁ : List ℕ} {v : Verdict} (a : SectionJu
         let whole : askTable s x rows codes ≡ accepted ds = rw (yes-section, there) in
         record {
           answer = rw (there, from, to, viewed);
-          rowsAfter = a .rowsAfter ∙ ap (after tableRows rows) (yes-section ∙ sym whole);
-          codesAfter = a .codesAfter ∙ ap (after tableCodes codes) (yes-section ∙ sym whole);
+          rowsAfter = a .rowsAfter ∙ ap (lentAfter tableRows rows) (yes-section ∙ sym whole);
+          codesAfter = a .codesAfter ∙ ap (lentAfter tableCodes codes) (yes-section ∙ sym whole);
         }
 
     type-absent : {x : ℕ} {rows₂ codes₂ : List ℕ} → length ds ≤ x → length rows₁ ≡ length rows → length codes₁ ≡ length codes → Cleared rows₁ codes₁ rows₂ codes₂ → TypeAsked s x rows codes rows₂ codes₂ (Asked.the-variants.Refused outOfReach x)
