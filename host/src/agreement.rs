@@ -66,6 +66,27 @@ fn operands_are_the_plain_checkers() {
     assert!(told > 2_000, "{told}");
 }
 
+/// A trap's cause is found in the state that the run left.
+#[test]
+fn traps_have_a_cause() {
+    let mut loader = Loader::new();
+    let mut seen = [0; 5];
+    for line in generate::requests(51, 6_000, true).filter(|line| line.starts_with("R ")) {
+        let parts: Vec<&str> = line.split(' ').collect();
+        let number = parts[2].parse().expect("a number");
+        let add_on = AddOn { section: bytes(parts[1]), body: bytes(parts[3]), number };
+        let budget = parts[4].parse().expect("a number");
+        let Ok(run) = ask::run(&mut loader, &add_on, budget) else { continue };
+        if let chelbugan::Ended::Trap { number, place, .. } = run.ended {
+            let place = place as usize;
+            let cause = crate::explain::trap::cause(&add_on.body, number, place, &run.state);
+            assert!(cause.is_some(), "{line}");
+            seen[number as usize - 41] += 1;
+        }
+    }
+    assert!(seen[..4].iter().all(|&count| count > 10), "{seen:?}");
+}
+
 fn operand(operand: &plain::frames::Operand) -> String {
     use plain::frames::Operand;
     use plain::syntax::ValueType;

@@ -55,7 +55,7 @@ accepted: exit status 0.",
         uses: &["assemble section TEXT", "assemble body TEXT"],
         does: "make bytes of WebAssembly's text; judges nothing",
         page: "\
-TEXT is the name of a file, - for standard input, or the text itself where it begins with a parenthesis. A section is a list of \
+TEXT is the name of a file, - for standard input, or the text itself: it begins with a parenthesis or has white space in it. A section is a list of \
 (rec ..) and (type ..), a body a (func ..) with flat or folded instructions. The bytes are written in hex, or as they are with --raw.",
     },
     Command {
@@ -168,7 +168,7 @@ pub fn missing(name: &str, given: &[&str], wanted: &[&str]) -> String {
 }
 
 pub fn too_many(name: &str, extra: &str) -> String {
-    format!("{name} takes no further argument: {extra}\n{}", use_of(name))
+    format!("{name} takes no further argument: `{extra}`\n{}", use_of(name))
 }
 
 /// A command that is meant, where one letter or two are amiss.

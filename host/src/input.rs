@@ -1,5 +1,6 @@
 //! Inputs of the command line: hex digits, the name of a file, or standard input.
 
+use crate::recheck::INPUT_BYTES;
 use crate::{hex, Trouble};
 use std::fs::File;
 use std::io::Read;
@@ -7,7 +8,7 @@ use std::path::Path;
 use std::sync::atomic::{AtomicBool, Ordering};
 
 /// One byte more than the greatest input, so that a longer one is refused as such and a huge file is not read whole.
-const READ_AT_MOST: u64 = 32_768 + 1;
+const READ_AT_MOST: u64 = INPUT_BYTES as u64 + 1;
 
 /// The same in hex, with white space and comments to spare.
 const READ_TEXT_AT_MOST: u64 = 16 * READ_AT_MOST;
@@ -40,6 +41,12 @@ pub fn bytes(argument: &str) -> Result<Vec<u8>, Trouble> {
     file(argument)
 }
 
+/// Whether an argument can be read at all, as a file or otherwise.
+pub fn is_input(argument: &str) -> bool {
+    let known = argument.is_empty() || argument == STANDARD_INPUT || argument.starts_with(HEX);
+    known || hex::is_meant(argument) || is_file(argument)
+}
+
 /// Whether an argument names a file that is there.
 pub fn is_file(argument: &str) -> bool {
     Path::new(argument).exists()
@@ -58,10 +65,22 @@ fn hex_digits(argument: &str) -> Result<Vec<u8>, Trouble> {
 }
 
 fn file(name: &str) -> Result<Vec<u8>, Trouble> {
-    if name.ends_with(".hex") {
-        return hex_text(name, read_file(name, READ_TEXT_AT_MOST)?);
+    let is_text = name.ends_with(".hex");
+    let content = match is_file(name) {
+        true => read_file(name, if is_text { READ_TEXT_AT_MOST } else { READ_AT_MOST })?,
+        false => return Err(neither(name)),
+    };
+    match is_text {
+        true => hex_text(name, content),
+        false => Ok(content),
     }
-    read_file(name, READ_AT_MOST)
+}
+
+/// Bytes with a slip of the hand look like pairs apart from each other: then where it is.
+fn neither(name: &str) -> Trouble {
+    let slip = hex::read_text(name).err().filter(|_| name.contains([' ', ',']));
+    let slip = slip.map_or(String::new(), |fault| format!(" ({fault})"));
+    format!("{name}: no such file, and not hex digits{slip}")
 }
 
 /// Hex digits where it is text of them, else the bytes themselves; see `hex::is_text`.
@@ -98,18 +117,19 @@ fn text_of(name: &str, content: Vec<u8>, at_most: u64) -> Result<String, Trouble
     String::from_utf8(content).map_err(|_| format!("{name}: not text"))
 }
 
-/// WebAssembly's text: of a file, of standard input, or the argument itself where it begins with a parenthesis.
+/// WebAssembly's text: of a file, of standard input, or the argument itself, which is no name of a file then: it begins with a
+/// parenthesis, or there is white space in it, or it is empty.
 pub fn words(argument: &str) -> Result<String, Trouble> {
-    let begins = argument.trim_start();
-    if begins.starts_with('(') || begins.starts_with(";;") {
+    if argument == STANDARD_INPUT {
+        let content = read_standard_input(READ_WORDS_AT_MOST)?;
+        return text_of("standard input", content, READ_WORDS_AT_MOST);
+    }
+    let text =
+        argument.is_empty() || argument.starts_with('(') || argument.contains(char::is_whitespace);
+    if text && !is_file(argument) {
         return Ok(argument.to_string());
     }
-    let content = match argument {
-        STANDARD_INPUT => read_standard_input(READ_WORDS_AT_MOST)?,
-        _ => read_file(argument, READ_WORDS_AT_MOST).map_err(|trouble| {
-            trouble.replace("and not hex digits", "and text begins with a parenthesis")
-        })?,
-    };
+    let content = read_file(argument, READ_WORDS_AT_MOST)?;
     text_of(argument, content, READ_WORDS_AT_MOST)
 }
 
@@ -122,12 +142,7 @@ fn read_file(name: &str, at_most: u64) -> Result<Vec<u8>, Trouble> {
 
 fn unread(name: &str, error: &std::io::Error) -> Trouble {
     match error.kind() {
-        std::io::ErrorKind::NotFound => {
-            // Bytes with a slip of the hand look like it: pairs apart from each other.
-            let slip = hex::read_text(name).err().filter(|_| name.contains([' ', ',']));
-            let slip = slip.map_or(String::new(), |fault| format!(" ({fault})"));
-            format!("{name}: no such file, and not hex digits{slip}")
-        }
+        std::io::ErrorKind::NotFound => format!("{name}: no such file"),
         _ => format!("{name}: cannot be read: {error}"),
     }
 }

@@ -89,7 +89,7 @@ pub fn answer_json(loader: &mut Loader, line: &[u8]) -> Json {
             ask::body(loader, add_on).map(|count| yes("instructions", count.into()))
         }
         Request::Run(add_on, budget) => {
-            ask::run(loader, add_on, *budget).map(|run| run_members(&run))
+            ask::run(loader, add_on, *budget).map(|run| run_members(&add_on.body, &run))
         }
     };
     Json::Object(answered.unwrap_or_else(|No { number, place }| {

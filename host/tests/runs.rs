@@ -69,7 +69,7 @@ fn traps_are_explained() {
             "00 D0 00 FB 02 00 00 1A 0B",
             "1",
             ("42", 3, 2),
-            "null used by get, set, as_non_null or ref.get_desc",
+            "struct.get found null",
             "fb 02 00 00",
             "struct.get 0 0",
         ),
@@ -78,7 +78,7 @@ fn traps_are_explained() {
             "00 D0 62 01 FB 20 00 0B",
             "2",
             ("43", 4, 2),
-            "null descriptor, looked at before the object and before room",
+            "struct.new_desc found null as the descriptor",
             "fb 20 00",
             "struct.new_desc 0",
         ),
@@ -87,7 +87,7 @@ fn traps_are_explained() {
             "00 FB 00 01 FB 16 62 00 0B",
             "2",
             ("44", 4, 2),
-            "cast failed",
+            "object 0 is of type 1, which is not below exactly type 0",
             "fb 16 62 00",
             "ref.cast (ref (exact 0))",
         ),
@@ -109,9 +109,40 @@ fn a_full_heap_is_not_shown_whole() {
     let section = "02 5F 00 60 00 00";
     let said = yes(&["run", section, "00 03 40 FB 00 00 1A 0C 00 0B 0B", "1", "1000000"]);
     assert!(said.starts_with("trap 45 at byte 3 of the body, after 3074 steps\n"), "{said}");
-    assert!(said.contains("1,024 objects exist"), "{said}");
+    assert!(said.contains("1,024 objects exist, the most that there may be"), "{said}");
     assert!(said.contains("            object 15: type 0\n            and 1008 more\n"), "{said}");
     assert!(!said.contains("object 16"), "{said}");
+}
+
+/// What each cast found, and a heap without cells for another object.
+#[test]
+fn traps_say_what_was_found() {
+    let cases = [
+        (V, "00 D0 6E FB 16 6E 1A 0B", "0", "null, and (ref any) is not null"),
+        (
+            F1,
+            "00 FB 00 01 FB 20 00 FB 00 01 FB 23 62 00 0B",
+            "2",
+            "object 1 has descriptor object 0, and object 2 was given",
+        ),
+        (
+            F1,
+            "00 FB 00 01 FB 00 01 FB 23 62 00 0B",
+            "2",
+            "object 0 has no descriptor, and object 1 was given",
+        ),
+        (F1, "00 D0 71 FB 00 01 FB 23 62 00 0B", "2", "null, and (ref (exact 0)) is not null"),
+    ];
+    for (section, body, number, cause) in cases {
+        let said = yes(&["run", section, body, number, "100"]);
+        assert!(said.starts_with("trap 44 at byte "), "{said}");
+        assert!(said.contains(&format!("\n  {cause}\n")), "{said}");
+    }
+    // Five fields each: 819 objects have 4,095 cells.
+    let section = format!("02 5F 05 {} 60 00 00", "7F 00 ".repeat(5));
+    let said = yes(&["run", &section, "00 03 40 FB 01 00 1A 0C 00 0B 0B", "1", "1000000"]);
+    assert!(said.starts_with("trap 45 at byte 3 of the body, after 2459 steps\n"), "{said}");
+    assert!(said.contains("its fields need more cells than are left: 1 of 4,096"), "{said}");
 }
 
 /// Every kind of value, in a local; the last of them holds none.

@@ -117,10 +117,10 @@ fn bad_usage_is_told_in_two_lines() {
         (&["run"], "run needs SECTION, BODY, TYPE and BUDGET"),
         (&["run", "00"], "run SECTION needs BODY, TYPE and BUDGET"),
         (&["run", "00", "00", "0"], "run SECTION BODY TYPE needs BUDGET"),
-        (&["run", "00", "00", "0", "1", "2"], "run takes no further argument: 2"),
+        (&["run", "00", "00", "0", "1", "2"], "run takes no further argument: `2`"),
         (&["type", "00"], "type SECTION needs NUMBER"),
-        (&["type", "00", "0", "1"], "type takes no further argument: 1"),
-        (&["lines", "00"], "lines takes no further argument: 00"),
+        (&["type", "00", "0", "1"], "type takes no further argument: `1`"),
+        (&["lines", "00"], "lines takes no further argument: `00`"),
         (&["dump"], "dump needs section or body and its bytes"),
         (&["dump", "00"], "dump needs section or body before its bytes, and 00 is neither"),
         (&["dump", "section"], "dump section needs SECTION"),
@@ -139,6 +139,12 @@ fn bad_usage_is_told_in_two_lines() {
         (&["type", "00", "-1"], "-1: a number is decimal digits"),
         (&["check", "00", "no/such/body", "0"], "no/such/body: no such file, and not hex digits"),
         (&["check", "/"], "/: cannot be read"),
+        (&["explain", "1", "2"], "explain takes no further argument: `2`"),
+        (&["assemble", "body", "no-such"], "no-such: no such file\n"),
+        (
+            &["assemble", "section", "(module)"],
+            "`(type` or `(rec` is wanted here, and not `(module`",
+        ),
         (&["explain", "x"], "x: a number is decimal digits"),
         (&["print", "--quiet", "section", "00"], "print has no option --quiet"),
     ] {
@@ -167,6 +173,8 @@ fn many_files_have_a_line_each() {
     let four = chelbugan(&["check", good.name(), "no/such/file", bad.name(), good.name()]);
     assert_eq!((four.status, four.out.lines().count()), (2, 3), "{}", four.out);
     assert_eq!(four.err, "chelbugan: no/such/file: no such file, and not hex digits\n");
+    let none = chelbugan(&["check", good.name(), "no/such/file"]);
+    assert_eq!((none.status, none.out.lines().count()), (2, 1), "{}", none.out);
     // Two files of which the second is no section: a body whose type was forgotten.
     let forgotten = chelbugan(&["check", good.name(), bad.name()]);
     assert_eq!((forgotten.status, forgotten.out.lines().count()), (1, 2));

@@ -19,7 +19,9 @@ pub fn check(arguments: &Arguments, words: &[&str]) -> Result<Outcome, Trouble> 
         [section, body, number] if !files || lines::read_number(number).is_ok() => {
             add_on(arguments, section, body, number)
         }
-        [_, _] if !files => Err(help::missing(NAME, &["SECTION", "BODY"], &["TYPE"])),
+        [one, other] if !files && input::is_input(one) && input::is_input(other) => {
+            Err(help::missing(NAME, &["SECTION", "BODY"], &["TYPE"]))
+        }
         many => each(arguments, many),
     }
 }

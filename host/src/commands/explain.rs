@@ -25,7 +25,7 @@ pub fn explain(arguments: &Arguments, words: &[&str]) -> Result<Outcome, Trouble
                 false => say(&refusals::text(entry)),
             }
         }
-        [_, extra, ..] => Err(help::too_many("explain N", extra)),
+        [_, extra, ..] => Err(help::too_many(NAME, extra)),
     }
 }
 

@@ -44,7 +44,7 @@ pub fn obey(arguments: &Arguments) -> Result<Outcome, Trouble> {
         "help" => match rest {
             [] => page(arguments, help::all()),
             [command] => page_of(arguments, command),
-            [_, extra, ..] => Err(help::too_many("help COMMAND", extra)),
+            [_, extra, ..] => Err(help::too_many("help", extra)),
         },
         _ => Err(unknown(command)),
     }

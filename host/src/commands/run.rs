@@ -18,12 +18,12 @@ pub fn run(arguments: &Arguments, words: &[&str]) -> Result<Outcome, Trouble> {
     match ask::run(&mut loader, &add_on, budget) {
         Err(refusal) => refused(arguments, NAME, refusal, &add_on_told(&add_on, refusal)),
         Ok(_) if arguments.quiet => Ok(Outcome::Yes),
-        Ok(run) if arguments.json => say_json(NAME, members(&run)),
+        Ok(run) if arguments.json => say_json(NAME, members(&add_on.body, &run)),
         Ok(run) => say(&explain::ended(&add_on.body, &run)),
     }
 }
 
-pub fn members(run: &Run) -> Vec<(&'static str, Json)> {
+pub fn members(body: &[u8], run: &Run) -> Vec<(&'static str, Json)> {
     let mut members = vec![("answer", "yes".into())];
     match run.ended {
         Ended::Done { steps, .. } => {
@@ -37,6 +37,8 @@ pub fn members(run: &Run) -> Vec<(&'static str, Json)> {
             members.push(("trap", number.into()));
             members.push(("place", place.into()));
             members.push(("meaning", refusals::title(number).into()));
+            let why = explain::trap::cause(body, number, place as usize, &run.state);
+            members.push(("cause", why.unwrap_or(refusals::title(number).to_string()).into()));
         }
         Ended::Spent { steps } => {
             members.push(("ended", "spent".into()));

@@ -3,10 +3,12 @@
 
 mod around;
 mod body;
+mod numbers;
 pub mod refusals;
 mod run;
 mod section;
 mod state;
+pub mod trap;
 
 pub use body::body_refusal;
 pub use run::ended;

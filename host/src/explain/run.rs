@@ -2,7 +2,7 @@
 
 use super::around::around;
 use super::state::{state_text, told};
-use super::{counted, refusals, stacked, wrapped};
+use super::{counted, refusals, stacked, trap, wrapped};
 use crate::dump;
 use crate::read::section::Line;
 use chelbugan::{Ended, Run};
@@ -11,7 +11,9 @@ pub fn ended(body: &[u8], run: &Run) -> String {
     let (how, place) = match run.ended {
         Ended::Done { steps, .. } => (done(steps, run), "the body's end"),
         Ended::Trap { number, place, steps } => {
-            (trapped(body, (number, place as usize), steps), "the trapping instruction")
+            let why = trap::cause(body, number, place as usize, &run.state);
+            let why = why.unwrap_or(refusals::title(number).to_string());
+            (trapped(body, (number, place as usize), steps, &why), "the trapping instruction")
         }
         Ended::Spent { steps } => {
             (spent(body, steps, run.state.place() as usize), "the next instruction")
@@ -25,11 +27,11 @@ fn done(steps: u64, run: &Run) -> String {
     format!("done after {}, results: {}\n", counted(steps, "step"), stacked(&told(&results)))
 }
 
-fn trapped(body: &[u8], (number, place): (u64, usize), steps: u64) -> String {
+fn trapped(body: &[u8], (number, place): (u64, usize), steps: u64, why: &str) -> String {
     let mut text = format!(
         "trap {number} at byte {place} of the body, after {}\n{}",
         counted(steps, "step"),
-        wrapped(refusals::title(number))
+        wrapped(why)
     );
     if let Some(line) = instruction_at(body, place) {
         text += &around(body, line.bytes.clone());

@@ -1,7 +1,7 @@
 //! The refusal of a section.
 
 use super::around::{around, byte_remark};
-use super::{reason, shown_text, wrapped, Told};
+use super::{counted, reason, shown_text, wrapped, Told};
 use crate::ask::No;
 use crate::recheck::{self, Cause, Input, INPUT_BYTES};
 
@@ -52,7 +52,8 @@ pub fn section_refusal(section: &[u8], refusal: No) -> Told {
 /// Asked for a type that is not there: no rule of the section is broken.
 fn absent(count: usize, refusal: No) -> Option<Cause> {
     let number = refusal.place;
-    let words = format!("the section has {count} types; there is no type {number}");
+    let words =
+        format!("the section has {}; there is no type {number}", counted(count as u64, "type"));
     (refusal.number == 6).then(|| Cause::new(6, number as usize, words))
 }
 

@@ -1,7 +1,7 @@
 //! The first fault of a body whose section was accepted: its size, its number, its locals, then instruction by instruction.
 
 use super::stack::{Frame, Kind, Operand};
-use super::{counted, Cause, Input, Operands, Wanted, INPUT_BYTES};
+use super::{counted, Cause, Input, INPUT_BYTES};
 use crate::read;
 use crate::syntax::{Form, Heap, Instruction, Item, Placed, Plain, Type, ValueType};
 
@@ -9,9 +9,6 @@ use crate::syntax::{Form, Heap, Instruction, Item, Placed, Plain, Type, ValueTyp
 const LOCALS: u64 = 256;
 const OPERANDS: usize = 512;
 const FRAMES: usize = 64;
-
-pub const OPERAND: u64 = 20;
-pub const VALUES_LEFT: u64 = 28;
 
 /// The count of instructions, or the first fault.
 pub fn judge(types: &[Type], number: u64, body: &[u8]) -> Result<u64, Cause> {
@@ -100,7 +97,7 @@ impl<'a> Check<'a> {
         }
     }
 
-    fn cause(&self, number: u64, at: usize, words: String) -> Cause {
+    pub fn cause(&self, number: u64, at: usize, words: String) -> Cause {
         Cause::new(number, self.parts[at].bytes.start, words)
     }
 
@@ -155,93 +152,6 @@ impl<'a> Check<'a> {
     /// The operands of the innermost frame.
     pub fn own(&self) -> &[Operand] {
         &self.operands[self.frame().height..]
-    }
-
-    /// With those that were taken already.
-    fn operands_told(&self, wanted: &[Wanted], taken: &[Operand]) -> Operands {
-        Operands {
-            wanted: wanted.to_vec(),
-            there: [self.own(), taken].concat(),
-            unreachable: self.frame().unreachable,
-        }
-    }
-
-    /// Operands from the top: those that were there, bottom first.
-    fn take_all(
-        &mut self,
-        at: usize,
-        instruction: &Instruction,
-        wanted: &[Wanted],
-    ) -> Result<Vec<Operand>, Cause> {
-        for (index, &want) in wanted.iter().rev().enumerate() {
-            let own = self.own();
-            let found = own.len().checked_sub(index + 1).map(|place| own[place]);
-            let fits = match found {
-                Some(operand) => operand.kind.is(self.types, want),
-                None => self.frame().unreachable,
-            };
-            if !fits {
-                return Err(self.unfit(at, instruction, wanted, index));
-            }
-        }
-        let left = self.operands.len().saturating_sub(wanted.len()).max(self.frame().height);
-        Ok(self.operands.split_off(left))
-    }
-
-    /// 20: the operand wanted and the one found.
-    fn unfit(
-        &self,
-        at: usize,
-        instruction: &Instruction,
-        wanted: &[Wanted],
-        index: usize,
-    ) -> Cause {
-        let want = wanted[wanted.len() - 1 - index];
-        let where_ = match index {
-            0 => "on top".to_string(),
-            1 => "below the top".to_string(),
-            _ => format!("{index} below the top"),
-        };
-        let own = self.own();
-        let name = instruction.name();
-        let mut cause = match own.len().checked_sub(index + 1).map(|place| own[place]) {
-            Some(found) => {
-                let words = format!("{name} wants {want} {where_} and finds {found}");
-                let cause = self.cause(OPERAND, at, words);
-                self.with_part(cause, found.by, &format!(", which put {found} there"))
-            }
-            None => {
-                let has = match own.len() {
-                    0 => "its block has no operand".to_string(),
-                    count => format!("its block has only {}", counted(count, "operand")),
-                };
-                self.cause(OPERAND, at, format!("{name} wants {want} {where_}, and {has}"))
-            }
-        };
-        cause.operands = Some(self.operands_told(wanted, &[]));
-        cause
-    }
-
-    /// 28: what is left at `end`.
-    fn values_left(
-        &self,
-        at: usize,
-        instruction: &Instruction,
-        wanted: &[Wanted],
-        taken: &[Operand],
-    ) -> Result<(), Cause> {
-        let Instruction::Plain(Plain::End) = instruction else { return Ok(()) };
-        let own = self.own();
-        let Some(last) = own.last() else { return Ok(()) };
-        let left = match own.len() {
-            1 => "1 value is left".to_string(),
-            count => format!("{count} values are left"),
-        };
-        let words = format!("{left} at `end` below its {}", counted(wanted.len(), "result"));
-        let mut cause = self.cause(VALUES_LEFT, at, words);
-        cause = self.with_part(cause, last.by, &format!(", which put {last} there"));
-        cause.operands = Some(self.operands_told(wanted, taken));
-        Err(cause)
     }
 
     fn within_sizes(&self, at: usize) -> Result<(), Cause> {

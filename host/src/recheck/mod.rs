@@ -2,8 +2,11 @@
 //! a cause is used only where its number and place are the library's.
 
 pub mod body;
-mod instruction;
-pub mod order;
+mod effects;
+mod matching;
+mod operands;
+mod order;
+mod rules;
 pub mod section;
 mod stack;
 

@@ -137,7 +137,8 @@ impl<'a> Words<'a> {
 
     /// What stands here instead of what is wanted.
     pub fn unexpected(&self, wanted: &str) -> Fault {
-        match self.peek() {
+        let behind = self.opens().map(|word| format!("({word}"));
+        match behind.as_deref().or(self.peek()) {
             Some(text) => self.fault(format!("{wanted} is wanted here, and not `{text}`")),
             None => self.fault(format!("{wanted} is wanted behind this, and the text ends")),
         }

@@ -1,0 +1,98 @@
+//! Operands taken from the top: the one wanted and the one found (20), and those that are left at `end` (28).
+
+use super::body::Check;
+use super::stack::Operand;
+use super::{counted, Cause, Operands, Wanted};
+use crate::syntax::{Instruction, Plain};
+
+const OPERAND: u64 = 20;
+const VALUES_LEFT: u64 = 28;
+
+impl Check<'_> {
+    /// With those that were taken already.
+    fn operands_told(&self, wanted: &[Wanted], taken: &[Operand]) -> Operands {
+        Operands {
+            wanted: wanted.to_vec(),
+            there: [self.own(), taken].concat(),
+            unreachable: self.frame().unreachable,
+        }
+    }
+
+    /// Operands from the top: those that were there, bottom first.
+    pub fn take_all(
+        &mut self,
+        at: usize,
+        instruction: &Instruction,
+        wanted: &[Wanted],
+    ) -> Result<Vec<Operand>, Cause> {
+        for (index, &want) in wanted.iter().rev().enumerate() {
+            let own = self.own();
+            let found = own.len().checked_sub(index + 1).map(|place| own[place]);
+            let fits = match found {
+                Some(operand) => operand.kind.is(self.types, want),
+                None => self.frame().unreachable,
+            };
+            if !fits {
+                return Err(self.unfit(at, instruction, wanted, index));
+            }
+        }
+        let left = self.operands.len().saturating_sub(wanted.len()).max(self.frame().height);
+        Ok(self.operands.split_off(left))
+    }
+
+    /// 20: the operand wanted and the one found.
+    fn unfit(
+        &self,
+        at: usize,
+        instruction: &Instruction,
+        wanted: &[Wanted],
+        index: usize,
+    ) -> Cause {
+        let want = wanted[wanted.len() - 1 - index];
+        let where_ = match index {
+            0 => "on top".to_string(),
+            1 => "below the top".to_string(),
+            _ => format!("{index} below the top"),
+        };
+        let own = self.own();
+        let name = instruction.name();
+        let mut cause = match own.len().checked_sub(index + 1).map(|place| own[place]) {
+            Some(found) => {
+                let words = format!("{name} wants {want} {where_} and finds {found}");
+                let cause = self.cause(OPERAND, at, words);
+                self.with_part(cause, found.by, &format!(", which put {found} there"))
+            }
+            None => {
+                let has = match own.len() {
+                    0 => "its block has no operand".to_string(),
+                    count => format!("its block has only {}", counted(count, "operand")),
+                };
+                self.cause(OPERAND, at, format!("{name} wants {want} {where_}, and {has}"))
+            }
+        };
+        cause.operands = Some(self.operands_told(wanted, &[]));
+        cause
+    }
+
+    /// 28: what is left at `end`.
+    pub fn values_left(
+        &self,
+        at: usize,
+        instruction: &Instruction,
+        wanted: &[Wanted],
+        taken: &[Operand],
+    ) -> Result<(), Cause> {
+        let Instruction::Plain(Plain::End) = instruction else { return Ok(()) };
+        let own = self.own();
+        let Some(last) = own.last() else { return Ok(()) };
+        let left = match own.len() {
+            1 => "1 value is left".to_string(),
+            count => format!("{count} values are left"),
+        };
+        let words = format!("{left} at `end` below its {}", counted(wanted.len(), "result"));
+        let mut cause = self.cause(VALUES_LEFT, at, words);
+        cause = self.with_part(cause, last.by, &format!(", which put {last} there"));
+        cause.operands = Some(self.operands_told(wanted, taken));
+        Err(cause)
+    }
+}
