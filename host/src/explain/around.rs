@@ -7,7 +7,7 @@ const BYTES_A_LINE: usize = 16;
 
 /// Lines of bytes that are shown before the fault, and at most of the fault itself.
 const LINES_BEFORE: usize = 1;
-const LINES_AT_MOST: usize = 8;
+const LINES_AT_MOST: usize = 3;
 
 /// The bytes around a range with the range marked; a byte that is missing is marked behind the last one.
 pub fn around(bytes: &[u8], marked: Range<usize>) -> String {

@@ -108,3 +108,32 @@ fn counted(count: u64, word: &str) -> String {
         _ => format!("{count} {word}s"),
     }
 }
+
+#[cfg(test)]
+mod tests {
+    use super::*;
+    use crate::ask::{AddOn, No};
+
+    /// Where the check by itself comes to another number or place, only what the library said is told.
+    #[test]
+    fn the_librarys_verdict_is_the_one_told() {
+        let section = [0x00, 0x00];
+        let own = section_refusal(&section, No { number: 5, place: 1 });
+        assert_eq!(own.words, "1 byte is left over");
+        for (number, place) in [(5, 0), (3, 1), (8, 0)] {
+            let told = section_refusal(&section, No { number, place });
+            assert!(told.headline.starts_with(&format!("no: refusal {number} at ")));
+            assert_eq!(told.words, refusals::title(number));
+        }
+        let (section, body) = (vec![0x01, 0x60, 0x00, 0x00], vec![0x00, 0x1A, 0x0B]);
+        let add_on = AddOn { section, body, number: 0 };
+        let own = body_refusal(&add_on, No { number: 20, place: 1 });
+        assert_eq!(own.words, "drop wants any value on top, and its block has no operand");
+        for (number, place) in [(20, 2), (23, 1), (28, 2), (3, 9)] {
+            let told = body_refusal(&add_on, No { number, place });
+            assert_eq!(told.headline, format!("no: refusal {number} at byte {place} of the body"));
+            assert_eq!(told.words, refusals::title(number));
+            assert!(!told.text.contains("it takes"), "{}", told.text);
+        }
+    }
+}

@@ -153,14 +153,12 @@ impl Parts<'_> {
         self.reader.place += 1;
         let count = self.reader.unsigned("the count of supertypes")?;
         let mut supertypes = Vec::new();
-        let mut text = if open { "open" } else { "final" }.to_string();
         for _ in 0..count {
-            let supertype = self.reader.unsigned("a supertype's number")?;
-            supertypes.push(supertype);
-            text += &format!(", supertype {supertype}");
+            supertypes.push(self.reader.unsigned("a supertype's number")?);
         }
-        let bytes = self.line(text);
-        Ok(Some(Placed { bytes, what: Front { open, supertypes } }))
+        let front = Front { open, supertypes };
+        let bytes = self.line(front.to_string());
+        Ok(Some(Placed { bytes, what: front }))
     }
 
     fn clause(&mut self, code: u8, word: &str) -> Result<Option<Placed<u32>>, Fault> {

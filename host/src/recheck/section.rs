@@ -117,9 +117,7 @@ fn supertype_open(types: &[Type], number: usize) -> Option<Cause> {
 }
 
 fn front_text(own: &Type) -> String {
-    let word = if own.is_open() { "open" } else { "final" };
-    let supertypes = own.supertypes().iter().map(|number| format!(", supertype {number}"));
-    word.to_string() + &supertypes.collect::<String>()
+    own.front.as_ref().map_or("final".to_string(), |front| front.what.to_string())
 }
 
 /// Openness and supertypes of another type; its first bytes where it says neither.

@@ -219,6 +219,22 @@ impl fmt::Display for ValueType {
     }
 }
 
+/// Supertypes that are named; one is the most that the rules allow.
+const NAMED: usize = 8;
+
+impl fmt::Display for Front {
+    fn fmt(&self, to: &mut fmt::Formatter) -> fmt::Result {
+        write!(to, "{}", if self.open { "open" } else { "final" })?;
+        for number in self.supertypes.iter().take(NAMED) {
+            write!(to, ", supertype {number}")?;
+        }
+        match self.supertypes.len().saturating_sub(NAMED) {
+            0 => Ok(()),
+            more => write!(to, " and {more} more"),
+        }
+    }
+}
+
 impl fmt::Display for Field {
     fn fmt(&self, to: &mut fmt::Formatter) -> fmt::Result {
         match self.mutable {
