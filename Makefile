@@ -1,17 +1,67 @@
-# all: the program at build/chelbugan. demo: judge the sections and bodies of examples/ by it and run some of them, then answer
-# the requests of examples/requests.txt by computing the definitions.
+# make: the program at build/chelbugan and the library that it calls, build/libchelbugan.a. library: the library alone.
+# install: the header, the library, a pkg-config file and the program to PREFIX, below DESTDIR. clean: removes what was
+# built; the proofs in target/ stay.
+# demo: judge the sections and bodies of examples/ by the program and run some of them, then answer the requests of
+# examples/requests.txt by computing the definitions.
 # check: run the gate. compare: the library against the plain checker on COUNT requests. valgrind: the library under it.
 # bench: times, to docs/BENCH.md.
-# All need the Rattle toolchain's rt and cargo on PATH, on x86-64 or Arm.
-.PHONY: all demo check compare valgrind bench
+# The library needs the Rattle toolchain's rt, all else cargo, on x86-64 or Arm. With CHELBUGAN_LIB_DIR, a folder with a
+# libchelbugan.a that is there, nothing is proved and rt is not needed.
+.PHONY: all library cargo install uninstall clean demo check compare valgrind bench
 
 REQUESTS := examples/requests.txt
 SEED := 1
 COUNT := 1000000
+PREFIX := /usr/local
+DESTDIR :=
 
-all:
+ARCHIVE := $(if $(CHELBUGAN_LIB_DIR),$(CHELBUGAN_LIB_DIR),build)/libchelbugan.a
+HEADER := include/chelbugan.h
+VERSION := $(shell sed -n 's/^.define CHELBUGAN_VERSION_TEXT "\(.*\)"/\1/p' $(HEADER))
+INTO := $(DESTDIR)$(PREFIX)
+
+all: library cargo
 	@cargo build --release --quiet --manifest-path host/Cargo.toml
+	@mkdir -p build
 	@cp host/target/release/chelbugan build/chelbugan
+	@echo 'build/chelbugan is built'
+
+library:
+	@$(if $(CHELBUGAN_LIB_DIR),true,host/build-library build)
+
+cargo:
+	@command -v cargo >/dev/null || { echo 'make: cargo is not on PATH. It is the build tool of Rust: install Rust 1.95 or later (https://rustup.rs).' >&2; \
+	    echo 'make: the library alone needs no cargo: make library. Nothing was removed.' >&2; exit 1; }
+
+define PKG_CONFIG
+prefix=$(PREFIX)
+libdir=$${prefix}/lib
+includedir=$${prefix}/include
+
+Name: chelbugan
+Description: Says yes or no to a WebAssembly add-on before the add-on may run
+Version: $(VERSION)
+Libs: -L$${libdir} -lchelbugan
+Cflags: -I$${includedir}
+endef
+export PKG_CONFIG
+
+install:
+	@[ -f $(ARCHIVE) ] || { echo 'make: there is no $(ARCHIVE) to install: make, or make library, builds it' >&2; exit 1; }
+	@install -d $(INTO)/include $(INTO)/lib/pkgconfig
+	@install -m 644 $(HEADER) $(INTO)/include/chelbugan.h
+	@install -m 644 $(ARCHIVE) $(INTO)/lib/libchelbugan.a
+	@printf '%s\n' "$$PKG_CONFIG" >$(INTO)/lib/pkgconfig/chelbugan.pc
+	@chmod 644 $(INTO)/lib/pkgconfig/chelbugan.pc
+	@if [ -f build/chelbugan ]; then install -d $(INTO)/bin && install -m 755 build/chelbugan $(INTO)/bin/chelbugan; fi
+	@echo 'chelbugan $(VERSION) is installed in $(INTO)'
+
+uninstall:
+	@rm -f $(INTO)/include/chelbugan.h $(INTO)/lib/libchelbugan.a $(INTO)/lib/pkgconfig/chelbugan.pc $(INTO)/bin/chelbugan
+
+clean:
+	@rm -rf build host/target tests/plain/target tests/definitions/target tests/host/target bench/target
+	@echo 'what was built is removed; the proofs stay in target/ (remove that too to prove from nothing)'
 
 demo: all
 	@examples/demo
@@ -22,11 +72,11 @@ demo: all
 check:
 	.ci/run
 
-compare:
+compare: library cargo
 	@cargo run --release --quiet --manifest-path tests/host/Cargo.toml -- compare $(SEED) $(COUNT)
 
-valgrind:
+valgrind: library cargo
 	@tests/host/valgrind
 
-bench:
+bench: library cargo
 	@cd bench && cargo run --release --quiet

@@ -1,8 +1,9 @@
 /* Chelbugan says yes or no to a WebAssembly add-on before the add-on may run.
  *
- * For a host in C or C++. Link build/libchelbugan.a, which `make` builds; of other code it needs memset alone. Nothing is
- * allocated, no file is touched, and no state outlives a call. docs/EMBEDDING.md shows a whole host, docs/LAYOUT.md every
- * word of the lent memory. "Document 01" is the paper with the loader's rules, whose numbers the refusals bear.
+ * For a host in C or C++. Link libchelbugan.a, which `make` builds and `make install` installs; of other code it needs memset
+ * alone. Nothing is allocated, no file is touched, and no state outlives a call. docs/EMBEDDING.md shows a whole host and
+ * has an integrator's figures, docs/LAYOUT.md every word of the lent memory. "Document 01" is the paper with the loader's
+ * rules, whose numbers the refusals and traps bear.
  *
  * WHAT A CALLER MUST KEEP. The proofs hold for any bytes, numbers and lengths; these are all that they take on trust:
  *   1. No pointer is null, where its length is 0 either, and each is aligned for its element.
@@ -13,14 +14,16 @@
  *      buffers of their own may run at the same time.
  * Lent memory may hold anything beforehand, and may be lent again as it is.
  *
- * ANSWERS. Each call returns what the answer is, CHELBUGAN_NO or a yes, and writes the answer's values to the three words
- * of `answer`; a word that has no value is 0. After CHELBUGAN_NO these are
- *   answer[0]  the refusal's number, 1 to 14 and 20 to 29
- *   answer[1]  its place: a byte's offset in the section or the body, or a type's number; docs/LAYOUT.md and document 01
- *              say which
+ * ANSWERS. Each call but chelbugan_version returns what the answer is, CHELBUGAN_NO or a yes, and writes the answer's values
+ * to the four words of `answer`; a word that has no value is 0, and the fourth is 0 in every answer of this version. After
+ * CHELBUGAN_NO these are
+ *   answer[0]  the refusal's number, CHELBUGAN_REFUSAL_..
+ *   answer[1]  its place, as the list of the refusals says
  *   answer[2]  0
+ *   answer[3]  0
  * and every element of every other lent buffer is 0. `answer` is where the answer itself goes and no buffer in document
- * 01's sense: it is never refused and never zeroed.
+ * 01's sense: it is never refused and never zeroed. A host that meets a number that this header does not have takes it as a
+ * no.
  */
 #ifndef CHELBUGAN_H
 #define CHELBUGAN_H
@@ -32,12 +35,76 @@
 extern "C" {
 #endif
 
+/* The version of this header: 10,000 times the first number, 100 times the second, and the third. chelbugan_version() is the
+ * archive's. Where the first numbers are equal the calls have one shape, and what this header names means the same. */
+#define CHELBUGAN_VERSION 10000
+#define CHELBUGAN_VERSION_TEXT "1.0.0"
+
 /* What each call returns: 0 is a refusal, everything else is a yes. Only a trial run has more than one. */
 #define CHELBUGAN_NO 0
 #define CHELBUGAN_YES 1
 #define CHELBUGAN_DONE 1  /* a run came to its end */
 #define CHELBUGAN_TRAP 2  /* a run was stopped by an instruction */
 #define CHELBUGAN_SPENT 3 /* a run's budget was used up */
+
+/* The refusals: 1 to 14, 20 to 25 and 27 to 29; there are no others (26 does not exist). Each with its place:
+ *   byte         an offset in the input at fault, the section or the body; a missing byte lies at the input's length
+ *   instruction  the offset of its first byte in the body
+ *   type         a type's number: the type of the section at fault
+ *   0            no place: the whole input, the budget, the parameters or a buffer
+ * Where a number has several kinds of place:
+ *   - 4 of a section is 0 for a section that is too long; a type where a chain of supertypes is longer than CHELBUGAN_CHAIN
+ *     (type 67, say, at the end of a chain of 64); else the first byte of the entry beyond a size (byte 67, say, for a 65th
+ *     parameter). A host that has to know judges the section once more, cut off after byte answer[1] (section_len =
+ *     answer[1] + 1, if the section is so long): a byte's refusal is the same again, a type's is another.
+ *   - 4 of a body is the instruction that goes beyond, the first byte of an entry of its locals, or 0 for a body that is too
+ *     long; of a run it is 0 for the budget too.
+ *   - 6 of a section is a type; of a type asked for it is the number asked for; of a body it is the instruction, or the first
+ *     byte of an entry of its locals.
+ * A body's call, and a run's, judges the section first; the place is one of the section then. */
+#define CHELBUGAN_REFUSAL_BYTES_END 1              /* bytes end inside an item; byte: the item's first */
+#define CHELBUGAN_REFUSAL_BAD_NUMBER 2             /* LEB too long or out of range; byte: its first */
+#define CHELBUGAN_REFUSAL_NOT_LISTED 3             /* byte or FB number not listed, negative number as type; byte */
+#define CHELBUGAN_REFUSAL_OVERSIZE 4               /* a size exceeded; byte, type (section's chain), instruction, or 0 */
+#define CHELBUGAN_REFUSAL_LEFT_OVER 5              /* bytes left over; byte: the first of them */
+#define CHELBUGAN_REFUSAL_OUT_OF_REACH 6           /* type number out of reach; type (section), number asked, instruction */
+#define CHELBUGAN_REFUSAL_BAD_SUPERTYPE 7          /* supertype not earlier, not open, or more than one; type */
+#define CHELBUGAN_REFUSAL_NO_MATCH 8               /* does not match its supertype; type */
+#define CHELBUGAN_REFUSAL_CLAUSE_NOT_ON_STRUCT 9   /* describes or descriptor on a function; type */
+#define CHELBUGAN_REFUSAL_DESCRIBES_NOT_EARLIER 10 /* describes names no earlier type; type */
+#define CHELBUGAN_REFUSAL_CLAUSES_DISAGREE 11      /* x has descriptor y, and y does not describe x, or the reverse; type */
+#define CHELBUGAN_REFUSAL_BAD_DESCRIPTOR 12        /* its descriptor is not below its supertype's; type */
+#define CHELBUGAN_REFUSAL_BAD_DESCRIBES 13         /* it and its supertype do not describe alike; type */
+#define CHELBUGAN_REFUSAL_BUFFER_TOO_SMALL 14      /* a lent buffer under its size, below; 0 */
+#define CHELBUGAN_REFUSAL_BAD_OPERAND 20           /* operand missing or wrong; instruction */
+#define CHELBUGAN_REFUSAL_ABSENT 21                /* label or local absent; instruction */
+#define CHELBUGAN_REFUSAL_NOT_SET 22               /* local not set; instruction */
+#define CHELBUGAN_REFUSAL_BAD_STRUCT 23            /* no struct, no such field, descriptor missing or unwanted; instruction */
+#define CHELBUGAN_REFUSAL_FIELD_FIXED 24           /* field fixed; instruction */
+#define CHELBUGAN_REFUSAL_BAD_BRANCH 25            /* branching cast's rule, label without types; instruction */
+#define CHELBUGAN_REFUSAL_NOT_A_FUNCTION 27        /* not a function type's number; 0 */
+#define CHELBUGAN_REFUSAL_VALUES_LEFT 28           /* values left at an end; instruction */
+#define CHELBUGAN_REFUSAL_NO_DEFAULT 29            /* no default; instruction, or 0 for a run's parameters */
+
+/* The traps: 41 to 45. A trap's place is that of the trapping instruction. */
+#define CHELBUGAN_TRAP_UNREACHABLE 41
+#define CHELBUGAN_TRAP_NULL 42            /* null used by get, set, as_non_null or ref.get_desc */
+#define CHELBUGAN_TRAP_NULL_DESCRIPTOR 43
+#define CHELBUGAN_TRAP_CAST 44            /* a cast failed */
+#define CHELBUGAN_TRAP_NO_ROOM 45         /* no object or too few cells are left */
+
+/* Sizes of document 01. What goes beyond is refusal 4; of objects and cells it is trap 45. */
+#define CHELBUGAN_SECTION_BYTES 32768
+#define CHELBUGAN_BODY_BYTES 32768
+#define CHELBUGAN_TYPES 256
+#define CHELBUGAN_FIELDS 64          /* fields, parameters or results, each */
+#define CHELBUGAN_CHAIN 63           /* steps up a chain of supertypes */
+#define CHELBUGAN_BODY_LOCALS 256    /* parameters among them */
+#define CHELBUGAN_BODY_OPERANDS 512  /* in all frames after an instruction */
+#define CHELBUGAN_FRAMES 64          /* the function's own counted */
+#define CHELBUGAN_BUDGET 1000000     /* steps of a run */
+#define CHELBUGAN_HEAP_OBJECTS 1024
+#define CHELBUGAN_HEAP_CELLS 4096    /* one for each field of each object */
 
 /* How many elements a buffer has at least. A shorter one is refusal 14 at 0, before anything else is looked at; of a
  * longer one the rest is zeroed too. */
@@ -53,18 +120,12 @@ extern "C" {
 #define CHELBUGAN_BLOCKS 189    /* uint16_t: 63 open blocks */
 
 /* The words of an answer; always so many. */
-#define CHELBUGAN_ANSWER 3
+#define CHELBUGAN_ANSWER 4
 
-/* Sizes of document 01. A longer section or body, or a greater budget, is refusal 4 at 0. */
-#define CHELBUGAN_SECTION_BYTES 32768
-#define CHELBUGAN_BODY_BYTES 32768
-#define CHELBUGAN_TYPES 256
-#define CHELBUGAN_BUDGET 1000000 /* steps of a run */
-
-/* Row x of the table begins at rows[CHELBUGAN_ROW_WORDS * x]; these are the words of a row that most hosts want.
- * A number that may be missing is 0 for none, else one more than the number. */
+/* Row x of the table begins at rows[CHELBUGAN_ROW_WORDS * x]. A number that may be missing is 0 for none, else one more than
+ * the number. Words 9 and 11 are the loader's own (docs/LAYOUT.md). */
 #define CHELBUGAN_ROW_WORDS 12
-#define CHELBUGAN_ROW_FORM 0       /* 1 struct, 2 function */
+#define CHELBUGAN_ROW_FORM 0       /* CHELBUGAN_FORM_.. */
 #define CHELBUGAN_ROW_FIELDS 1     /* fields of a struct, parameters of a function */
 #define CHELBUGAN_ROW_RESULTS 2    /* results of a function */
 #define CHELBUGAN_ROW_OPEN 3       /* 1 open, 0 final */
@@ -73,7 +134,34 @@ extern "C" {
 #define CHELBUGAN_ROW_DESCRIPTOR 6 /* the same */
 #define CHELBUGAN_ROW_FROM 7       /* offset of the definition's first byte */
 #define CHELBUGAN_ROW_TO 8         /* offset after its last byte */
+#define CHELBUGAN_ROW_REACH 9      /* it may name the types below this number */
 #define CHELBUGAN_ROW_CODE 10      /* where its codes begin in codes */
+#define CHELBUGAN_FORM_STRUCT 1
+#define CHELBUGAN_FORM_FUNCTION 2
+
+/* A code of a struct's field is CHELBUGAN_FIELD_.. and twice a value type's; of a parameter or a result it is a value type's:
+ * a number's, or CHELBUGAN_TYPE_REF(_NULL) and twice a heap type's. Those of heap types: an abstract one's, or that of a
+ * type's number x, CHELBUGAN_HEAP_DEFINED + 2 * x, exact CHELBUGAN_HEAP_EXACT + 2 * x. */
+#define CHELBUGAN_FIELD_FIXED 0
+#define CHELBUGAN_FIELD_MUTABLE 1
+#define CHELBUGAN_TYPE_I32 0
+#define CHELBUGAN_TYPE_I64 1
+#define CHELBUGAN_TYPE_F32 2
+#define CHELBUGAN_TYPE_F64 3
+#define CHELBUGAN_TYPE_REF 4
+#define CHELBUGAN_TYPE_REF_NULL 5
+#define CHELBUGAN_HEAP_NOFUNC 0
+#define CHELBUGAN_HEAP_NOEXTERN 1
+#define CHELBUGAN_HEAP_NONE 2
+#define CHELBUGAN_HEAP_FUNC 3
+#define CHELBUGAN_HEAP_EXTERN 4
+#define CHELBUGAN_HEAP_ANY 5
+#define CHELBUGAN_HEAP_EQ 6
+#define CHELBUGAN_HEAP_I31 7
+#define CHELBUGAN_HEAP_STRUCT 8
+#define CHELBUGAN_HEAP_ARRAY 9
+#define CHELBUGAN_HEAP_DEFINED 10
+#define CHELBUGAN_HEAP_EXACT 11
 
 /* The state that a run leaves. counts holds the place in the body (of the next instruction; of the trapping one after a
  * trap; the body's length when done) and how many objects, cells, locals, operands and open blocks there are. */
@@ -106,16 +194,18 @@ extern "C" {
 
 /* Open block n, the outermost first, begins at blocks[CHELBUGAN_BLOCK_WORDS * n]; the function's own frame is none. */
 #define CHELBUGAN_BLOCK_WORDS 3
-#define CHELBUGAN_BLOCK_KIND 0  /* 1 block, 2 loop */
+#define CHELBUGAN_BLOCK_KIND 0  /* CHELBUGAN_BLOCK_IS_.. */
 #define CHELBUGAN_BLOCK_PLACE 1 /* of the instruction that opened it */
 #define CHELBUGAN_BLOCK_BELOW 2 /* how many operands lie below it */
+#define CHELBUGAN_BLOCK_IS_BLOCK 1
+#define CHELBUGAN_BLOCK_IS_LOOP 2
 
-/* A trap's number. */
-#define CHELBUGAN_TRAP_UNREACHABLE 41
-#define CHELBUGAN_TRAP_NULL 42            /* null used by get, set, as_non_null or ref.get_desc */
-#define CHELBUGAN_TRAP_NULL_DESCRIPTOR 43
-#define CHELBUGAN_TRAP_CAST 44            /* a cast failed */
-#define CHELBUGAN_TRAP_ROOM 45            /* no object or too few cells are left */
+/* The version of the archive, as CHELBUGAN_VERSION has the header's. A host that takes an archive as it comes asks it first.
+ *
+ *   if (chelbugan_version() / 10000 == CHELBUGAN_VERSION / 10000)
+ *       printf("version %llu\n", (unsigned long long)chelbugan_version());   // version 10000
+ */
+uint64_t chelbugan_version(void);
 
 /* Judges a section: the content of a type section, `section_len` bytes.
  *

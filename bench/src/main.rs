@@ -1,5 +1,8 @@
 //! Times the proved library and the plain checker on the same inputs, side by side. Writes docs/BENCH.md and
 //! its plots.
+//!
+//! `bench library` times the library alone and writes no file: a line for each input with the least time of many, to compare
+//! archives (CHELBUGAN_LIB_DIR). `bench once` calls it once on each input, for bench/count-instructions.
 
 mod inputs;
 mod machine;
@@ -13,6 +16,26 @@ use std::io;
 use std::path::Path;
 
 fn main() -> io::Result<()> {
+    let arguments: Vec<String> = std::env::args().skip(1).collect();
+    match &arguments.iter().map(String::as_str).collect::<Vec<_>>()[..] {
+        [] => write_the_page(),
+        ["library"] => {
+            all_inputs().for_each(|input| println!("{}", measure::library_alone(&input)));
+            Ok(())
+        }
+        ["once"] => {
+            all_inputs().for_each(|input| println!("{}", measure::call_once(&input)));
+            Ok(())
+        }
+        _ => Err(io::Error::other("use: bench, bench library, or bench once")),
+    }
+}
+
+fn all_inputs() -> impl Iterator<Item = Input> {
+    inputs::of_sections().into_iter().chain(inputs::of_bodies()).chain(inputs::of_runs())
+}
+
+fn write_the_page() -> io::Result<()> {
     let docs = Path::new(env!("CARGO_MANIFEST_DIR")).join("../docs");
     let measured =
         |inputs: Vec<Input>| -> Vec<Row> { inputs.into_iter().map(measure::measure).collect() };
@@ -21,12 +44,14 @@ fn main() -> io::Result<()> {
     let runs = measured(inputs::of_runs());
     let page = page::page(&machine::kind(), &sections, &bodies, &runs);
     std::fs::write(docs.join("BENCH.md"), &page)?;
-    let of_bytes = |kinds, rows| plot::plot(&plot::NANOSECONDS_A_BYTE, kinds, rows);
-    let of_sections = of_bytes(&inputs::sections::KINDS, &sections);
-    std::fs::write(docs.join("bench-sections.svg"), of_sections)?;
-    std::fs::write(docs.join("bench-bodies.svg"), of_bytes(&inputs::bodies::KINDS, &bodies))?;
-    let of_runs = plot::plot(&plot::STEPS_A_SECOND, &inputs::runs::KINDS, &runs);
-    std::fs::write(docs.join("bench-runs.svg"), of_runs)?;
+    let plots = [
+        ("bench-sections.svg", plot::plot(&plot::SECTIONS, &inputs::sections::KINDS, &sections)),
+        ("bench-bodies.svg", plot::plot(&plot::BODIES, &inputs::bodies::KINDS, &bodies)),
+        ("bench-runs.svg", plot::plot(&plot::RUNS, &inputs::runs::KINDS, &runs)),
+    ];
+    for (name, plot) in plots {
+        std::fs::write(docs.join(name), plot)?;
+    }
     println!("{}\n{}", page::table("Section", &sections), page::table("Body", &bodies));
     print!("{}", page::run_table(&runs));
     Ok(())

@@ -141,6 +141,30 @@ pub fn measure(input: Input) -> Row {
     }
 }
 
+/// `shape, size<tab>microseconds`, of the library alone: the least of the samples, which other work disturbs least.
+pub fn library_alone(input: &Input) -> String {
+    let mut lent = Lent::new();
+    let mut library = || {
+        let _ = black_box(lent.judge(black_box(input)));
+    };
+    let calls = calls_for(&mut library);
+    let least = (0..SAMPLES / 2).map(|_| sample(&mut library, calls)).fold(f64::INFINITY, f64::min);
+    format!("{}, {}\t{:.2}", input.kind, input.size, least / 1000.0)
+}
+
+/// `shape, size`, after one call that is a function of its own.
+pub fn call_once(input: &Input) -> String {
+    chelbugan_bench_one_call(&mut Lent::new(), input);
+    format!("{}, {}", input.kind, input.size)
+}
+
+/// A counter of instructions finds it by its name.
+#[no_mangle]
+#[inline(never)]
+extern "Rust" fn chelbugan_bench_one_call(lent: &mut Lent, input: &Input) {
+    let _ = black_box(lent.judge(black_box(input)));
+}
+
 /// What is timed is the right answer, the same from both.
 fn same_answer(input: &Input, lent: &mut Lent) {
     let library = lent.judge(input).map(|count| count as usize);

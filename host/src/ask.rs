@@ -30,9 +30,9 @@ pub fn type_bytes<'s>(loader: &mut Loader, section: &'s [u8], number: u64) -> Re
 
 /// The body's count of instructions.
 pub fn body(loader: &mut Loader, add_on: &AddOn) -> Result<u64, No> {
-    loader.judge_body(&add_on.section, add_on.number, &add_on.body).map_err(no)
+    loader.judge_body(&add_on.section, &add_on.body, add_on.number).map_err(no)
 }
 
 pub fn run<'a>(loader: &'a mut Loader, add_on: &AddOn, budget: u64) -> Result<Run<'a>, No> {
-    loader.try_run(&add_on.section, add_on.number, &add_on.body, budget).map_err(no)
+    loader.try_run(&add_on.section, &add_on.body, add_on.number, budget).map_err(no)
 }

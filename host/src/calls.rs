@@ -1,70 +1,146 @@
 //! The library's calls on slices. A slice keeps by itself what include/chelbugan.h asks of a caller: its pointer is aligned
 //! and not null, its length is true, and what is lent for writing overlaps with nothing.
+//!
+//! Every call takes the section, then the body, the number and the budget as far as it has them, then the memory. An answer
+//! that is not known is a no: [`Refusal::UNKNOWN`].
 
-/// Elements that the lent buffers have at least, as docs/LAYOUT.md fixes them.
+use crate::limits;
+pub use crate::refusal::Refusal;
+use crate::refusal::Trap;
+use std::fmt;
+
+/// Elements of `rows`, at least. A shorter buffer is refusal 14; of a longer one the rest is zeroed.
 pub const ROWS: usize = 3_072;
+/// Elements of `codes`, at least.
 pub const CODES: usize = 32_768;
+/// Elements of `work`, at least.
 pub const WORK: usize = 4_096;
+/// Elements of `ends`, at least.
 pub const ENDS: usize = 32_768;
+/// Elements of `counts`, at least.
 pub const COUNTS: usize = 6;
+/// Elements of `objects`, at least.
 pub const OBJECTS: usize = 4_096;
+/// Elements of `cells`, at least.
 pub const CELLS: usize = 8_192;
+/// Elements of `locals`, at least.
 pub const LOCALS: usize = 512;
+/// Elements of `operands`, at least.
 pub const OPERANDS: usize = 1_024;
+/// Elements of `blocks`, at least.
 pub const BLOCKS: usize = 189;
 
 /// The words of an answer.
-const ANSWER: usize = 3;
+const ANSWER: usize = 4;
 
 /// What a call returns: a refusal, the one yes of a judgement, or how a run ended.
 const NO: u64 = 0;
+const YES: u64 = 1;
 const DONE: u64 = 1;
 const TRAP: u64 = 2;
+const SPENT: u64 = 3;
 
-/// A refusal: its number in document 01, and its place, a byte's offset or a type's number.
-#[derive(Clone, Copy, Debug, PartialEq, Eq)]
-pub struct Refusal {
-    pub number: u64,
-    pub place: u64,
-}
+/// The library's version that this wrapper is written for, as [`version`] tells it. The first number is that of the calls'
+/// shape.
+pub const VERSION: u64 = 10_000;
 
 /// Where the bytes of a definition begin in the section, and the place after them.
 #[derive(Clone, Copy, Debug, PartialEq, Eq)]
 pub struct Bytes {
+    /// The place of the first byte.
     pub from: u64,
+    /// The place after the last byte.
     pub to: u64,
 }
 
 /// How a trial run ended, with its steps.
 #[derive(Clone, Copy, Debug, PartialEq, Eq)]
 pub enum Ended {
+    /// It came to its end.
     Done {
+        /// How many instructions were done.
         steps: u64,
         /// How many results there are; they are all of the operands.
         results: u64,
     },
-    /// Stopped by the instruction at a place of the body, which is counted among the steps.
-    Trap { number: u64, place: u64, steps: u64 },
+    /// Stopped by an instruction.
+    Trap {
+        /// The trap's number in document 01; [`Trap::of_number`] names it.
+        number: u64,
+        /// Of the instruction in the body.
+        place: u64,
+        /// How many instructions were done, the trapping one among them.
+        steps: u64,
+    },
     /// The budget was used up.
-    Spent { steps: u64 },
+    Spent {
+        /// The budget.
+        steps: u64,
+    },
+}
+
+impl fmt::Display for Ended {
+    fn fmt(&self, to: &mut fmt::Formatter) -> fmt::Result {
+        match *self {
+            Ended::Done { steps, results } => {
+                write!(to, "done after {steps} steps, results: {results}")
+            }
+            Ended::Trap { number, place, steps } => {
+                let words =
+                    Trap::of_number(number).map_or(String::new(), |trap| format!(", {trap}"));
+                write!(to, "trap {number} at {place}{words}, after {steps} steps")
+            }
+            Ended::Spent { steps } => write!(to, "spent after {steps} steps"),
+        }
+    }
 }
 
 /// What a trial run is lent: scratch, then the state that it leaves.
 pub struct RunMemory<'a> {
+    /// Scratch, [`ROWS`] elements.
     pub rows: &'a mut [u16],
+    /// Scratch, [`CODES`] elements.
     pub codes: &'a mut [u16],
+    /// Scratch, [`WORK`] elements.
     pub work: &'a mut [u32],
+    /// Scratch, [`ENDS`] elements.
     pub ends: &'a mut [u16],
+    /// The place in the body, and how many of each of the following there are; [`COUNTS`] elements.
     pub counts: &'a mut [u64],
+    /// The objects, [`OBJECTS`] elements.
     pub objects: &'a mut [u16],
+    /// The objects' fields, [`CELLS`] elements.
     pub cells: &'a mut [u64],
+    /// The locals, [`LOCALS`] elements.
     pub locals: &'a mut [u64],
+    /// The operands, [`OPERANDS`] elements.
     pub operands: &'a mut [u64],
+    /// The open blocks, [`BLOCKS`] elements.
     pub blocks: &'a mut [u16],
+}
+
+/// The lengths alone: the words are many.
+impl fmt::Debug for RunMemory<'_> {
+    fn fmt(&self, to: &mut fmt::Formatter) -> fmt::Result {
+        to.debug_struct("RunMemory")
+            .field("rows", &self.rows.len())
+            .field("codes", &self.codes.len())
+            .field("work", &self.work.len())
+            .field("ends", &self.ends.len())
+            .field("counts", &self.counts.len())
+            .field("objects", &self.objects.len())
+            .field("cells", &self.cells.len())
+            .field("locals", &self.locals.len())
+            .field("operands", &self.operands.len())
+            .field("blocks", &self.blocks.len())
+            .finish()
+    }
 }
 
 mod library {
     extern "C" {
+        pub fn chelbugan_version() -> u64;
+
         pub fn chelbugan_judge_section(
             section: *const u8,
             section_len: usize,
@@ -133,8 +209,23 @@ mod library {
     }
 }
 
+/// The version of the library that is linked: 10,000 times the first number, 100 times the second, and the third.
+pub fn version() -> u64 {
+    // SAFETY: it takes nothing and answers a number.
+    unsafe { library::chelbugan_version() }
+}
+
+/// An archive of other calls is not called at all: it might write more words than it is lent.
+fn shape_is_known() -> Result<(), Refusal> {
+    match version() / 10_000 == VERSION / 10_000 {
+        true => Ok(()),
+        false => Err(Refusal::unknown(version())),
+    }
+}
+
 /// Judges a section: its count of types, with the table in `rows` and `codes`; or the refusal, and both are zero.
 pub fn judge_section(section: &[u8], rows: &mut [u16], codes: &mut [u16]) -> Result<u64, Refusal> {
+    shape_is_known()?;
     let mut answer = [0; ANSWER];
     // SAFETY: each pointer and length is one slice's; the library keeps none of them.
     let kind = unsafe {
@@ -148,7 +239,9 @@ pub fn judge_section(section: &[u8], rows: &mut [u16], codes: &mut [u16]) -> Res
             answer.as_mut_ptr(),
         )
     };
-    told(kind, answer).map(|[count, ..]| count)
+    let [count, ..] = told(kind, answer)?;
+    known(count <= limits::TYPES as u64, kind)?;
+    Ok(count)
 }
 
 /// Asks a section for a type: where its bytes lie, with the table as after the section alone; or the refusal.
@@ -158,6 +251,7 @@ pub fn ask_type(
     rows: &mut [u16],
     codes: &mut [u16],
 ) -> Result<Bytes, Refusal> {
+    shape_is_known()?;
     let mut answer = [0; ANSWER];
     // SAFETY: as above.
     let kind = unsafe {
@@ -172,7 +266,9 @@ pub fn ask_type(
             answer.as_mut_ptr(),
         )
     };
-    told(kind, answer).map(|[from, to, _]| Bytes { from, to })
+    let [from, to, ..] = told(kind, answer)?;
+    known(from <= to && to <= section.len() as u64, kind)?;
+    Ok(Bytes { from, to })
 }
 
 /// Judges a body against a function type's number: its count of instructions; or the refusal. All that is lent is scratch,
@@ -185,6 +281,7 @@ pub fn judge_body(
     codes: &mut [u16],
     work: &mut [u32],
 ) -> Result<u64, Refusal> {
+    shape_is_known()?;
     let mut answer = [0; ANSWER];
     // SAFETY: as above.
     let kind = unsafe {
@@ -215,6 +312,7 @@ pub fn try_run(
     budget: u64,
     memory: &mut RunMemory,
 ) -> Result<Ended, Refusal> {
+    shape_is_known()?;
     let mut answer = [0; ANSWER];
     // SAFETY: as above.
     let kind = unsafe {
@@ -248,21 +346,61 @@ pub fn try_run(
             answer.as_mut_ptr(),
         )
     };
-    told(kind, answer).map(|words| ended(kind, words))
+    ended(kind, answer)
 }
 
-fn ended(kind: u64, answer: [u64; ANSWER]) -> Ended {
-    match (kind, answer) {
-        (DONE, [steps, results, _]) => Ended::Done { steps, results },
-        (TRAP, [number, place, steps]) => Ended::Trap { number, place, steps },
-        (_, [steps, ..]) => Ended::Spent { steps },
+fn ended(kind: u64, answer: [u64; ANSWER]) -> Result<Ended, Refusal> {
+    let [first, second, third, _] = answer;
+    match kind {
+        NO => Err(Refusal { number: first, place: second }),
+        DONE => Ok(Ended::Done { steps: first, results: second }),
+        TRAP => {
+            known(Trap::of_number(first).is_some(), kind)?;
+            Ok(Ended::Trap { number: first, place: second, steps: third })
+        }
+        SPENT => Ok(Ended::Spent { steps: first }),
+        _ => Err(Refusal::unknown(kind)),
     }
 }
 
+/// The words of a yes. What is neither a yes nor a no is a no.
 fn told(kind: u64, answer: [u64; ANSWER]) -> Result<[u64; ANSWER], Refusal> {
-    if kind != NO {
-        return Ok(answer);
+    let [number, place, ..] = answer;
+    match kind {
+        YES => Ok(answer),
+        NO => Err(Refusal { number, place }),
+        _ => Err(Refusal::unknown(kind)),
     }
-    let [number, place, _] = answer;
-    Err(Refusal { number, place })
+}
+
+fn known(holds: bool, kind: u64) -> Result<(), Refusal> {
+    match holds {
+        true => Ok(()),
+        false => Err(Refusal::unknown(kind)),
+    }
+}
+
+#[cfg(test)]
+mod tests {
+    use super::*;
+
+    #[test]
+    fn an_answer_that_is_not_known_is_a_no() {
+        let words = [1, 0, 0, 0];
+        for kind in [2, 3, 4, u64::MAX] {
+            assert_eq!(told(kind, words), Err(Refusal::unknown(kind)));
+        }
+        for kind in [4, 5, u64::MAX] {
+            assert_eq!(ended(kind, words), Err(Refusal::unknown(kind)));
+        }
+        for number in [0, 40, 46, u64::MAX] {
+            assert_eq!(ended(TRAP, [number, 0, 0, 0]), Err(Refusal::unknown(TRAP)));
+        }
+    }
+
+    #[test]
+    fn the_library_is_of_this_version() {
+        assert_eq!(version(), VERSION);
+        assert_eq!(shape_is_known(), Ok(()));
+    }
 }

@@ -3,8 +3,10 @@
 use crate::calls::{self, Bytes, Ended, Refusal, RunMemory};
 use crate::state::State;
 use crate::table::Table;
+use std::fmt;
 
-/// Lends the same buffers to each call; they are zero, or hold the last accepted section's table or the last run's state.
+/// Lends the same buffers, 240,042 bytes, to each call; they are zero, or hold the last accepted section's table or the
+/// last run's state.
 pub struct Loader {
     rows: Box<[u16]>,
     codes: Box<[u16]>,
@@ -19,12 +21,16 @@ pub struct Loader {
 }
 
 /// How a trial run ended, and the state after exactly its steps.
+#[derive(Debug)]
 pub struct Run<'a> {
+    /// How it ended.
     pub ended: Ended,
+    /// The state that it left.
     pub state: State<'a>,
 }
 
 impl Loader {
+    /// A loader with memory for every call.
     pub fn new() -> Loader {
         Loader {
             rows: zeros(calls::ROWS),
@@ -40,6 +46,7 @@ impl Loader {
         }
     }
 
+    /// A section's types.
     pub fn judge_section(&mut self, section: &[u8]) -> Result<Table<'_>, Refusal> {
         let count = calls::judge_section(section, &mut self.rows, &mut self.codes)?;
         Ok(Table::new(count as usize, &self.rows, &self.codes))
@@ -48,11 +55,11 @@ impl Loader {
     /// The very bytes of a definition, a part of the section.
     pub fn type_bytes<'s>(&mut self, section: &'s [u8], number: u64) -> Result<&'s [u8], Refusal> {
         let Bytes { from, to } = calls::ask_type(section, number, &mut self.rows, &mut self.codes)?;
-        Ok(&section[from as usize..to as usize])
+        section.get(from as usize..to as usize).ok_or(Refusal::unknown(to))
     }
 
     /// A body's count of instructions, against the function type of a number.
-    pub fn judge_body(&mut self, section: &[u8], number: u64, body: &[u8]) -> Result<u64, Refusal> {
+    pub fn judge_body(&mut self, section: &[u8], body: &[u8], number: u64) -> Result<u64, Refusal> {
         let Loader { rows, codes, work, .. } = self;
         calls::judge_body(section, body, number, rows, codes, work)
     }
@@ -61,12 +68,16 @@ impl Loader {
     pub fn try_run(
         &mut self,
         section: &[u8],
-        number: u64,
         body: &[u8],
+        number: u64,
         budget: u64,
     ) -> Result<Run<'_>, Refusal> {
         let ended = calls::try_run(section, body, number, budget, &mut self.run_memory())?;
-        Ok(Run { ended, state: self.state() })
+        let state = self.state();
+        match state.is_known() {
+            true => Ok(Run { ended, state }),
+            false => Err(Refusal::unknown(state.place())),
+        }
     }
 
     fn run_memory(&mut self) -> RunMemory<'_> {
@@ -93,6 +104,13 @@ impl Loader {
             operands: &self.operands,
             blocks: &self.blocks,
         }
+    }
+}
+
+/// Without the words that it lends: they are many.
+impl fmt::Debug for Loader {
+    fn fmt(&self, to: &mut fmt::Formatter) -> fmt::Result {
+        to.debug_struct("Loader").finish_non_exhaustive()
     }
 }
 

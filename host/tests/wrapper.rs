@@ -19,7 +19,7 @@ fn a_run_with_every_part_of_its_state() {
         0x0B,
     ];
     let mut loader = Loader::new();
-    let run = loader.try_run(&section, 1, &body, 4).expect("it is accepted");
+    let run = loader.try_run(&section, &body, 1, 4).expect("it is accepted");
     assert_eq!(run.ended, Ended::Spent { steps: 4 });
     assert_eq!(run.state.place(), 12);
     let object = Object { type_number: 0, descriptor: None, fields: vec![Value::I32(-5)] };
@@ -38,7 +38,7 @@ fn fields_of_every_kind_stand_with_their_object() {
     let section = [&section[..], &[0x60, 0x00, 0x00]].concat();
     let body = [0x01, 0x01, 0x64, 0x00, 0xFB, 0x01, 0x00, 0x1A, 0xFB, 0x01, 0x01, 0x1A, 0x0B];
     let mut loader = Loader::new();
-    let run = loader.try_run(&section, 2, &body, 100).expect("it is accepted");
+    let run = loader.try_run(&section, &body, 2, 100).expect("it is accepted");
     assert_eq!(run.ended, Ended::Done { steps: 5, results: 0 });
     let zero = [Value::I64(0), Value::F32(0), Value::F64(0), Value::Null];
     let fields: Vec<Vec<Value>> =
@@ -52,15 +52,15 @@ fn fields_of_every_kind_stand_with_their_object() {
 fn a_loader_is_used_again() {
     let mut loader = Loader::new();
     for _ in 0..2 {
-        let run = loader.try_run(&F1, 2, &BODY, 100).expect("it is accepted");
+        let run = loader.try_run(&F1, &BODY, 2, 100).expect("it is accepted");
         assert_eq!(run.ended, Ended::Done { steps: 3, results: 1 });
         assert_eq!(run.state.operands(), [Value::Object(1)]);
         let described = run.state.objects().into_iter().map(|object| object.descriptor);
         assert_eq!(described.collect::<Vec<_>>(), [None, Some(0)]);
         assert_eq!(loader.judge_section(&F1).map(|table| table.count()), Ok(3));
-        assert_eq!(loader.judge_body(&F1, 2, &BODY), Ok(3));
+        assert_eq!(loader.judge_body(&F1, &BODY, 2), Ok(3));
         assert_eq!(loader.type_bytes(&F1, 0), Ok(&F1[3..7]));
-        let budget = loader.try_run(&F1, 2, &BODY, 1_000_001).map(|run| run.ended);
+        let budget = loader.try_run(&F1, &BODY, 2, 1_000_001).map(|run| run.ended);
         assert_eq!(budget, Err(Refusal { number: 4, place: 0 }));
     }
 }
@@ -69,7 +69,7 @@ fn a_loader_is_used_again() {
 fn a_trap_is_told_with_its_place_and_steps() {
     let null = [0x00, 0xD0, 0x62, 0x01, 0xFB, 0x20, 0x00, 0x0B];
     let mut loader = Loader::new();
-    let run = loader.try_run(&F1, 2, &null, 100).expect("it is accepted");
+    let run = loader.try_run(&F1, &null, 2, 100).expect("it is accepted");
     assert_eq!(run.ended, Ended::Trap { number: 43, place: 4, steps: 2 });
     assert_eq!((run.state.place(), run.state.operands()), (4, vec![Value::Null]));
     assert_eq!(run.state.objects(), []);

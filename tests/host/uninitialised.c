@@ -23,11 +23,11 @@ static void judge(const uint8_t *bytes, size_t length, size_t rows_len, size_t c
         exit(2);
     memcpy(section, bytes, length);
     uint64_t kind = chelbugan_judge_section(section, length, rows, rows_len, codes, codes_len, answer);
-    printf("%llu: %llu %llu %llu, rows %llu, codes %llu\n", (unsigned long long)kind, (unsigned long long)answer[0],
-           (unsigned long long)answer[1], (unsigned long long)answer[2], sum(rows, rows_len), sum(codes, codes_len));
+    printf("%llu: %llu %llu %llu %llu, rows %llu, codes %llu\n", (unsigned long long)kind, (unsigned long long)answer[0],
+           (unsigned long long)answer[1], (unsigned long long)answer[2], (unsigned long long)answer[3], sum(rows, rows_len), sum(codes, codes_len));
     kind = chelbugan_ask_type(section, length, 0, rows, rows_len, codes, codes_len, answer);
-    printf("%llu: %llu %llu %llu, rows %llu, codes %llu\n", (unsigned long long)kind, (unsigned long long)answer[0],
-           (unsigned long long)answer[1], (unsigned long long)answer[2], sum(rows, rows_len), sum(codes, codes_len));
+    printf("%llu: %llu %llu %llu %llu, rows %llu, codes %llu\n", (unsigned long long)kind, (unsigned long long)answer[0],
+           (unsigned long long)answer[1], (unsigned long long)answer[2], (unsigned long long)answer[3], sum(rows, rows_len), sum(codes, codes_len));
     free(section);
     free(rows);
     free(codes);
@@ -51,8 +51,8 @@ static void judge_body(const uint8_t *bytes, size_t length, const uint8_t *code,
     unsigned long long left = sum(rows, rows_len) + sum(codes, codes_len);
     for (size_t i = 0; i < work_len; i++)
         left += work[i];
-    printf("body %llu: %llu %llu %llu, left %llu\n", (unsigned long long)kind, (unsigned long long)answer[0],
-           (unsigned long long)answer[1], (unsigned long long)answer[2], left);
+    printf("body %llu: %llu %llu %llu %llu, left %llu\n", (unsigned long long)kind, (unsigned long long)answer[0],
+           (unsigned long long)answer[1], (unsigned long long)answer[2], (unsigned long long)answer[3], left);
     free(section);
     free(body);
     free(rows);
@@ -97,8 +97,8 @@ static void run_with(const uint8_t *bytes, size_t length, const uint8_t *code, s
         lent[WORK], lengths[WORK], lent[ENDS], lengths[ENDS], lent[COUNTS], lengths[COUNTS], lent[OBJECTS],
         lengths[OBJECTS], lent[CELLS], lengths[CELLS], lent[LOCALS], lengths[LOCALS], lent[OPERANDS], lengths[OPERANDS],
         lent[BLOCKS], lengths[BLOCKS], answer);
-    printf("run %llu: %llu %llu %llu", (unsigned long long)kind, (unsigned long long)answer[0],
-           (unsigned long long)answer[1], (unsigned long long)answer[2]);
+    printf("run %llu: %llu %llu %llu %llu", (unsigned long long)kind, (unsigned long long)answer[0],
+           (unsigned long long)answer[1], (unsigned long long)answer[2], (unsigned long long)answer[3]);
     for (size_t i = 0; i < BUFFERS; i++) {
         printf(", %s %llu", names[i], sum_of(lent[i], lengths[i], bytes_each[i]));
         free(lent[i]);

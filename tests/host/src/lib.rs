@@ -7,6 +7,7 @@ pub mod compare;
 pub mod expected;
 pub mod guarded;
 pub mod memory;
+pub mod painted;
 pub mod raw;
 pub mod requests;
 pub mod tally;

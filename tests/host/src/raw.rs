@@ -50,6 +50,9 @@ extern "C" {
     ) -> u64;
 }
 
+/// The words of an answer.
+pub const WORDS: usize = 4;
+
 /// What is handed in.
 pub struct Handed<'a> {
     pub section: &'a [u8],
@@ -58,14 +61,14 @@ pub struct Handed<'a> {
     pub rows: &'a mut [u16],
     pub codes: &'a mut [u16],
     pub work: &'a mut [u32],
-    /// Three words.
+    /// Four words.
     pub answer: &'a mut [u64],
 }
 
-/// The number returned, and the answer that it and the three words tell.
+/// The number returned, and the answer that it and the four words tell.
 pub fn judge_body(handed: &mut Handed) -> (u64, Answer) {
-    assert_eq!(handed.answer.len(), 3);
-    // SAFETY: each pointer and length is one slice's, and the answer has its three words.
+    assert_eq!(handed.answer.len(), WORDS);
+    // SAFETY: each pointer and length is one slice's, and the answer has its four words.
     let kind = unsafe {
         chelbugan_judge_body(
             handed.section.as_ptr(),
@@ -95,14 +98,14 @@ pub struct HandedRun<'a> {
     pub number: u64,
     pub budget: u64,
     pub memory: RunMemory<'a>,
-    /// Three words.
+    /// Four words.
     pub answer: &'a mut [u64],
 }
 
-/// The number returned, and the answer that it and the three words tell.
+/// The number returned, and the answer that it and the four words tell.
 pub fn try_run(handed: &mut HandedRun) -> (u64, Answer) {
     let HandedRun { section, body, number, budget, memory, answer } = handed;
-    assert_eq!(answer.len(), 3);
+    assert_eq!(answer.len(), WORDS);
     // SAFETY: as above.
     let kind = unsafe {
         chelbugan_try_run(

@@ -5,7 +5,7 @@ use host_tests::compare::{ask_plain, difference, Answer, Left};
 use host_tests::expected::{CODES, ROWS, WORK};
 use host_tests::guarded::{filled, read_only, Side};
 use host_tests::memory::{first, Memory, SIZES};
-use host_tests::raw::{judge_body, Handed};
+use host_tests::raw::{judge_body, Handed, WORDS};
 use host_tests::requests::Request;
 
 /// A function type of nothing to nothing, number 0.
@@ -130,7 +130,7 @@ fn ask_guarded(case: &Case, side: Side, lengths: Lengths, rubbish: u64) -> Left 
     let mut rows = filled(side, lengths.0, rubbish as u16);
     let mut codes = filled(side, lengths.1, rubbish as u16);
     let mut work = filled(side, lengths.2, rubbish as u32);
-    let mut words = filled(side, 3, rubbish);
+    let mut words = filled(side, WORDS, rubbish);
     let (kind, answer) = judge_body(&mut Handed {
         section: section.as_slice(),
         body: body.as_slice(),
@@ -142,7 +142,7 @@ fn ask_guarded(case: &Case, side: Side, lengths: Lengths, rubbish: u64) -> Left 
     });
     assert!(kind <= 1, "{kind} is neither yes nor no");
     // A word of the answer that has no value is 0.
-    assert_eq!(words.as_slice()[2], 0);
+    assert_eq!(words.as_slice()[2..], [0, 0]);
     assert!(kind == 0 || words.as_slice()[1] == 0, "a count has one value");
     assert_eq!((section.as_slice(), body.as_slice()), (&*case.section, &*case.body));
     let memory = Memory {
@@ -219,7 +219,7 @@ fn what_memory_held_before_changes_nothing() {
 #[test]
 fn memory_may_be_lent_again() {
     let (mut rows, mut codes) = (vec![9; ROWS], vec![9; CODES]);
-    let (mut work, mut answer) = (vec![9; WORK], [9; 3]);
+    let (mut work, mut answer) = (vec![9; WORK], [9; WORDS]);
     for first in cases() {
         for case in [&first, &cases()[1]] {
             let judged = judge_body(&mut Handed {

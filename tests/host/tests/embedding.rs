@@ -87,7 +87,7 @@ fn the_host_in_c() {
         .args(["-std=c99", "-Wall", "-Wextra", "-Werror", "-pedantic", "-I"])
         .arg(root().join("include"))
         .arg(folder.join("host.c"))
-        .arg(root().join("build/libchelbugan.a"))
+        .arg(env!("CHELBUGAN_ARCHIVE"))
         .arg("-o")
         .arg(folder.join("host"))
         .status();

@@ -47,6 +47,153 @@ fn sizes_are_the_layouts() {
     }
 }
 
+fn definitions(file: &str) -> String {
+    std::fs::read_to_string(root().join("crates").join(file)).expect("the definitions")
+}
+
+/// The numbers of a file of definitions, `name = 32_768`, with the names as C writes them: `BYTES_END`.
+fn numbers_of(file: &str) -> Vec<(String, u64)> {
+    let text = definitions(file);
+    let lines = text.lines().filter_map(|line| line.split_once(" = "));
+    lines
+        .filter_map(|(name, value)| Some((in_capitals(name), value.replace('_', "").parse().ok()?)))
+        .collect()
+}
+
+fn in_capitals(name: &str) -> String {
+    let mut capitals = String::new();
+    for letter in name.chars() {
+        if letter.is_uppercase() {
+            capitals.push('_');
+        }
+        capitals.push(letter.to_ascii_uppercase());
+    }
+    capitals
+}
+
+/// Every constant of the header whose name begins so, with its number.
+fn constants(prefix: &str) -> Vec<(String, u64)> {
+    let header = header();
+    let named = header.lines().filter_map(|line| line.strip_prefix("#define "));
+    let own = named.filter_map(|line| line.strip_prefix(prefix));
+    let split = own.map(|line| line.split_whitespace().collect::<Vec<_>>());
+    split.map(|words| (words[0].to_string(), words[1].parse().expect("a number"))).collect()
+}
+
+/// Every refusal and every trap of the definitions has its name in the header and in the wrapper, and there is no other.
+#[test]
+fn refusals_and_traps_are_the_definitions() {
+    let all = numbers_of("scope/specs/Refusals.antt");
+    let (traps, refusals): (Vec<_>, Vec<_>) =
+        all.into_iter().partition(|(name, _)| name.starts_with("TRAP_"));
+    assert_eq!((refusals.len(), traps.len()), (23, 5));
+    assert_eq!(constants("CHELBUGAN_REFUSAL_"), refusals);
+    let traps: Vec<(String, u64)> =
+        traps.into_iter().map(|(name, number)| (name.replacen("TRAP_", "", 1), number)).collect();
+    assert_eq!(constants("CHELBUGAN_TRAP_"), traps);
+    let named = |name: String| in_capitals(&name)[1..].to_string();
+    let reasons = chelbugan::Reason::ALL.map(|it| (named(format!("{it:?}")), it.number()));
+    assert_eq!(reasons.to_vec(), refusals);
+    let of_wrapper = chelbugan::Trap::ALL.map(|it| (named(format!("{it:?}")), it.number()));
+    assert_eq!(of_wrapper.to_vec(), traps);
+}
+
+#[test]
+fn limits_are_the_definitions() {
+    use chelbugan::limits;
+    let sizes = numbers_of("scope/specs/Sizes.antt");
+    for (name, constant_name, of_the_wrapper) in [
+        ("MOST_BYTES", "SECTION_BYTES", limits::SECTION_BYTES),
+        ("MOST_BYTES", "BODY_BYTES", limits::BODY_BYTES),
+        ("MOST_TYPES", "TYPES", limits::TYPES),
+        ("MOST_EACH", "FIELDS", limits::FIELDS),
+        ("MOST_STEPS", "CHAIN", limits::CHAIN),
+        ("MOST_LOCALS", "BODY_LOCALS", limits::LOCALS),
+        ("MOST_OPERANDS", "BODY_OPERANDS", limits::OPERANDS),
+        ("MOST_FRAMES", "FRAMES", limits::FRAMES),
+        ("MOST_BUDGET", "BUDGET", limits::BUDGET as usize),
+        ("MOST_OBJECTS", "HEAP_OBJECTS", limits::OBJECTS),
+        ("MOST_CELLS", "HEAP_CELLS", limits::CELLS),
+    ] {
+        let (_, size) = sizes.iter().find(|(other, _)| other == name).expect("the size");
+        assert_eq!(constant(&format!("CHELBUGAN_{constant_name}")) as u64, *size, "{name}");
+        assert_eq!(of_the_wrapper as u64, *size, "{name}");
+    }
+}
+
+/// Of the crate, the header, its text, the wrapper and its package.
+#[test]
+fn there_is_one_version() {
+    let parts = numbers_of("chelbugan/specs/Version.antt");
+    let [major, minor, patch] = ["MAJOR", "MINOR", "PATCH"]
+        .map(|part| parts.iter().find(|(name, _)| name == part).expect("a part of it").1);
+    let version = 10_000 * major + 100 * minor + patch;
+    assert_eq!(constant("CHELBUGAN_VERSION") as u64, version);
+    assert_eq!((chelbugan::calls::VERSION, chelbugan::calls::version()), (version, version));
+    let text = format!("{major}.{minor}.{patch}");
+    assert!(header().contains(&format!("#define CHELBUGAN_VERSION_TEXT \"{text}\"\n")));
+    let package = std::fs::read_to_string(root().join("host/Cargo.toml")).expect("the package");
+    assert!(package.contains(&format!("\nversion = \"{text}\"\n")), "host/Cargo.toml");
+}
+
+#[test]
+fn codes_are_the_layouts() {
+    let heaps = constants("CHELBUGAN_HEAP_");
+    let names = named_heaps();
+    for (code, name) in names.iter().enumerate() {
+        assert!(heaps.contains(&(name.to_uppercase(), code as u64)), "{name}");
+    }
+    let page = std::fs::read_to_string(root().join("docs/LAYOUT.md")).expect("the page");
+    for (what, name) in [("Heap type: x", "HEAP_DEFINED"), ("Heap type: exact x", "HEAP_EXACT")] {
+        let row = format!("| {what} | {} + 2 x |", constant(&format!("CHELBUGAN_{name}")));
+        assert!(page.contains(&row), "docs/LAYOUT.md has no row {row}");
+    }
+    let numbers = ["I32", "I64", "F32", "F64"].map(|n| constant(&format!("CHELBUGAN_TYPE_{n}")));
+    assert_eq!(numbers, [0, 1, 2, 3]);
+    assert!(page.contains("| Value type: i32, i64, f32, f64 | 0, 1, 2, 3 |"));
+    for (what, name) in [("(ref h)", "REF"), ("(ref null h)", "REF_NULL")] {
+        let row =
+            format!("| Value type: {what} | {} + 2 h", constant(&format!("CHELBUGAN_TYPE_{name}")));
+        assert!(page.contains(&row), "docs/LAYOUT.md has no row {row}");
+    }
+}
+
+/// The abstract heap types, by their codes, as the page's heading has them.
+fn named_heaps() -> Vec<String> {
+    let page = std::fs::read_to_string(root().join("docs/LAYOUT.md")).expect("the page");
+    let row =
+        page.lines().find(|line| line.starts_with("| Abstract heap type |")).expect("the row");
+    let cells = row.split('|').skip(2).map(|cell| cell.trim().to_string());
+    let names: Vec<String> = cells.filter(|name| !name.is_empty()).collect();
+    assert_eq!(names.len(), 10);
+    names
+}
+
+/// The header's way of telling a byte from a type where 4 is at 67 for either.
+#[test]
+fn a_byte_and_a_type_are_told_apart() {
+    // A function of 65 parameters: 01 60 41 and 64 of them; the 65th is byte 67.
+    let of_a_byte = [vec![0x01, 0x60, 0x41], vec![0x7F; 65], vec![0x00]].concat();
+    // Structs 0 to 2 alone, then 3 open, and each of the 64 after it below the one before: type 67 is 64 steps up.
+    let mut of_a_type = vec![68];
+    for number in 0u8..68 {
+        match number {
+            0..=3 => of_a_type.extend([0x50, 0x00]),
+            _ => of_a_type.extend([0x50, 0x01, number - 1]),
+        }
+        of_a_type.extend([0x5F, 0x00]);
+    }
+    let mut loader = chelbugan::Loader::new();
+    let mut refused = |section: &[u8]| {
+        let refusal = loader.judge_section(section).expect_err("it is refused");
+        (refusal.number, refusal.place)
+    };
+    assert_eq!(refused(&of_a_byte), (4, 67));
+    assert_eq!(refused(&of_a_type), (4, 67));
+    assert_eq!(refused(&of_a_byte[..68]), (4, 67), "the same again: a byte");
+    assert_ne!(refused(&of_a_type[..68]), (4, 67), "another: a type");
+}
+
 /// The cells of the row below the heading that begins so; a line of dashes is between.
 fn named_columns(start: &str) -> Vec<String> {
     let page = std::fs::read_to_string(root().join("docs/LAYOUT.md")).expect("the page");
@@ -141,6 +288,7 @@ fn words_of_a_row_are_the_layouts() {
         ("descriptor", "DESCRIPTOR"),
         ("from", "FROM"),
         ("to", "TO"),
+        ("reach", "REACH"),
         ("first code", "CODE"),
     ];
     for (what, name) in words {
@@ -205,12 +353,12 @@ fn examples_print_what_they_say() {
         .args(["-std=c99", "-Wall", "-Wextra", "-Werror", "-I"])
         .arg(root().join("include"))
         .arg(&source)
-        .arg(root().join("build/libchelbugan.a"))
+        .arg(env!("CHELBUGAN_ARCHIVE"))
         .arg("-o")
         .arg(&built)
         .status();
     assert!(compiled.expect("a C compiler").success());
     let said = Command::new(&built).output().expect("the examples run");
-    let wanted = b"1 types\n\x5F\x01\x7F\x002 instructions\n2 steps, i32 7\n";
+    let wanted = b"version 10000\n1 types\n\x5F\x01\x7F\x002 instructions\n2 steps, i32 7\n";
     assert_eq!(said.stdout, wanted, "{}", String::from_utf8_lossy(&said.stdout));
 }

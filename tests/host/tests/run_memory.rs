@@ -5,7 +5,7 @@ use chelbugan::calls::RunMemory;
 use host_tests::compare::{ask_plain, difference, is_short, Answer, Left};
 use host_tests::guarded::{filled, read_only, Guarded, Side};
 use host_tests::memory::{Lengths, Memory, SIZES};
-use host_tests::raw::{try_run, HandedRun};
+use host_tests::raw::{try_run, HandedRun, WORDS};
 use host_tests::requests::Request;
 
 /// A function type of nothing to nothing, number 0.
@@ -175,7 +175,7 @@ fn ask_guarded(case: &Case, side: Side, lengths: Lengths, rubbish: u64) -> Left 
     let section = read_only(side, &case.section);
     let body = read_only(side, &case.body);
     let mut lent = Lent::new(side, lengths, rubbish);
-    let mut words = filled(side, 3, rubbish);
+    let mut words = filled(side, WORDS, rubbish);
     let (kind, answer) = try_run(&mut HandedRun {
         section: section.as_slice(),
         body: body.as_slice(),
@@ -186,7 +186,7 @@ fn ask_guarded(case: &Case, side: Side, lengths: Lengths, rubbish: u64) -> Left 
     });
     let without_value = match kind {
         0 | 1 => &words.as_slice()[2..],
-        2 => &[],
+        2 => &words.as_slice()[3..],
         3 => &words.as_slice()[1..],
         _ => panic!("{kind} is no answer of a run"),
     };
@@ -272,7 +272,7 @@ fn memory_may_be_lent_again() {
                 number: case.number,
                 budget: case.budget,
                 memory: memory.lent(),
-                answer: &mut [9; 3],
+                answer: &mut [9; WORDS],
             });
             assert_eq!(answer, case.answer, "{} after {}", case.request(), first.request());
         }

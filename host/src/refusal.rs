@@ -1,0 +1,150 @@
+//! A refusal and a trap: numbers of document 01, with a name for each.
+
+use std::error::Error;
+use std::fmt;
+
+/// Why a section, a body or a run is refused, and where.
+#[derive(Clone, Copy, Debug, PartialEq, Eq, Hash)]
+pub struct Refusal {
+    /// The number in document 01, which [`Refusal::reason`] names.
+    pub number: u64,
+    /// A byte's offset in the section or the body, or a type's number: [`Reason`] says which.
+    pub place: u64,
+}
+
+impl Refusal {
+    /// No number of document 01: the library gave an answer that this wrapper does not know, and that is no yes. The place
+    /// is what the library returned.
+    pub const UNKNOWN: u64 = 0;
+
+    pub(crate) fn unknown(returned: u64) -> Refusal {
+        Refusal { number: Refusal::UNKNOWN, place: returned }
+    }
+
+    /// What the number stands for; None for a number that document 01 does not have.
+    pub fn reason(&self) -> Option<Reason> {
+        Reason::ALL.into_iter().find(|reason| reason.number() == self.number)
+    }
+}
+
+impl fmt::Display for Refusal {
+    fn fmt(&self, to: &mut fmt::Formatter) -> fmt::Result {
+        let Refusal { number, place } = self;
+        match self.reason() {
+            Some(reason) => write!(to, "refusal {number} at {place}: {reason}"),
+            None if *number == Refusal::UNKNOWN => {
+                write!(to, "an answer that is not known ({place}), taken as a no")
+            }
+            None => write!(to, "refusal {number} at {place}, a number that is not known"),
+        }
+    }
+}
+
+impl Error for Refusal {}
+
+/// A table of numbered names: the enum, its numbers, and their words.
+macro_rules! numbered {
+    ($(#[$of_the_enum:meta])* $name:ident: $($(#[$doc:meta])* $case:ident = $number:literal, $words:literal;)*) => {
+        $(#[$of_the_enum])*
+        #[derive(Clone, Copy, Debug, PartialEq, Eq, PartialOrd, Ord, Hash)]
+        pub enum $name {
+            $($(#[$doc])* $case = $number,)*
+        }
+
+        impl $name {
+            /// All of them, by rising number.
+            pub const ALL: [$name; [$($number),*].len()] = [$($name::$case),*];
+
+            /// The number in document 01.
+            pub const fn number(self) -> u64 {
+                self as u64
+            }
+        }
+
+        impl fmt::Display for $name {
+            fn fmt(&self, to: &mut fmt::Formatter) -> fmt::Result {
+                to.write_str(match self {
+                    $($name::$case => $words,)*
+                })
+            }
+        }
+    };
+}
+
+numbered! {
+    /// What a refusal's number stands for, by the names of `crates/scope/specs/Refusals.antt`, and what its place is. There
+    /// is no 15 to 19 and no 26.
+    Reason:
+    /// At the item's first byte.
+    BytesEnd = 1, "the bytes end inside an item";
+    /// At the number's first byte.
+    BadNumber = 2, "a number is too long or out of range";
+    /// At the byte, or at an FB number's or a type number's first byte.
+    NotListed = 3, "a byte that is not listed";
+    /// At a byte: the first of the entry or the instruction that goes beyond; 0 for a whole input or a budget. Of a section
+    /// it can be a type's number too, where its chain of supertypes is too long: the types' bytes are all read by then.
+    Oversize = 4, "a size is exceeded";
+    /// At the first byte left over.
+    LeftOver = 5, "bytes are left over";
+    /// Of a section at the type's number, and for a type that is asked for at the number asked; of a body at the
+    /// instruction or at the first byte of the entry of locals.
+    OutOfReach = 6, "a type number is out of reach";
+    /// At the type's number.
+    BadSupertype = 7, "the supertype is not earlier, not open, or not the only one";
+    /// At the type's number.
+    NoMatch = 8, "the type does not match its supertype";
+    /// At the type's number.
+    ClauseNotOnStruct = 9, "a clause stands on no struct";
+    /// At the type's number.
+    DescribesNotEarlier = 10, "describes names no earlier type";
+    /// At the type's number.
+    ClausesDisagree = 11, "clauses disagree";
+    /// At the type's number.
+    BadDescriptor = 12, "the supertype's descriptor is not the supertype of the type's";
+    /// At the type's number.
+    BadDescribes = 13, "the type and its supertype do not both describe, or not a type and its supertype";
+    /// At 0.
+    BufferTooSmall = 14, "a lent buffer is under its size";
+    /// At the instruction.
+    BadOperand = 20, "an operand is missing or wrong";
+    /// At the instruction.
+    Absent = 21, "a label or a local is absent";
+    /// At the instruction.
+    NotSet = 22, "a local is not set";
+    /// At the instruction.
+    BadStruct = 23, "not a struct, no such field, or a descriptor missing or unwanted";
+    /// At the instruction.
+    FieldFixed = 24, "the field is fixed";
+    /// At the instruction.
+    BadBranch = 25, "a branching cast breaks its rule, or its label has no types";
+    /// At 0.
+    NotAFunction = 27, "not a function type's number";
+    /// At the instruction, an `end`.
+    ValuesLeft = 28, "values are left at an end";
+    /// At the instruction; at 0 for a run's parameters.
+    NoDefault = 29, "there is no default";
+}
+
+numbered! {
+    /// What a trap's number stands for. Its place is that of the trapping instruction.
+    Trap:
+    /// An instruction that always traps.
+    Unreachable = 41, "unreachable";
+    /// By get, set, as_non_null or ref.get_desc.
+    Null = 42, "null used";
+    /// Looked at before the object and before room.
+    NullDescriptor = 43, "null descriptor";
+    /// A reference is not of the type asked for.
+    Cast = 44, "cast failed";
+    /// No object is left, or too few cells.
+    NoRoom = 45, "no room on the heap";
+}
+
+impl Trap {
+    /// The trap of a number; None for a number that document 01 does not have.
+    pub fn of_number(number: u64) -> Option<Trap> {
+        Trap::ALL.into_iter().find(|trap| trap.number() == number)
+    }
+}
+
+impl Error for Trap {}
