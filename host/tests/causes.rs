@@ -111,6 +111,18 @@ fn clauses() {
     );
 }
 
+/// Which entry of which count is missing.
+#[test]
+fn missing_bytes() {
+    section("03 5F 00", "the bytes end where group 2 of 3 has to begin", &[]);
+    section("01 4E 02 5F 00", "the bytes end where definition 2 of 2 has to begin", &[]);
+    section("01 5F 02 7F 00", "the bytes end where field 2 of 2 has to begin", &[]);
+    section("01 5F 01 7F", "the bytes end where 00, fixed, or 01, mutable, has to begin", &[]);
+    section("01 60 00", "the bytes end where the count of results has to begin", &[]);
+    body((V, "00 0C 80", "0"), "the bytes end inside a label", &[]);
+    body((V, "00", "0"), "the bytes end where an instruction has to begin", &[]);
+}
+
 /// Which size it is.
 #[test]
 fn sizes() {
@@ -217,6 +229,11 @@ fn operands() {
         &["1 d0 6e ref.null any, which put (ref null any) there"],
     );
     body((V, "00 1A 0B", "0"), "drop wants any value on top, and its block has no operand", &[]);
+    body(
+        (V, "00 41 00 02 40 1A 0B 0B", "0"),
+        "drop wants any value on top, and its block has none; 1 operand of the blocks around it cannot be taken",
+        &[],
+    );
     body(
         (V, "00 41 00 02 40 41 00 D3 0B 0B", "0"),
         "ref.eq wants (ref null eq) on top and finds i32",

@@ -100,13 +100,16 @@ fn the_instruction_and_its_operands_are_told() {
         assert_eq!(marked(&said.out), instruction_bytes(&body, refusal.place), "{request}");
         let before = operands_before(&section, number, &body, refusal.place);
         let (operands, is_unreachable) = before.expect("an instruction is refused");
-        let there = said.out.split("its block has, the top last: ").nth(1).expect("the operands");
+        let Some(there) = said.out.split("its block has, the top last: ").nth(1) else {
+            assert!(operands.len() <= 1 && !is_unreachable, "{request}");
+            continue;
+        };
         let wanted = stack(&operands, is_unreachable);
         assert_eq!(there.lines().next(), Some(&*wanted), "{request}");
         told += 1;
         unreachable += is_unreachable as usize;
     }
-    assert!(told > 100 && unreachable > 3, "{told}, {unreachable} of them unreachable");
+    assert!(told > 50 && unreachable > 3, "{told}, {unreachable} of them unreachable");
 }
 
 /// How many bytes are marked.

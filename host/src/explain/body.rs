@@ -125,6 +125,10 @@ fn part_text(body: &[u8], part: &Placed<Item>, cause: Option<&Cause>) -> String 
 
 fn operands_text(operands: &Operands) -> String {
     let Operands { wanted, there, unreachable } = operands;
+    // Of one operand the cause says it all.
+    if wanted.len() <= 1 && there.len() <= 1 && !unreachable {
+        return String::new();
+    }
     let there = match (unreachable, there.is_empty()) {
         (false, _) => stacked(there),
         (true, true) => UNKNOWNS.to_string(),

@@ -72,12 +72,18 @@ fn shown_text(cause: &Cause, of: Input, bytes: &[u8], before: &str) -> String {
     before.to_string() + &lines.collect::<String>()
 }
 
-/// Words in lines of a width that a terminal has, a little to the right.
+/// Words in lines of a width that a terminal has, a little to the right. What is in parentheses stays together.
 fn wrapped(words: &str) -> String {
     let mut lines = vec![String::new()];
-    for word in words.split(' ') {
+    let mut depth = 0;
+    let apart = |character: char| {
+        depth += (character == '(') as usize;
+        depth -= (character == ')' && depth > 0) as usize;
+        character == ' ' && depth == 0
+    };
+    for word in words.split(apart) {
         let line = lines.last_mut().expect("there is always a line");
-        if line.len() + word.len() < WIDTH {
+        if line.len() + word.len() < WIDTH || line.is_empty() {
             line.push(' ');
             line.push_str(word);
         } else {

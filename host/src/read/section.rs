@@ -1,6 +1,6 @@
 //! The parts of a section: groups, definitions, fields; and a line of the listing for each.
 
-use super::reader::{Fault, Reader, NOT_LISTED, SIZE_EXCEEDED};
+use super::reader::{Fault, Reader, BYTES_END, NOT_LISTED, SIZE_EXCEEDED};
 use super::types;
 use crate::syntax::{Form, Front, Placed, Type};
 use std::fmt::Display;
@@ -79,27 +79,36 @@ impl Parts<'_> {
     fn section(&mut self) -> Result<(), Fault> {
         let groups = self.reader.unsigned("the count of groups")?;
         self.line(counted(groups, "group"));
-        for _ in 0..groups {
+        for index in 0..groups {
+            self.there("group", index, groups)?;
             self.group()?;
         }
         self.reader.ended()
+    }
+
+    /// A byte stands where an entry of a list has to begin.
+    fn there(&self, what: &str, index: u32, count: u32) -> Result<(), Fault> {
+        if self.reader.peek().is_some() {
+            return Ok(());
+        }
+        let number = u64::from(index) + 1;
+        let why = format!("the bytes end where {what} {number} of {count} has to begin");
+        Err(Fault::new(BYTES_END, self.reader.place, why))
     }
 
     fn group(&mut self) -> Result<(), Fault> {
         let first = self.types.len();
         let alone = !self.reader.takes(0x4E);
         if alone {
-            // A missing byte is no type beyond the size: nothing says what begins here.
-            if self.reader.peek().is_some() {
-                self.room()?;
-            }
+            self.room()?;
             self.definition()?;
         } else {
             let count = self.reader.unsigned("the count of a group's definitions")?;
             self.line(format!("a group of {}", counted(count, "definition")));
             self.indent += 1;
-            for _ in 0..count {
+            for index in 0..count {
                 self.room()?;
+                self.there("definition", index, count)?;
                 self.definition()?;
             }
             self.indent -= 1;
@@ -207,6 +216,7 @@ impl Parts<'_> {
                     format!("a {word} beyond the {ENTRIES} that type {of} may have begins here");
                 return Err(Fault::new(SIZE_EXCEEDED, self.reader.place, why));
             }
+            self.there(word, number, count)?;
             let entry = read(&mut self.reader)?;
             let bytes = self.line(format!("{word} {number}: {entry}"));
             entries.push(Placed { bytes, what: entry });

@@ -63,9 +63,16 @@ impl Check<'_> {
                 self.with_part(cause, found.by, &format!(", which put {found} there"))
             }
             None => {
-                let has = match own.len() {
-                    0 => "its block has no operand".to_string(),
-                    count => format!("its block has only {}", counted(count, "operand")),
+                let around = self.operands.len() - own.len();
+                let has = match (own.len(), around) {
+                    (0, 0) => "its block has no operand".to_string(),
+                    (0, _) => {
+                        let around = counted(around, "operand");
+                        format!(
+                            "its block has none; {around} of the blocks around it cannot be taken"
+                        )
+                    }
+                    (count, _) => format!("its block has only {}", counted(count, "operand")),
                 };
                 self.cause(OPERAND, at, format!("{name} wants {want} {where_}, and {has}"))
             }
