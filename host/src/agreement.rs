@@ -1,6 +1,7 @@
 //! The check that finds causes, against the library on generated requests: the same number and the same place.
 
 use crate::ask::{self, AddOn, No};
+use crate::hex;
 use crate::recheck::{body, section, Cause};
 use chelbugan::Loader;
 use plain::generate;
@@ -16,7 +17,7 @@ fn told<T>(answer: Result<T, Cause>) -> Result<T, No> {
     })
 }
 
-/// Every refusal that a section or a body can have comes up.
+/// Every refusal that a section or a body can have comes up. And nothing that is accepted is taken for hex digits.
 #[test]
 fn causes_have_the_librarys_number_and_place() {
     let mut loader = Loader::new();
@@ -27,16 +28,18 @@ fn causes_have_the_librarys_number_and_place() {
         let library = ask::section(&mut loader, &of_section).map(|table| table.count());
         let own = told(section::judge(&of_section));
         assert_eq!(own.as_ref().map(|read| read.types.len()).map_err(|no| *no), library, "{line}");
-        if let Err(no) = library {
-            seen[no.number as usize] += 1;
+        match library {
+            Err(no) => seen[no.number as usize] += 1,
+            Ok(_) => assert!(!hex::is_text(&of_section), "{line}"),
         }
         let (Ok(read), Some(of_body)) = (own, parts.get(3)) else { continue };
         let number = parts[2].parse().expect("a number");
         let add_on = AddOn { section: of_section, body: bytes(of_body), number };
         let library = ask::body(&mut loader, &add_on);
         assert_eq!(told(body::judge(&read.types, number, &add_on.body)), library, "{line}");
-        if let Err(no) = library {
-            seen[no.number as usize] += 1;
+        match library {
+            Err(no) => seen[no.number as usize] += 1,
+            Ok(_) => assert!(!hex::is_text(&add_on.body), "{line}"),
         }
     }
     for number in (1..=13).chain(20..=25).chain(27..=29) {

@@ -68,7 +68,7 @@ pub const ENTRIES: &[Entry] = &[
         number: 4,
         title: "a size exceeded",
         means: "There is more of something than the loader has room for: bytes, types, fields, steps up a supertype chain, locals, operands, frames, or steps of a run. The explanation says which.",
-        place: "Byte: of the first entry or instruction beyond. Type number: for a supertype chain. 0: for a whole input or the budget of a run.",
+        place: "Byte or instruction: the first byte of the first entry or instruction beyond. Type number: for a supertype chain. 0: for a whole input or the budget of a run.",
         rule: "32,768 bytes a section or body; 256 types; 64 fields, parameters or results each; 63 steps up a supertype chain (place: type number); 256 locals with parameters; 512 operands in all frames after an instruction; 64 frames, the function's own counted. A budget of at most 1,000,000.",
         examples: &[
             Example {
@@ -105,7 +105,7 @@ pub const ENTRIES: &[Entry] = &[
         number: 6,
         title: "type number out of reach",
         means: "A type names a type behind its own group, a body names one that the section does not have, or a section was asked for one that it does not have.",
-        place: "Type number: of the type that names it; of the absent one where a section is asked for it. In a body, byte: the instruction's, or a locals entry's first.",
+        place: "Type number: of the type that names it; of the absent one where a section is asked for it. In a body, instruction or locals entry: the offset of its first byte.",
         rule: "A number may name any type up to the end of its own group.",
         examples: &[
             Example {
@@ -260,7 +260,7 @@ pub const ENTRIES: &[Entry] = &[
         number: 20,
         title: "operand missing or wrong",
         means: "The instruction takes an operand that its block does not have, or finds one of a type that is not below the one it takes.",
-        place: "Byte: the instruction's first.",
+        place: "Instruction: the offset of its first byte in the body.",
         rule: "Operands from the top (20). After unreachable, br and return the stack yields unknowns; an unknown is below every type.",
         examples: &[
             Example {
@@ -283,7 +283,7 @@ pub const ENTRIES: &[Entry] = &[
         number: 21,
         title: "label or local absent",
         means: "A branch names a label that is not open, or an instruction names a local that the function does not have.",
-        place: "Byte: the instruction's first.",
+        place: "Instruction: the offset of its first byte in the body.",
         rule: "Label or local absent.",
         examples: &[Example {
             broken: Body(V, "00 0C 01 0B", 0),
@@ -297,7 +297,7 @@ pub const ENTRIES: &[Entry] = &[
         number: 22,
         title: "local not set",
         means: "A local of a type without a default is read where it need not have a value yet.",
-        place: "Byte: the instruction's first.",
+        place: "Instruction: the offset of its first byte in the body.",
         rule: "A local without a default must be set before it is read; sets inside a block are forgotten at its end.",
         examples: &[Example {
             broken: Body(S, "01 01 64 00 20 00 1A 0B", 1),
@@ -311,7 +311,7 @@ pub const ENTRIES: &[Entry] = &[
         number: 23,
         title: "not a struct, no such field, descriptor missing or unwanted",
         means: "The type that the instruction names is not of the kind that it works on. The explanation says what the type is.",
-        place: "Byte: the instruction's first.",
+        place: "Instruction: the offset of its first byte in the body.",
         rule: "struct.new and its default take only types with no descriptor. The _desc ones take the fields (default: none), then (ref null (exact y)) on top. ref.cast_desc_eq to x takes a reference below any, then (ref null y) on top, exact y when the target is exact. The target is a defined type with a descriptor.",
         examples: &[Example {
             broken: Body(F1, "00 FB 00 00 0B", 2),
@@ -325,7 +325,7 @@ pub const ENTRIES: &[Entry] = &[
         number: 24,
         title: "field fixed",
         means: "struct.set of a field that is not mutable.",
-        place: "Byte: the instruction's first.",
+        place: "Instruction: the offset of its first byte in the body.",
         rule: "Field: value type, then 00 fixed or 01 mutable.",
         examples: &[Example {
             broken: Body("02 5F 01 7F 00 60 00 00", "00 D0 00 41 00 FB 05 00 00 0B", 1),
@@ -339,7 +339,7 @@ pub const ENTRIES: &[Entry] = &[
         number: 25,
         title: "branching cast's rule, label without types",
         means: "A branching cast's target is not below its source, or its label does not take what is carried there.",
-        place: "Byte: the instruction's first.",
+        place: "Instruction: the offset of its first byte in the body.",
         rule: "The target matches the source. The rest is the source, not null where the target may be null. The plain form carries the target and falls through with the rest, the fail form the other way round. The label's last type takes what is carried.",
         examples: &[Example {
             broken: Body(V, "00 D0 6E FB 18 01 00 6E 6D 1A 0B", 0),
@@ -367,7 +367,7 @@ pub const ENTRIES: &[Entry] = &[
         number: 28,
         title: "values left at `end`",
         means: "At the end of a block or of the function there are more operands than results.",
-        place: "Byte: of the `end`.",
+        place: "Instruction: the offset of the `end` in the body.",
         rule: "Values left at `end`.",
         examples: &[Example {
             broken: Body(V, "00 41 00 0B", 0),
@@ -381,7 +381,7 @@ pub const ENTRIES: &[Entry] = &[
         number: 29,
         title: "no default",
         means: "A struct is made with default values, and a field's type has none; or a run starts, and a parameter's type has none. A reference that may not be null has no default.",
-        place: "Byte: the instruction's first. 0: for a run's parameters.",
+        place: "Instruction: the offset of its first byte in the body. 0: for a run's parameters.",
         rule: "Starts with an empty heap, zero or null parameters. No default (for a run's parameters: place 0).",
         examples: &[
             Example {
@@ -404,7 +404,7 @@ pub const ENTRIES: &[Entry] = &[
         number: 41,
         title: "unreachable",
         means: "The run came to an unreachable instruction.",
-        place: "Byte: the instruction's first.",
+        place: "Instruction: the offset of its first byte in the body.",
         rule: "Traps: 41 unreachable.",
         examples: &[Example {
             broken: Run(V, "00 00 0B", 0, 10),
@@ -418,7 +418,7 @@ pub const ENTRIES: &[Entry] = &[
         number: 42,
         title: "null used by get, set, as_non_null or ref.get_desc",
         means: "An instruction that needs an object found null.",
-        place: "Byte: the instruction's first.",
+        place: "Instruction: the offset of its first byte in the body.",
         rule: "42 null used by get, set, as_non_null or ref.get_desc.",
         examples: &[Example {
             broken: Run(V, "00 D0 6E D4 1A 0B", 0, 10),
@@ -432,7 +432,7 @@ pub const ENTRIES: &[Entry] = &[
         number: 43,
         title: "null descriptor, looked at before the object and before room",
         means: "An instruction that takes a descriptor found null in its place.",
-        place: "Byte: the instruction's first.",
+        place: "Instruction: the offset of its first byte in the body.",
         rule: "43 null descriptor, looked at before the object and before room.",
         examples: &[Example {
             broken: Run(F1, "00 D0 62 01 FB 20 00 0B", 2, 10),
@@ -446,7 +446,7 @@ pub const ENTRIES: &[Entry] = &[
         number: 44,
         title: "cast failed",
         means: "ref.cast or ref.cast_desc_eq found an object of another kind, or null where the target may not be null.",
-        place: "Byte: the instruction's first.",
+        place: "Instruction: the offset of its first byte in the body.",
         rule: "44 cast failed. ref.cast_desc_eq passes when the object's descriptor is the very object given, or on null with a nullable target.",
         examples: &[Example {
             broken: Run(V, "00 D0 6E FB 16 6E 1A 0B", 0, 10),
@@ -460,7 +460,7 @@ pub const ENTRIES: &[Entry] = &[
         number: 45,
         title: "1,024 objects exist or fewer than the needed cells are left of 4,096, an object needing one cell for each field",
         means: "The heap of the run is full. Nothing is freed.",
-        place: "Byte: the instruction's first.",
+        place: "Instruction: the offset of its first byte in the body.",
         rule: "45 exactly when 1,024 objects exist or fewer than the needed cells are left of 4,096, an object needing one cell for each field.",
         examples: &[Example {
             broken: Run(S, "00 03 40 FB 00 00 1A 0C 00 0B 0B", 1, 1_000_000),

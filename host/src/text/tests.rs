@@ -203,3 +203,67 @@ pub fn listed(listing: &str) -> Vec<u8> {
     });
     pairs.collect()
 }
+
+/// Words in any order, and texts with a word left out or put twice: bytes or a fault, and always an end.
+#[test]
+fn any_words_are_answered() {
+    let words = [
+        "(",
+        ")",
+        "(func",
+        "(type",
+        "$a",
+        "$0",
+        "(rec",
+        "(sub",
+        "final",
+        "(struct",
+        "(field",
+        "(mut",
+        "i32",
+        "(ref",
+        "null",
+        "any",
+        "anyref",
+        "(exact",
+        "0",
+        "-1",
+        "(local",
+        "(@times",
+        "block",
+        "loop",
+        "end",
+        "br",
+        "(block",
+        "nop",
+        "i32.const",
+        "br_on_cast",
+        "(;",
+        ";)",
+        ";;",
+        "\n",
+        "(describes",
+        "(param",
+        "(result",
+    ];
+    let mut random = plain::generate::random::Random::new(7);
+    for _ in 0..4_000 {
+        let count = random.below(24);
+        let soup: Vec<&str> = (0..count).map(|_| random.pick(&words)).collect();
+        let soup = soup.join(" ");
+        let _ = (assemble_section(&soup), assemble_body(&soup));
+    }
+    for line in generate::requests(9, 400, true).filter(|line| line.starts_with("B ")) {
+        let parts: Vec<&str> = line.split(' ').collect();
+        let texts = [print_section(&bytes(parts[1])), print_body(&bytes(parts[3]))];
+        for text in texts.into_iter().flatten() {
+            let words: Vec<&str> = text.split(' ').collect();
+            let at = random.below(words.len());
+            let without = [&words[..at], &words[at + 1..]].concat().join(" ");
+            let twice = [&words[..=at], &words[at..]].concat().join(" ");
+            for text in [without, twice] {
+                let _ = (assemble_section(&text), assemble_body(&text));
+            }
+        }
+    }
+}
