@@ -126,7 +126,7 @@ pub const ENTRIES: &[Entry] = &[
     },
     Entry {
         number: 7,
-        title: "supertype rule 1",
+        title: "supertype rule 1: at most one, earlier and open",
         means: "A type has two supertypes, or one that is not earlier, or one that is final.",
         place: "Type number: the subtype's.",
         rule: "At most one supertype; it is earlier and open.",
@@ -149,7 +149,7 @@ pub const ENTRIES: &[Entry] = &[
     },
     Entry {
         number: 8,
-        title: "supertype rule 2",
+        title: "supertype rule 2: forms equal, fields and functions match",
         means: "What a type holds does not match what its supertype holds. The explanation shows both side by side.",
         place: "Type number: the subtype's.",
         rule: "Forms are equal. A struct matches its supertype with at least as many fields: a fixed field's type is a subtype, a mutable one's is identical, mutability equal. Functions: same counts, parameters against, results along.",
@@ -214,7 +214,7 @@ pub const ENTRIES: &[Entry] = &[
     },
     Entry {
         number: 12,
-        title: "rule 4",
+        title: "rule 4: the supertype's descriptor has none below it here",
         means: "The supertype has a descriptor, and the subtype has none, or one that does not stand below the supertype's. The explanation shows both clauses.",
         place: "Type number: the subtype's.",
         rule: "If the supertype has descriptor y, the subtype has a descriptor whose supertype is y. A supertype without one allows either.",
@@ -230,7 +230,7 @@ pub const ENTRIES: &[Entry] = &[
     },
     Entry {
         number: 13,
-        title: "rule 5",
+        title: "rule 5: both describe or neither does, described types stand alike",
         means: "Of a type and its supertype one describes and the other does not, or the types that they describe do not stand below one another.",
         place: "Type number: the subtype's.",
         rule: "A type and its supertype both describe or neither does; the described types stand as subtype and supertype too.",
