@@ -9,3 +9,4 @@ pub mod Bytes
 pub mod Verdict
 pub mod Main
 pub mod Examples
+pub mod Witnesses

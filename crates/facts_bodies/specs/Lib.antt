@@ -2,3 +2,4 @@ pub mod Premises
 pub mod Apart
 pub mod Rules
 pub mod Typing
+pub mod Samples

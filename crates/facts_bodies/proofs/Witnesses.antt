@@ -1,0 +1,109 @@
+-- The rules at the samples of specs/Samples.antt: where the verdict is yes the theorem gives the derivation, where it is no it says
+-- that there is none. The verdicts are computed; numbers and places were worked out from document 01.
+use Prim.Native.Nat.{ℕ}
+use mathlib.Core.Path.{_≡_, refl}
+use mathlib.Core.Bool.{Bool, true, false, false≢true}
+use mathlib.Core.List.{List, [], _∷_}
+use Rattle.scope.specs.Syntax.{Definition}
+use Rattle.scope.specs.Judging.{Judged, accepted, rejected, judgeSection}
+use Rattle.scope.specs.Bodies.{Body, instructions, judgeBody}
+use Rattle.scope.proofs.Computes.{computes}
+use Rattle.scope.proofs.Impossible.{contradiction}
+use Rattle.facts_bodies.specs.Typing.{AllowedBody}
+use Rattle.facts_bodies.specs.Samples.{W, everyKind, forgotten, remembered, unwantedDescriptor, missingDescriptor, fixedField, targetAbove, labelWithoutTypes, valuesLeft, noDefault, numberAsReference, unknownAsNumber, blockStartsEmpty, labelAbsent}
+use Rattle.facts_bodies.proofs.Main.{accepted-exactly-when-allowed}
+
+abbrev definitionsOf : Judged (List Definition) → List Definition
+definitionsOf (accepted ds) = ds
+definitionsOf (rejected n p) = []
+
+abbrev types : List Definition
+types = definitionsOf (judgeSection W)
+
+abbrev isYes : {A : Type 0} → Judged A → Bool
+isYes (accepted x) = true
+isYes (rejected n p) = false
+
+said-yes : {A : Type 0} (j : Judged A) → isYes j ≡ true → (x : A) × (j ≡ accepted x)
+said-yes (accepted x) e = (x, refl)
+said-yes (rejected n p) e = absurd (false≢true e)
+
+abbrev countOf : Judged Body → ℕ
+countOf (accepted b) = instructions b
+countOf (rejected n p) = 0
+
+W-accepted : judgeSection W ≡ accepted types
+unfolding computes
+W-accepted = refl
+
+derived : (s : List ℕ) → isYes (judgeBody W s 6) ≡ true → AllowedBody types 6 s
+derived s e = accepted-exactly-when-allowed W s 6 W-accepted .0 (said-yes _ e)
+
+underivable : (s : List ℕ) {n p : ℕ} → judgeBody W s 6 ≡ rejected n p → ¬ AllowedBody types 6 s
+underivable s e a =
+    let (b, yes′) = accepted-exactly-when-allowed W s 6 W-accepted .1 a in
+    contradiction cc
+
+-- a yes: 87 instructions of every kind; a local that is set around a block
+
+pub every-kind-allowed : AllowedBody types 6 everyKind
+unfolding computes
+every-kind-allowed = derived everyKind refl
+
+pub every-kind-counted : countOf (judgeBody W everyKind 6) ≡ 87
+unfolding computes
+every-kind-counted = refl
+
+pub remembered-allowed : AllowedBody types 6 remembered
+unfolding computes
+remembered-allowed = derived remembered refl
+
+-- a no
+
+pub forgotten-not-allowed : ¬ AllowedBody types 6 forgotten
+unfolding computes
+forgotten-not-allowed = underivable forgotten {n = 22} {p = 25} refl
+
+pub unwanted-descriptor-not-allowed : ¬ AllowedBody types 6 unwantedDescriptor
+unfolding computes
+unwanted-descriptor-not-allowed = underivable unwantedDescriptor {n = 23} {p = 1} refl
+
+pub missing-descriptor-not-allowed : ¬ AllowedBody types 6 missingDescriptor
+unfolding computes
+missing-descriptor-not-allowed = underivable missingDescriptor {n = 23} {p = 1} refl
+
+pub fixed-field-not-allowed : ¬ AllowedBody types 6 fixedField
+unfolding computes
+fixed-field-not-allowed = underivable fixedField {n = 24} {p = 5} refl
+
+pub target-above-not-allowed : ¬ AllowedBody types 6 targetAbove
+unfolding computes
+target-above-not-allowed = underivable targetAbove {n = 25} {p = 5} refl
+
+pub label-without-types-not-allowed : ¬ AllowedBody types 6 labelWithoutTypes
+unfolding computes
+label-without-types-not-allowed = underivable labelWithoutTypes {n = 25} {p = 5} refl
+
+pub values-left-not-allowed : ¬ AllowedBody types 6 valuesLeft
+unfolding computes
+values-left-not-allowed = underivable valuesLeft {n = 28} {p = 3} refl
+
+pub no-default-not-allowed : ¬ AllowedBody types 6 noDefault
+unfolding computes
+no-default-not-allowed = underivable noDefault {n = 29} {p = 4} refl
+
+pub number-as-reference-not-allowed : ¬ AllowedBody types 6 numberAsReference
+unfolding computes
+number-as-reference-not-allowed = underivable numberAsReference {n = 20} {p = 3} refl
+
+pub unknown-as-number-not-allowed : ¬ AllowedBody types 6 unknownAsNumber
+unfolding computes
+unknown-as-number-not-allowed = underivable unknownAsNumber {n = 20} {p = 3} refl
+
+pub block-starts-empty-not-allowed : ¬ AllowedBody types 6 blockStartsEmpty
+unfolding computes
+block-starts-empty-not-allowed = underivable blockStartsEmpty {n = 20} {p = 5} refl
+
+pub label-absent-not-allowed : ¬ AllowedBody types 6 labelAbsent
+unfolding computes
+label-absent-not-allowed = underivable labelAbsent {n = 21} {p = 1} refl
