@@ -1,9 +1,8 @@
 -- The checker's functions are equal to the relations of specs/Apart.antt: each function's value stands in its relation, and it
 -- is the only one that does.
 use Prim.Native.Nat.{ℕ, _+_}
-use mathlib.Core.Path.{_≡_, refl, sym, _∙_, ap, subst}
-use mathlib.Core.Logic.{_↔_}
-use mathlib.Core.Bool.{Bool, true, false, not, cond, _&&_}
+use mathlib.Core.Path.{_≡_, refl, sym, _∙_, subst}
+use mathlib.Core.Bool.{Bool, true, false, not, _&&_}
 use mathlib.Core.List.{List, [], _∷_, _++_, map, reverse, reverseAux}
 use lib.ListN.{length}
 use Rattle.scope.specs.Lists.{sum}
@@ -11,13 +10,12 @@ use Rattle.scope.specs.Abstract.{Abstract, NOFUNC, NOEXTERN, NONE, FUNC, EXTERN
 use Rattle.scope.specs.Syntax.{Heap, abstract, defined, exact, Val, num, ref, nullable, Types}
 use Rattle.scope.specs.Order.{kindOf, HeapOrder, heaps, abstractBelow, heapBelow, valBelow}
 use Rattle.scope.specs.Instructions.{Cast}
-use Rattle.scope.specs.BodyRules.{Context, Scope, Wanted, value, fromTop, hasDefault, topOf, sourceOf, targetOf, restOf}
-use Rattle.scope.specs.Bodies.{Operand, known, onTop, Frame, ofBlock, ofLoop, labelOf, outerOf, State, scopeOf, operandsIn, Function, setAtFirst, startState}
+use Rattle.scope.specs.BodyRules.{Context, Scope, Wanted, value, fromTop, hasDefault, topOf, restOf}
+use Rattle.scope.specs.Bodies.{Operand, known, onTop, Frame, ofBlock, ofLoop, labelOf, outerOf, State, scopeOf, operandsIn, Function, startState}
 use Rattle.scope.proofs.TenRows.{row-kept, pair-kept}
 use Rattle.scope.proofs.Order.{tested-order}
-use Rattle.scope.proofs.Truths.{from-both, decided}
 use Rattle.facts_bodies.specs.Premises.{Default, zero-default, null-default}
-use Rattle.facts_bodies.specs.Apart.{IsTop, any-is-top, func-is-top, extern-is-top, TopOf, top-of, castSource, castTarget, Rest, rest-is-source, rest-not-null, Labels, own-label, block-label, loop-label, Sees, sees, SetAtFirst, none-set, parameter-set, default-set, default-missing, Starts, starts, Around, around-none, around-block, around-loop, AllOperands, all-operands, Wants, wants-none, wants-last, Lie, none-lie, last-lies}
+use Rattle.facts_bodies.specs.Apart.{IsTop, any-is-top, func-is-top, extern-is-top, TopOf, top-of, Rest, rest-is-source, rest-not-null, Labels, own-label, block-label, loop-label, Sees, sees, SetAtFirst, none-set, parameter-set, default-set, default-missing, Starts, starts, Around, around-none, around-block, around-loop, AllOperands, all-operands, Wants, wants-none, wants-last, Lie, none-lie, last-lies}
 use Rattle.facts_bodies.proofs.Premises.{Ordered}
 
 -- a hierarchy's top

@@ -6,7 +6,7 @@ use lib.Dec.{ltb}
 use Rattle.scope.specs.Syntax.{Val, nullable}
 use Rattle.scope.specs.TypeRules.{heapNames}
 use Rattle.scope.specs.Instructions.{Cast, Op}
-use Rattle.scope.specs.BodyRules.{Context, Scope, Wanted, values, Plan, allowed, takes, sourceOf, targetOf, restOf, branches, planOf, fromTop, value}
+use Rattle.scope.specs.BodyRules.{Context, Scope, Wanted, values, Plan, allowed, takes, sourceOf, targetOf, branches, planOf, fromTop, value}
 use Rattle.facts_bodies.specs.Rules.{Branching, Rule, rule-unreachable, rule-nop, rule-return, rule-drop, rule-br, rule-br-if, rule-local-get, rule-local-set, rule-local-tee, rule-i32-const, rule-ref-null, rule-ref-is-null, rule-ref-eq, rule-ref-as-non-null, rule-struct-new, rule-struct-new-default, rule-struct-get, rule-struct-set, rule-ref-test, rule-ref-cast, rule-br-on-cast, rule-br-on-cast-fail, rule-struct-new-desc, rule-struct-new-default-desc, rule-ref-get-desc, rule-ref-cast-desc-eq, rule-br-on-cast-desc-eq, rule-br-on-cast-desc-eq-fail}
 use Rattle.facts_bodies.proofs.Premises.{allBelow, append-every, number-reached-tested, heap-reached-tested, defaults-tested, set-tested, cast-takes-tested, last-found, Ordered}
 use Rattle.facts_bodies.proofs.Apart.{only-top, only-rest}

@@ -3,7 +3,7 @@
 use Prim.Native.Nat.{ℕ}
 use mathlib.Core.Path.{_≡_, refl}
 use mathlib.Core.Bool.{Bool, true, false, false≢true}
-use mathlib.Core.List.{List, [], _∷_}
+use mathlib.Core.List.{List, []}
 use Rattle.scope.specs.Syntax.{Definition}
 use Rattle.scope.specs.Judging.{Judged, accepted, rejected, judgeSection}
 use Rattle.scope.specs.Bodies.{Body, instructions, judgeBody}

@@ -7,7 +7,7 @@ use mathlib.Core.Bool.{Bool, true, false}
 use mathlib.Core.List.{List, [], _∷_, _++_}
 use lib.ListN.{length}
 use Rattle.scope.specs.Abstract.{Abstract, ANY, FUNC, EXTERN}
-use Rattle.scope.specs.Syntax.{Heap, abstract, Val, ref, nullable, nonNull, Types}
+use Rattle.scope.specs.Syntax.{Heap, abstract, Val, ref, nonNull, Types}
 use Rattle.scope.specs.Order.{HeapOrder}
 use Rattle.scope.specs.Instructions.{Cast}
 use Rattle.scope.specs.BodyRules.{Context, Scope, Wanted, value}

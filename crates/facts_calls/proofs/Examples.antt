@@ -2,11 +2,11 @@
 -- computed; buffers are of their one size, or one is a word under it.
 use Prim.Native.Nat.{ℕ}
 use native.Mathlib.Omega.{arith}
-use mathlib.Core.Path.{_≡_, refl, _∙_}
-use mathlib.Core.Bool.{true, false}
+use mathlib.Core.Path.{_≡_, refl}
+use mathlib.Core.Bool.{false}
 use mathlib.Core.Option.{none, some}
 use mathlib.Core.List.{List, [], _∷_}
-use lib.ListN.{length, replicate, getElem?}
+use lib.ListN.{replicate, getElem?}
 use Rattle.scope.specs.declared.Verdict.{Verdict}
 use Rattle.scope.specs.declared.Verdict
 use Rattle.scope.specs.declared.Ran.{Ran}
@@ -17,8 +17,7 @@ use Rattle.scope.specs.declared.Asked
 use Rattle.scope.specs.Refusals.{bufferTooSmall, outOfReach, describesNotEarlier, badStruct}
 use Rattle.scope.specs.Syntax.{struct, Definition}
 use Rattle.scope.specs.Judging.{accepted, judgeSection}
-use Rattle.scope.specs.Bodies.{Body, instructions, judgeBody}
-use Rattle.scope.specs.Running.{programOf, startOf}
+use Rattle.scope.specs.Bodies.{judgeBody}
 use Rattle.scope.specs.Memory.{wiped, tableRows, tableCodes}
 use Rattle.scope.specs.Answers.{lentAfter, sectionCall, SectionJudged, askTable, TypeAsked, TypeHanded, BodyJudged, RunMemory, runCall, ranOf, stateAfter, RunTried}
 use Rattle.scope.proofs.Computes.{computes}
@@ -26,11 +25,11 @@ use Rattle.facts_sections.specs.FirstFault.{Refused}
 use Rattle.facts_sections.specs.Writing.{WritesDefinition}
 use Rattle.facts_sections.proofs.Exactly.{accepted-exactly}
 use Rattle.facts_bodies.specs.Premises.{of-none}
-use Rattle.facts_runs.specs.Samples.{F1, twoObjects, nullDescriptor, branchOut, sample}
-use Rattle.facts_runs.specs.Counting.{taken, allocations}
+use Rattle.facts_runs.specs.Samples.{F1, twoObjects, sample}
+use Rattle.facts_runs.specs.Counting.{taken}
 use Rattle.facts_refusals.specs.Bodies.{BodySaysNo}
-use Rattle.facts_calls.specs.Lent.{TableSuffices, TableShort, BodySuffices, BodyShort, RunSuffices, RunShort}
-use Rattle.facts_calls.specs.Meant.{SectionOf, BodyOf, CanRun, RunSaysNo}
+use Rattle.facts_calls.specs.Lent.{TableSuffices, TableShort, BodySuffices, BodyShort, RunSuffices}
+use Rattle.facts_calls.specs.Meant.{SectionOf, BodyOf, CanRun}
 use Rattle.facts_calls.specs.Calls.{Stops}
 use Rattle.facts_calls.specs.Asked.{LiesIn, TypeOf, AskSaysNo}
 use Rattle.facts_calls.proofs.Placed.{accepted-body}

@@ -1,12 +1,11 @@
 -- The tests of lent memory pass exactly when every buffer suffices, and fail exactly when one is short.
-use Prim.Native.Nat.{ℕ, _<_, _≤_}
+use Prim.Native.Nat.{ℕ}
 use native.Mathlib.Omega.{arith}
 use mathlib.Core.Path.{_≡_, refl}
-use mathlib.Core.Logic.{_↔_, _⊎_, inl, inr}
+use mathlib.Core.Logic.{_⊎_, inl, inr}
 use mathlib.Core.Bool.{Bool, true, false, _&&_}
 use mathlib.Core.List.{List}
 use lib.ListN.{length}
-use lib.Dec.{leb}
 use borrow.Author.Tests.{leb-true, leb-false, le-leb}
 use Rattle.scope.specs.Layout.{rowsSize, codesSize, workSize, endsSize, countsSize, objectsSize, cellsSize, localsSize, operandsSize, blocksSize}
 use Rattle.scope.specs.Memory.{StateWords}

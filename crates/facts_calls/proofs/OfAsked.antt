@@ -1,24 +1,21 @@
 -- Demand 2 of asking for a type: the section's verdict, then the number; the part that is cut out is the writing of the
 -- definition (proofs/VeryBytes.antt).
-use Prim.Native.Nat.{ℕ, zero, suc, _≤_, _<_}
+use Prim.Native.Nat.{ℕ, zero, suc, _<_}
 use native.Mathlib.Omega.{arith}
 use mathlib.Core.Path.{_≡_, refl, sym, _∙_, ap, subst}
-use mathlib.Core.Logic.{_↔_}
 use mathlib.Core.Bool.{Bool, true, false, cond}
-use mathlib.Core.Option.{Option, none, some}
-use mathlib.Core.List.{List, [], _∷_, _++_, List·Memᴰ}
-use lib.ListN.{length, replicate, getElem?}
+use mathlib.Core.Option.{some}
+use mathlib.Core.List.{List, [], _∷_, List·Memᴰ}
+use lib.ListN.{length, getElem?}
 use lib.Dec.{ltb}
 use borrow.Author.Tests.{ltb-true, ltb-false, lt-ltb, le-ltb}
 use Rattle.scope.specs.declared.Asked.{Asked}
 use Rattle.scope.specs.declared.Asked
-use Rattle.scope.specs.Refusals.{bufferTooSmall, outOfReach}
-use Rattle.scope.specs.Lists.{joined}
+use Rattle.scope.specs.Refusals.{outOfReach}
 use Rattle.scope.specs.Syntax.{Definition, typesOf}
 use Rattle.scope.specs.Judging.{Judged, accepted, rejected, andThen, judgeSection, askType, partOf}
-use Rattle.scope.specs.Memory.{filled, wiped, tableRows, tableCodes}
-use Rattle.scope.specs.Answers.{tableLent, lentEnough, lentAfter, sectionCall, askCall, askedOf, askedTypes, askTable, TypeAsked, TypeHanded}
-use Rattle.scope.proofs.Computes.{computes}
+use Rattle.scope.specs.Memory.{tableRows, tableCodes}
+use Rattle.scope.specs.Answers.{tableLent, lentEnough, lentAfter, askCall, askedOf, askedTypes, askTable, TypeAsked, TypeHanded}
 use Rattle.scope.proofs.Impossible.{contradiction}
 use Rattle.scope.proofs.Truths.{none-is-not-some}
 use Rattle.facts_sections.specs.Allowed.{Allowed}
@@ -26,7 +23,7 @@ use Rattle.facts_sections.specs.FirstFault.{Refused}
 use Rattle.facts_sections.specs.Writing.{WritesDefinition}
 use Rattle.facts_sections.proofs.Exactly.{accepted-exactly}
 use Rattle.facts_sections.proofs.FaultOrder.{refused-exactly}
-use Rattle.facts_calls.specs.Lent.{TableSuffices, TableShort}
+use Rattle.facts_calls.specs.Lent.{TableSuffices}
 use Rattle.facts_calls.specs.Asked.{LiesIn, TypeOf, NoType, AskSaysNo, by-memory, by-section, by-number, beginsAt, endsAt, OfAsked, OfHanded}
 use Rattle.facts_calls.proofs.Lent.{table-suffices, table-lent, table-is-short, short-table}
 use Rattle.facts_calls.proofs.Verdicts.{same-accepted, accepted-is-not-rejected, lent-yes, lent-call, short-call}

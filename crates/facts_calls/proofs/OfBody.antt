@@ -1,9 +1,8 @@
 -- Demand 2 of the call on a body: as that on a section, with derivations in place of allowed types.
 use Prim.Native.Nat.{ℕ}
 use mathlib.Core.Path.{_≡_, refl, sym, _∙_, ap}
-use mathlib.Core.Logic.{_↔_}
 use mathlib.Core.Bool.{Bool, _&&_}
-use mathlib.Core.List.{List, [], _∷_, map}
+use mathlib.Core.List.{List, [], _∷_}
 use lib.ListN.{length}
 use Rattle.scope.specs.declared.Verdict.{Verdict}
 use Rattle.scope.specs.declared.Verdict
@@ -14,10 +13,10 @@ use Rattle.scope.specs.Bodies.{Code, Body, instructions, judgeBody}
 use Rattle.scope.specs.Answers.{holds, tableLent, verdictOf, bodyCall, BodyJudged}
 use Rattle.facts_sections.proofs.Exactly.{accepted-exactly}
 use Rattle.facts_bodies.proofs.Bytes.{instructionsOf}
-use Rattle.facts_refusals.specs.Bodies.{BodySaysNo}
 use Rattle.facts_refusals.proofs.Bodies.{body-no-exactly}
+use Rattle.facts_refusals.proofs.Places.{body-refusals}
 use Rattle.facts_calls.specs.Lent.{BodySuffices, BodyShort}
-use Rattle.facts_calls.specs.Meant.{BodyOf, IsBody}
+use Rattle.facts_calls.specs.Meant.{BodyOf}
 use Rattle.facts_calls.specs.Calls.{OfBody}
 use Rattle.facts_calls.proofs.Lent.{body-suffices, body-lent, body-is-short, short-body}
 use Rattle.facts_calls.proofs.Placed.{accepted-body, derived-body}
@@ -86,5 +85,6 @@ module _ {section s : List ℕ} {x : ℕ} {rows codes work rows′ codes′ work
         short = (λ e. fourteen 0 e .0, λ t. says (short-call lent (judgeBody section s x) (short-body t)));
         only = fourteen;
         refused = λ number place t. (λ e. body-no-exactly section s x number place .0 (sym (own-call t) ∙ said e), λ e. says (own-call t ∙ body-no-exactly section s x number place .1 e));
+        places = λ number place t e. body-refusals .places section s x number place (sym (own-call t) ∙ said e);
         wipes = (promise .rowsAfter, promise .codesAfter, promise .workAfter);
       }

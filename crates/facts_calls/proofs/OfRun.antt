@@ -1,9 +1,8 @@
 -- Demand 2 of the trial run: where the buffers suffice and the body can be run, its verdict is the run of that body from its
 -- start; soundness says how such a run ends, and the laws of facts_runs count its steps and its objects.
-use Prim.Native.Nat.{ℕ, _≤_, _<_}
+use Prim.Native.Nat.{ℕ, _≤_}
 use native.Mathlib.Omega.{arith}
 use mathlib.Core.Path.{_≡_, refl, sym, _∙_, ap}
-use mathlib.Core.Logic.{_↔_}
 use mathlib.Core.Bool.{Bool, true, false, cond, false≢true}
 use mathlib.Core.Option.{some}
 use mathlib.Core.List.{List}
@@ -19,10 +18,10 @@ use Rattle.scope.specs.Judging.{Judged, accepted, rejected, andThen}
 use Rattle.scope.specs.BodyRules.{hasDefault}
 use Rattle.scope.specs.Bodies.{Body, instructions, judgeBody}
 use Rattle.scope.specs.Machine.{Machine}
-use Rattle.scope.specs.Running.{Ending, done, trapped, spent, wrong, run, startOf, programOf, Trial, trialOf, withParameters, trialRun}
+use Rattle.scope.specs.Running.{Ending, run, startOf, programOf, Trial, trialOf, withParameters, trialRun}
 use Rattle.scope.specs.Memory.{StateWords, filled, stateWords}
 use Rattle.scope.specs.Answers.{runLent, machineOf, ranAs, ranOf, runCall, stateAfter, RunMemory, RunTried}
-use Rattle.scope.proofs.Soundness.{Trap, Runs, EndsWell, isDone, isTrapped, isSpent, RanSoundly, Soundness}
+use Rattle.scope.proofs.Soundness.{Runs, EndsWell, isDone, isTrapped, isSpent, RanSoundly}
 use Rattle.scope.proofs.SoundnessHolds.{soundness}
 use Rattle.facts_bodies.specs.Premises.{Each, Default}
 use Rattle.facts_bodies.proofs.Premises.{tested-defaults, defaults-tested}
@@ -30,12 +29,11 @@ use Rattle.facts_runs.specs.Counting as counting
 use Rattle.facts_runs.specs.Counting.{stepsOf, taken, allocations, hasLoop}
 use Rattle.facts_runs.proofs.Allocations.{objects-counted}
 use Rattle.facts_runs.proofs.Loopless.{loopless-stops, loopless-steps}
-use Rattle.facts_refusals.specs.Bodies.{BodySaysNo}
 use Rattle.facts_refusals.proofs.Bodies.{body-no, no-body}
 use Rattle.facts_calls.specs.Lent.{RunSuffices, RunShort}
 use Rattle.facts_calls.specs.Meant.{IsBody, CanRun, RunSaysNo, by-body, by-budget, by-parameters}
 use Rattle.facts_calls.specs.Calls.{Stops, stops-done, stops-at-trap, Wiped, OfRun}
-use Rattle.facts_calls.proofs.Lent.{run-suffices, run-lent, run-is-short, short-run}
+use Rattle.facts_calls.proofs.Lent.{run-lent, run-is-short, short-run}
 use Rattle.facts_calls.proofs.Placed.{accepted-body, body-accepted}
 use Rattle.facts_calls.proofs.Verdicts.{accepted-is-not-rejected, ran-no, lent-call, short-call, lent-no}
 use Rattle.facts_calls.proofs.Fourteen.{body-never-14}

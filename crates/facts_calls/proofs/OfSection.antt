@@ -1,21 +1,21 @@
 -- Demand 2 of the call on a section: where the buffers suffice its verdict is that on the section, which is yes exactly when
 -- the section is allowed; where one is short it is 14 at 0, which no section is refused with.
 use Prim.Native.Nat.{ℕ}
-use mathlib.Core.Path.{_≡_, refl, sym, _∙_, ap}
-use mathlib.Core.Logic.{_↔_}
+use mathlib.Core.Path.{_≡_, sym, _∙_, ap}
 use mathlib.Core.List.{List}
 use lib.ListN.{length}
 use Rattle.scope.specs.declared.Verdict.{Verdict}
 use Rattle.scope.specs.declared.Verdict
 use Rattle.scope.specs.Refusals.{bufferTooSmall}
 use Rattle.scope.specs.Syntax.{Definition}
-use Rattle.scope.specs.Judging.{Judged, accepted, rejected, judgeSection}
-use Rattle.scope.specs.Memory.{filled, wiped, tableRows, tableCodes}
+use Rattle.scope.specs.Judging.{accepted, rejected, judgeSection}
+use Rattle.scope.specs.Memory.{tableRows, tableCodes}
 use Rattle.scope.specs.Answers.{tableLent, verdictOf, lentAfter, sectionCall, SectionJudged}
 use Rattle.facts_sections.specs.Allowed.{Allowed}
 use Rattle.facts_sections.specs.FirstFault.{Refused}
 use Rattle.facts_sections.proofs.Exactly.{accepted-exactly}
 use Rattle.facts_sections.proofs.FaultOrder.{refused-exactly}
+use Rattle.facts_refusals.proofs.Sections.{says-no}
 use Rattle.facts_calls.specs.Lent.{TableSuffices, TableShort}
 use Rattle.facts_calls.specs.Meant.{SectionOf}
 use Rattle.facts_calls.specs.Calls.{OfSection}
@@ -65,5 +65,6 @@ module _ {s rows codes rows′ codes′ : List ℕ} {r : Verdict} (promise : Sec
         short = (λ e. fourteen 0 e .0, λ t. says (too-short t));
         only = fourteen;
         refused = λ number place t. (λ e. refused-exactly s number place .0 (sym (own-call t) ∙ said e), λ e. says (own-call t ∙ refused-exactly s number place .1 e));
+        places = λ number place t e. says-no s number place (sym (own-call t) ∙ said e);
         wipes = λ number place e. (promise .rowsAfter ∙ ap (lentAfter tableRows rows) (said e), promise .codesAfter ∙ ap (lentAfter tableCodes codes) (said e));
       }

@@ -4,18 +4,17 @@ use Prim.Native.Nat.{ℕ, zero, suc}
 use native.Mathlib.Omega.{arith}
 use mathlib.Core.Path.{_≡_, refl, sym, _∙_, ap, subst, subst₂}
 use mathlib.Core.Logic.{_↔_}
-use mathlib.Core.List.{List, [], _∷_, map}
+use mathlib.Core.List.{List, [], _∷_}
 use lib.ListN.{length}
 use borrow.Author.Tests.{eq-eqb, le-ltb}
-use Rattle.scope.specs.Reading.{Read, got, refused, then}
+use Rattle.scope.specs.Reading.{got, refused, then}
 use Rattle.scope.specs.Syntax.{Val, Definition, typesOf}
-use Rattle.scope.specs.Judging.{Judged, accepted, judgeSection}
+use Rattle.scope.specs.Judging.{accepted, judgeSection}
 use Rattle.scope.specs.Instructions.{Instr, instrAt}
 use Rattle.scope.specs.BodyRules.{Context, Ruled, allowed, fault}
 use Rattle.scope.specs.Bodies.{State, Next, goesOn, finished, judgeInstr, Code, onRuled, onNext, judgeFrom, Function, Body, startState, contextOf, bodyAt, judgeBody}
 use Rattle.scope.proofs.Impossible.{contradiction}
 use Rattle.scope.proofs.Accepted.{accepted-passes}
-use Rattle.facts_sections.specs.Allowed.{Allowed}
 use Rattle.facts_sections.proofs.Exactly.{accepted-exactly}
 use Rattle.facts_bodies.specs.Typing.{Derivation}
 use Rattle.facts_bodies.proofs.Premises.{Ordered, passes-ordered}

@@ -1,7 +1,7 @@
 -- An answer taken apart: which verdict it was made of. And a call's verdict by its lent memory: the verdict on its input where
 -- the buffers suffice, 14 at 0 where one is short.
 use Prim.Native.Nat.{ℕ}
-use mathlib.Core.Path.{_≡_, refl, sym, _∙_, ap}
+use mathlib.Core.Path.{_≡_, refl, sym}
 use mathlib.Core.Bool.{Bool, true, false}
 use mathlib.Core.List.{List}
 use Rattle.scope.specs.declared.Verdict.{Verdict}

@@ -1,12 +1,12 @@
 -- Where a definition's bytes lie. A section is written as its groups one after the other, a group as its definitions one after
 -- the other; so the writing of each definition is a stretch of the section, and it begins where the definition says. The part
 -- that is cut out between the two places is that stretch.
-use Prim.Native.Nat.{ℕ, zero, suc, _+_, _-_, _*_}
+use Prim.Native.Nat.{ℕ, zero, suc, _+_, _-_}
 use native.Mathlib.Omega.{arith}
 use native.Mathlib.Nat.{zero-add, suc-add}
-use mathlib.Core.Path.{_≡_, refl, sym, _∙_, ap, subst}
+use mathlib.Core.Path.{_≡_, refl, sym, _∙_, ap}
 use mathlib.Core.Logic.{_⊎_, inl, inr}
-use mathlib.Core.Option.{Option, none, some}
+use mathlib.Core.Option.{some}
 use mathlib.Core.List.{List, [], _∷_, _++_, List·Memᴰ, List·Memᴰ·head, List·Memᴰ·tail}
 use lib.ListN.{length, take, drop, getElem?}
 use Rattle.scope.specs.Lists.{joined}
@@ -14,7 +14,7 @@ use Rattle.scope.specs.Layout.{rowSpan}
 use Rattle.scope.specs.Syntax.{Form, struct, func, Definition, Group, superOf}
 use Rattle.scope.specs.Memory.{flag, orZero, formWords, rowWords, rowsFrom, formCodes}
 use Rattle.scope.proofs.Truths.{none-is-not-some}
-use Rattle.facts_sections.specs.Writing.{Entries, no-entry, an-entry, Counted, count-and-entries, WritesDefinition, a-definition, WritesGroup, several, alone, WritesGroups, no-group, a-group, WritesSection, a-section}
+use Rattle.facts_sections.specs.Writing.{Entries, an-entry, count-and-entries, WritesDefinition, a-definition, WritesGroup, several, alone, WritesGroups, a-group, WritesSection, a-section}
 use Rattle.facts_calls.specs.Asked.{LiesIn, beginsAt, endsAt}
 
 -- a stretch of bytes that begin at `at` is the writing of this definition

@@ -4,7 +4,7 @@
 -- proofs/Holds.antt proves it.
 use Prim.Native.Nat.{ℕ, _≤_}
 use mathlib.Core.Path.{_≡_}
-use mathlib.Core.Logic.{_↔_, _⊎_}
+use mathlib.Core.Logic.{_↔_}
 use mathlib.Core.Bool.{false}
 use mathlib.Core.Option.{some}
 use mathlib.Core.List.{List}
@@ -23,7 +23,8 @@ use Rattle.scope.proofs.Soundness.{Trap, RanSoundly}
 use Rattle.facts_sections.specs.Allowed.{Allowed}
 use Rattle.facts_sections.specs.FirstFault.{Refused}
 use Rattle.facts_runs.specs.Counting.{taken, allocations, hasLoop}
-use Rattle.facts_refusals.specs.Bodies.{BodySaysNo}
+use Rattle.facts_refusals.specs.Sections.{SaysNo}
+use Rattle.facts_refusals.specs.Bodies.{BodySaysNo, BodyPlace}
 use Rattle.facts_calls.specs.Lent.{TableSuffices, TableShort, BodySuffices, BodyShort, RunSuffices, RunShort}
 use Rattle.facts_calls.specs.Meant.{SectionOf, BodyOf, CanRun, RunSaysNo}
 
@@ -35,13 +36,16 @@ module _ {s rows codes rows′ codes′ : List ℕ} {r : Verdict} where
     pub accepted : (n : ℕ) → (r ≡ Verdict.the-variants.Accepted n) ↔ (TableSuffices rows codes × SectionOf s n)
     -- "An accepted section gives its type count and its table, zero beyond."
     pub table : (ds : List Definition) → TableSuffices rows codes → Allowed s ds → (rows′ ≡ filled rows (tableRows ds)) × (codes′ ≡ filled codes (tableCodes ds))
-    -- never no to an allowed section
+    -- Never no to an allowed section: "Demand 2 shuts out the loader that refuses all."
     pub never : (n number place : ℕ) → TableSuffices rows codes → SectionOf s n → ¬ (r ≡ Verdict.the-variants.Refused number place)
-    -- 14 at 0 exactly when a buffer is under its size; 14 nowhere else
+    -- "14: a lent buffer under its one size; never otherwise": at 0 exactly when one is short, and nowhere else
     pub short : (r ≡ Verdict.the-variants.Refused bufferTooSmall 0) ↔ TableShort rows codes
     pub only : (place : ℕ) → r ≡ Verdict.the-variants.Refused bufferTooSmall place → TableShort rows codes × (place ≡ 0)
     -- any other no exactly when the bytes, or the rules' first fault, say it
     pub refused : (number place : ℕ) → TableSuffices rows codes → (r ≡ Verdict.the-variants.Refused number place) ↔ Refused s number place
+    -- "A section's byte faults (1 to 5)": where nothing is written, at a byte or at the input's length; 4 and 6 to 13 at the number
+    -- of one of its types
+    pub places : (number place : ℕ) → TableSuffices rows codes → r ≡ Verdict.the-variants.Refused number place → SaysNo s number place
     -- "Every refusal zeroes all memory lent for writing."
     pub wipes : (number place : ℕ) → r ≡ Verdict.the-variants.Refused number place → (rows′ ≡ wiped rows) × (codes′ ≡ wiped codes)
 
@@ -52,11 +56,15 @@ module _ {section s : List ℕ} {x : ℕ} {rows codes work rows′ codes′ work
     -- yes exactly when the buffers suffice, the section is allowed, the type is a function's, and a derivation of n instructions
     -- exists
     pub accepted : (n : ℕ) → (r ≡ Verdict.the-variants.Accepted n) ↔ (BodySuffices rows codes work × BodyOf section s x n)
+    -- never no to an allowed body
     pub never : (n number place : ℕ) → BodySuffices rows codes work → BodyOf section s x n → ¬ (r ≡ Verdict.the-variants.Refused number place)
+    -- 14 at 0 exactly when a buffer is under its size, and nowhere else
     pub short : (r ≡ Verdict.the-variants.Refused bufferTooSmall 0) ↔ BodyShort rows codes work
     pub only : (place : ℕ) → r ≡ Verdict.the-variants.Refused bufferTooSmall place → BodyShort rows codes work × (place ≡ 0)
     -- the first fault in document 01's order
     pub refused : (number place : ℕ) → BodySuffices rows codes work → (r ≡ Verdict.the-variants.Refused number place) ↔ BodySaysNo section s x number place
+    -- "Places are byte offsets. An instruction's place is its first byte."
+    pub places : (number place : ℕ) → BodySuffices rows codes work → r ≡ Verdict.the-variants.Refused number place → BodyPlace section s x number place
     -- "An accepted body leaves scratch zero. Every refusal zeroes all memory lent for writing."
     pub wipes : (rows′ ≡ wiped rows) × (codes′ ≡ wiped codes) × (work′ ≡ wiped work)
 
@@ -86,9 +94,12 @@ module _ {section s : List ℕ} {x budget : ℕ} {m m′ : RunMemory} {r : Ran} 
         → getElem? (m′ .state .counts) 1 ≡ some (allocations (programOf b) (taken (programOf b) budget (startOf b)))
     -- "A body without loop stops within as many steps as it has instructions": done, or at a trap
     pub loopless : (b : Body) → RunSuffices m → CanRun section s x budget b → hasLoop (b .code) ≡ false → instructions b ≤ budget → Stops (instructions b) r
+    -- never no to a body that can be run
     pub never : (b : Body) (number place : ℕ) → RunSuffices m → CanRun section s x budget b → ¬ (r ≡ Ran.the-variants.Refused number place)
+    -- 14 at 0 exactly when a buffer is under its size, and nowhere else
     pub short : (r ≡ Ran.the-variants.Refused bufferTooSmall 0) ↔ RunShort m
     pub only : (place : ℕ) → r ≡ Ran.the-variants.Refused bufferTooSmall place → RunShort m × (place ≡ 0)
+    -- "A run: these, then budget, then parameters."
     pub refused : (number place : ℕ) → RunSuffices m → (r ≡ Ran.the-variants.Refused number place) ↔ RunSaysNo section s x budget number place
     -- "Every refusal zeroes all memory lent for writing"; the four scratch buffers are zero after every answer
     pub wipes : (number place : ℕ) → r ≡ Ran.the-variants.Refused number place → Wiped (m .state) (m′ .state)

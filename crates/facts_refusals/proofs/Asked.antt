@@ -1,25 +1,25 @@
 -- The tests of an instruction before its operands are the questions of specs/Instructions.antt, one for one and in the same
 -- order: each test passes exactly when its question is answered with yes.
 use Prim.Native.Nat.{ℕ}
-use mathlib.Core.Path.{_≡_, refl, sym, _∙_, ap}
+use mathlib.Core.Path.{_≡_, sym, _∙_, ap}
 use mathlib.Core.Bool.{true}
 use mathlib.Core.Option.{Option, none, some}
-use mathlib.Core.List.{List, [], _∷_, _++_, map}
-use lib.ListN.{getElem?, getD}
+use mathlib.Core.List.{List, [], _∷_, _++_}
+use lib.ListN.{getElem?}
 use lib.Dec.{ltb}
-use Rattle.scope.specs.Lists.{every, isNone}
-use Rattle.scope.specs.Syntax.{Heap, Val, nullable, Field, Form, struct, func, Types}
+use Rattle.scope.specs.Lists.{every}
+use Rattle.scope.specs.Syntax.{Heap, Val, nullable, Field, Form, struct, Types}
 use Rattle.scope.specs.TypeRules.{heapNames}
 use Rattle.scope.specs.Order.{valBelow}
 use Rattle.scope.specs.Instructions.{Cast, Op, unreachable, nop, return, drop-value, br, br-if, local-get, local-set, local-tee, i32-const, ref-null, ref-is-null, ref-eq, ref-as-non-null, struct-new, struct-new-default, struct-get, struct-set, ref-test, ref-cast, br-on-cast, br-on-cast-fail, struct-new-desc, struct-new-default-desc, ref-get-desc, ref-cast-desc-eq, br-on-cast-desc-eq, br-on-cast-desc-eq-fail}
-use Rattle.scope.specs.BodyRules.{Context, Scope, Wanted, value, Ruled, Plan, fieldsOf, holdsOf, hasDefault, descriptorFor, lastOf, sourceOf, targetOf, restOf, reached, labelled, localOf, structOf, fieldOf, undescribed, described, castDescriptor, changeable, branches, defaulted, alreadySet, castReached, planOf}
+use Rattle.scope.specs.BodyRules.{Context, Scope, Wanted, value, Ruled, fieldsOf, holdsOf, hasDefault, descriptorFor, lastOf, sourceOf, targetOf, restOf, reached, labelled, localOf, structOf, fieldOf, undescribed, described, castDescriptor, changeable, branches, defaulted, alreadySet, castReached, planOf}
 use Rattle.scope.proofs.Truths.{none-is-not-some}
 use Rattle.scope.proofs.Order.{tested-value-order}
 use Rattle.facts_sections.specs.FirstFault.{Rule}
 use Rattle.facts_sections.specs.TypeRelations.{IsStruct, a-struct}
 use Rattle.facts_bodies.specs.Premises.{Each, of-none, of-first, HeapReached, Default}
 use Rattle.facts_bodies.proofs.Premises.{same-some, allBelow, every-append, append-every, tested-number-reached, number-reached-tested, tested-heap-reached, heap-reached-tested, tested-defaults, defaults-tested, tested-set, set-tested, has-fields, has-none, tested-cast-takes, cast-takes-tested, found-last, last-found, Ordered}
-use Rattle.facts_refusals.specs.Instructions.{Question, heapsReached, typeReached, labelThere, localThere, isStruct, hasField, noDescriptor, hasDescriptor, castDescribed, fieldMutable, targetMatches, labelHasTypes, labelTakes, allDefaults, localSet, Present, present, HasField, has-field, Named, named, CastDescribed, cast-described, FieldMutable, field-mutable, LabelHasTypes, label-has-types, LabelTakes, label-takes, AllDefaults, all-defaults, ruleOf, castAsks, askedRules}
+use Rattle.facts_refusals.specs.Instructions.{heapsReached, typeReached, labelThere, localThere, isStruct, hasField, noDescriptor, hasDescriptor, castDescribed, fieldMutable, targetMatches, labelHasTypes, labelTakes, allDefaults, localSet, Present, present, HasField, has-field, Named, named, CastDescribed, cast-described, FieldMutable, field-mutable, LabelHasTypes, label-has-types, LabelTakes, label-takes, AllDefaults, all-defaults, ruleOf, askedRules}
 use Rattle.facts_refusals.proofs.Judged.{Judges, nothing-asked, judges-test, judges-need}
 
 -- what is there is not missing

@@ -2,11 +2,11 @@
 -- passed, and each case makes the verdict say just that.
 use Prim.Native.Nat.{ℕ, zero, suc, _+_, _≤_, _<_}
 use native.Mathlib.Omega.{arith}
-use mathlib.Core.Path.{_≡_, refl, sym, _∙_, ap, subst}
+use mathlib.Core.Path.{_≡_, refl, sym, _∙_, ap}
 use mathlib.Core.Logic.{_↔_}
 use mathlib.Core.Bool.{Bool, true, false, cond, false≢true}
 use mathlib.Core.Option.{Option, none, some}
-use mathlib.Core.List.{List, [], _∷_, _++_}
+use mathlib.Core.List.{List, _++_}
 use lib.ListN.{length, replicate}
 use lib.Dec.{ltb, leb, eqb}
 use borrow.Author.Tests.{eqb-true, eq-eqb, ltb-true, ltb-false, lt-ltb, le-ltb, leb-true, leb-false, le-leb}
@@ -24,11 +24,11 @@ use Rattle.scope.proofs.Impossible.{contradiction}
 use Rattle.scope.proofs.Truths.{none-is-not-some}
 use Rattle.scope.proofs.Accepted.{accepted-passes}
 use Rattle.facts_bodies.specs.Premises.{ValReached}
-use Rattle.facts_bodies.specs.Typing.{Entry, Locals, EntriesAt, InstrsAt, FunctionType, TypedBody}
+use Rattle.facts_bodies.specs.Typing.{InstrsAt, FunctionType, TypedBody}
 use Rattle.facts_bodies.proofs.Premises.{Ordered, passes-ordered, allBelow, tested-value-reached, value-reached-tested}
-use Rattle.facts_bodies.proofs.Bytes.{LocalsRead, got-locals, locals-got, instructionsOf, Walked, got-walked, typed-got}
+use Rattle.facts_bodies.proofs.Bytes.{got-locals, locals-got, got-walked, typed-got}
 use Rattle.facts_bodies.proofs.Verdict.{found-function, function-found}
-use Rattle.facts_refusals.specs.Bodies.{FirstFaulty, EntryFault, count-bytes, type-bytes, type-unreached, too-many, FaultyEntry, this-entry, later-entry, Begins, LocalsStand, BodySaysNo, by-section, by-size, by-type, by-count, by-locals, by-instruction, by-rest}
+use Rattle.facts_refusals.specs.Bodies.{FirstFaulty, count-bytes, type-bytes, type-unreached, too-many, FaultyEntry, this-entry, later-entry, Begins, LocalsStand, BodySaysNo, by-section, by-size, by-type, by-count, by-locals, by-instruction, by-rest}
 use Rattle.facts_refusals.proofs.Faulty.{refused-one, as-refused, got-is-not-refused, refused-faulty, faulty-refused}
 
 -- locals

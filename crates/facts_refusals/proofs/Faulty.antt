@@ -4,28 +4,28 @@
 use Prim.Native.Nat.{ℕ, zero, suc, _+_, _≤_}
 use native.Mathlib.Omega.{arith}
 use mathlib.Core.Path.{_≡_, refl, sym, _∙_, ap, subst}
-use mathlib.Core.Logic.{_↔_, _⊎_, inl, inr}
-use mathlib.Core.Bool.{Bool, true, false, cond, false≢true}
-use mathlib.Core.Option.{Option, none, some}
-use mathlib.Core.List.{List, [], _∷_, _++_, map}
+use mathlib.Core.Logic.{_↔_}
+use mathlib.Core.Bool.{Bool, true, false}
+use mathlib.Core.Option.{none}
+use mathlib.Core.List.{List, [], _∷_, map}
 use lib.ListN.{length, getElem?}
-use lib.Dec.{ltb, leb}
+use lib.Dec.{leb}
 use borrow.Author.Tests.{ltb-true, lt-ltb, leb-true, le-leb}
 use Rattle.scope.specs.Sizes.{mostOperands}
 use Rattle.scope.specs.Refusals.{bytesEnd, badOperand, oversize, valuesLeft}
-use Rattle.scope.specs.Reading.{Read, got, refused, then, given}
+use Rattle.scope.specs.Reading.{Read, got, refused, then}
 use Rattle.scope.specs.Lists.{joined}
 use Rattle.scope.specs.Syntax.{Val, Types}
 use Rattle.scope.specs.TypeRules.{valNames}
 use Rattle.scope.specs.Instructions.{Op, Instr, block, loop, end, op, instrAt}
 use Rattle.scope.specs.BodyRules.{Context, Wanted, Plan, Ruled, allowed, fault, test, andRuled, fromTop, reached, planOf}
-use Rattle.scope.specs.Bodies.{Operand, unknown, fits, Taken, alsoTaken, takeAll, put, Frame, ofBlock, ofLoop, State, scopeOf, operandsIn, marked, Next, goesOn, finished, withinOperands, afterPlan, doPlan, entered, noneLeft, ending, judgeBlockEnd, judgeEnd, judgeInstr, Code, onRuled, onNext, judgeFrom}
+use Rattle.scope.specs.Bodies.{Operand, unknown, fits, Taken, alsoTaken, takeAll, put, Frame, ofBlock, ofLoop, State, scopeOf, operandsIn, Next, goesOn, finished, afterPlan, doPlan, entered, noneLeft, judgeEnd, judgeInstr, Code, onRuled, onNext, judgeFrom}
 use Rattle.scope.proofs.Impossible.{contradiction}
 use Rattle.scope.proofs.Forward.{never-back}
 use Rattle.scope.proofs.ForwardBodies.{instr-takes}
 use Rattle.facts_sections.specs.FirstFault as rules
-use Rattle.facts_sections.specs.FirstFault.{AllKept, all-kept, kept-and, FirstBroken, broken, kept-then}
-use Rattle.facts_bodies.specs.Premises.{Each, ValReached, Takes, Puts}
+use Rattle.facts_sections.specs.FirstFault.{all-kept, kept-and, FirstBroken, broken, kept-then}
+use Rattle.facts_bodies.specs.Premises.{Takes, Puts}
 use Rattle.facts_bodies.specs.Rules.{Rule}
 use Rattle.facts_bodies.specs.Typing.{passed, stopped, pastBlock, Roomy, Results, TypedInstr, InstrsAt, no-instr, next-instr}
 use Rattle.facts_bodies.proofs.Ruled.{fault-is-not-allowed, same-allowed}
@@ -34,9 +34,8 @@ use Rattle.facts_bodies.proofs.Planned.{planned-rule}
 use Rattle.facts_bodies.proofs.Derived.{derived-plan}
 use Rattle.facts_bodies.proofs.Stack.{allowed-takes, takes-allowed, rule-puts, puts-put}
 use Rattle.facts_bodies.proofs.Steps.{few-roomy, roomy-few, allowed-typed, typed-allowed}
-use Rattle.facts_refusals.specs.Instructions.{askedRules}
-use Rattle.facts_refusals.specs.Bodies.{CanTake, can-take, OperandsThere, operands-there, Operands, Room, resultsOf, RoomPast, past-body, past-block, past-loop, openRules, endRules, conditions, TypedUpTo, none-yet, then-next, FaultAt, in-bytes, in-instruction, FirstFaulty}
-use Rattle.facts_refusals.proofs.Judged.{Judges, says-yes, says-no, nothing-asked, judges-test, judges-and, fault-first, first-fault, fault-exactly}
+use Rattle.facts_refusals.specs.Bodies.{CanTake, can-take, OperandsThere, operands-there, Operands, Room, resultsOf, RoomPast, past-body, past-block, past-loop, openRules, conditions, TypedUpTo, none-yet, then-next, FaultAt, in-bytes, in-instruction, FirstFaulty}
+use Rattle.facts_refusals.proofs.Judged.{Judges, says-yes, says-no, nothing-asked, judges-test, judges-and, fault-exactly}
 use Rattle.facts_refusals.proofs.Asked.{plan-asked}
 
 -- what is not taken is 20

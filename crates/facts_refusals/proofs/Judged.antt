@@ -1,7 +1,7 @@
 -- A verdict and a list of rules say the same: allowed, and all rules are kept; or a fault, and its number is that of the
 -- first rule that is broken. Each way of putting verdicts together keeps it, one rule for each test.
 use Prim.Native.Nat.{ℕ}
-use mathlib.Core.Path.{_≡_, refl, sym, _∙_}
+use mathlib.Core.Path.{_≡_, refl}
 use mathlib.Core.Logic.{_↔_}
 use mathlib.Core.Bool.{Bool, true, false, false≢true}
 use mathlib.Core.Option.{Option, none, some}

@@ -1,9 +1,8 @@
 -- The numbers and places of a body's refusals: each case of `BodySaysNo` has its own; readers refuse with byte faults inside
 -- the input or at its length, and an instruction's fault stands at the first byte of an instruction.
-use Prim.Native.Nat.{ℕ, _≤_, _<_}
+use Prim.Native.Nat.{ℕ, _≤_}
 use native.Mathlib.Omega.{arith}
 use mathlib.Core.Path.{_≡_, refl}
-use mathlib.Core.Logic.{_↔_}
 use mathlib.Core.Bool.{true}
 use mathlib.Core.List.{List, [], _∷_, _++_, map}
 use lib.ListN.{length}
@@ -12,21 +11,19 @@ use Rattle.scope.specs.Reading.{Read, got, refused}
 use Rattle.scope.specs.Numbers.{u32}
 use Rattle.scope.specs.Syntax.{Val, Definition}
 use Rattle.scope.specs.Sections.{valAt}
-use Rattle.scope.specs.Instructions.{Op, Instr, block, loop, end, op, unreachable, nop, return, drop-value, br, br-if, local-get, local-set, local-tee, i32-const, ref-null, ref-is-null, ref-eq, ref-as-non-null, struct-new, struct-new-default, struct-get, struct-set, ref-test, ref-cast, br-on-cast, br-on-cast-fail, struct-new-desc, struct-new-default-desc, ref-get-desc, ref-cast-desc-eq, br-on-cast-desc-eq, br-on-cast-desc-eq-fail, instrAt}
-use Rattle.scope.specs.BodyRules.{Context, Scope, fault}
-use Rattle.scope.specs.Bodies.{State, scopeOf, Function, judgeInstr, judgeBody}
-use Rattle.scope.specs.Judging.{rejected}
+use Rattle.scope.specs.Instructions.{Op, Instr, block, loop, end, op, unreachable, nop, return, drop-value, br, br-if, local-get, local-set, local-tee, i32-const, ref-null, ref-is-null, ref-eq, ref-as-non-null, struct-new, struct-new-default, struct-get, struct-set, ref-test, ref-cast, br-on-cast, br-on-cast-fail, struct-new-desc, struct-new-default-desc, ref-get-desc, ref-cast-desc-eq, br-on-cast-desc-eq, br-on-cast-desc-eq-fail}
+use Rattle.scope.specs.BodyRules.{Context, Scope}
+use Rattle.scope.specs.Bodies.{State, scopeOf, Function}
 use Rattle.scope.proofs.Computes.{computes}
-use Rattle.scope.proofs.Forward.{Takes, never-back, unsigned-takes, val-takes}
+use Rattle.scope.proofs.Forward.{never-back, unsigned-takes, val-takes}
 use Rattle.scope.proofs.ForwardBodies.{instr-takes}
 use Rattle.facts_sections.specs.FirstFault as rules
 use Rattle.facts_sections.specs.FirstFault.{FirstBroken, broken, kept-then}
 use Rattle.facts_bodies.specs.Typing.{Entry, EntriesAt, no-entry, next-entry, InstrsAt, no-instr, next-instr}
-use Rattle.facts_bodies.proofs.Premises as premises
-use Rattle.facts_refusals.specs.Numbers.{ByteFault, is-left-over, InstructionFault, type-out-of-reach, is-absent, is-bad-struct, is-field-fixed, is-bad-branch, is-no-default, is-not-set, is-bad-operand, is-values-left, is-too-many, EntryNumber, entry-out-of-reach, entry-too-many}
+use Rattle.facts_refusals.specs.Numbers.{is-left-over, InstructionFault, type-out-of-reach, is-absent, is-bad-struct, is-field-fixed, is-bad-branch, is-no-default, is-not-set, is-bad-operand, is-values-left, is-too-many, entry-out-of-reach, entry-too-many}
 use Rattle.facts_refusals.specs.Instructions.{Question, heapsReached, typeReached, labelThere, localThere, isStruct, hasField, noDescriptor, hasDescriptor, castDescribed, fieldMutable, targetMatches, labelHasTypes, labelTakes, allDefaults, localSet, numberOf, ruleOf, asks, rising}
-use Rattle.facts_refusals.specs.Bodies.{conditions, FaultAt, in-bytes, in-instruction, FirstFaulty, EntryFault, count-bytes, type-bytes, type-unreached, too-many, FaultyEntry, this-entry, later-entry, LocalsStand, BodySaysNo, by-section, by-size, by-type, by-count, by-locals, by-instruction, by-rest, Ordered, BodyPlace, of-section, of-whole-size, of-type-number, of-bytes, of-entry, of-instruction, BodyRefusals}
-use Rattle.facts_refusals.proofs.Reading.{Heeds, refuses, goes-on, Heedful, unsigned-heeds, val-heeds, instr-heeds}
+use Rattle.facts_refusals.specs.Bodies.{conditions, FaultAt, in-bytes, in-instruction, EntryFault, count-bytes, type-bytes, type-unreached, too-many, FaultyEntry, this-entry, later-entry, LocalsStand, BodySaysNo, by-section, by-size, by-type, by-count, by-locals, by-instruction, by-rest, BodyPlace, of-section, of-whole-size, of-type-number, of-bytes, of-entry, of-instruction, BodyRefusals}
+use Rattle.facts_refusals.proofs.Reading.{Heeds, unsigned-heeds, val-heeds, instr-heeds}
 use Rattle.facts_refusals.proofs.Sections.{heeded, says-no}
 use Rattle.facts_refusals.proofs.Faulty.{instruction-fault}
 use Rattle.facts_refusals.proofs.Bodies.{body-no, body-no-exactly}

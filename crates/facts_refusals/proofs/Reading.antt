@@ -3,7 +3,6 @@
 -- keeps it; a reader that begins inside the input or at its length ends there too.
 use Prim.Native.Nat.{ℕ, zero, suc, _+_, _-_, _≤_, _<_}
 use native.Mathlib.Omega.{arith}
-use native.Mathlib.Nat.{le-refl}
 use mathlib.Core.Path.{_≡_, refl}
 use mathlib.Core.Bool.{Bool, true, false, cond}
 use mathlib.Core.Option.{Option, none, some}
@@ -13,9 +12,9 @@ use lib.Dec.{ltb, eqb}
 use Rattle.scope.specs.Sizes.{mostBytes, mostEach, mostTypes}
 use Rattle.scope.specs.Refusals.{bytesEnd}
 use Rattle.scope.specs.Reading.{Read, got, refused, Reader, given, then, onByte, entries}
-use Rattle.scope.specs.Numbers.{Bits, bits, cut, long, bitsAt, greatestLength, inRange, Whole, plus, minus, signed-of, withinSigned, unsigned, signed, u32, s32, bits32}
+use Rattle.scope.specs.Numbers.{Bits, inRange, Whole, plus, minus, unsigned, signed, u32}
 use Rattle.scope.specs.Abstract.{abstractOf}
-use Rattle.scope.specs.Syntax.{Val, ref, Definition, Group}
+use Rattle.scope.specs.Syntax.{Val, ref}
 use Rattle.scope.specs.Sections.{typeNumber, heapAt, numberOf, valAt, flagAt, fieldAt, fewAt, supersAt, headAt, Head, clauseAt, describesCode, descriptorCode, formAt, definitionAt, groupAt, groupsAt, ended, readSection}
 use Rattle.scope.specs.Instructions.{Op, Instr, bare, having, havingTwo, blockTypeAt, castAt, opening, closing, firstBytes, afterFB, find, instrAt}
 use Rattle.scope.proofs.Forward.{byte-inside, BitsEnd, cuts, longs, stand, bits-end}

@@ -3,19 +3,15 @@
 -- rules' first fault has the number that its rule bears.
 use Prim.Native.Nat.{ℕ, _≤_, _<_}
 use mathlib.Core.Path.{_≡_, refl, sym, _∙_}
-use mathlib.Core.Logic.{_↔_}
 use mathlib.Core.List.{List, [], _∷_}
 use lib.ListN.{length}
 use Rattle.scope.specs.Refusals.{bytesEnd, clauseNotOnStruct}
-use Rattle.scope.specs.Lists.{joined}
 use Rattle.scope.specs.Reading.{Read, got, refused}
-use Rattle.scope.specs.Syntax.{Group, Types, typesOf}
+use Rattle.scope.specs.Syntax.{Group, Types}
 use Rattle.scope.specs.Sections.{readSection}
 use Rattle.scope.specs.Judging.{rejected, judgeSection}
 use Rattle.scope.proofs.Impossible.{contradiction}
 use Rattle.scope.proofs.Computes.{computes}
-use Rattle.facts_sections.specs.WithinSizes.{WithinSizes}
-use Rattle.facts_sections.specs.Writing.{WritesSection}
 use Rattle.facts_sections.specs.FirstFault.{FirstBroken, broken, kept-then, linkRules, typeRules, FirstFault, in-links, in-rules, Refused, by-bytes, by-rules}
 use Rattle.facts_sections.proofs.SectionReading.{section-found, section-read}
 use Rattle.facts_sections.proofs.FaultOrder.{refused-exactly}

@@ -1,6 +1,6 @@
 -- The numbers of a refusal, by what was judged: the rows of document 01's table "When the loader says no".
 use Prim.Native.Nat.{ℕ}
-use Rattle.scope.specs.Refusals.{bytesEnd, badNumber, notListed, oversize, leftOver, outOfReach, badSupertype, noMatch, clauseNotOnStruct, describesNotEarlier, clausesDisagree, badDescriptor, badDescribes, badOperand, absent, notSet, badStruct, fieldFixed, badBranch, notAFunction, valuesLeft, noDefault}
+use Rattle.scope.specs.Refusals.{bytesEnd, badNumber, notListed, oversize, leftOver, outOfReach, badSupertype, noMatch, clauseNotOnStruct, describesNotEarlier, clausesDisagree, badDescriptor, badDescribes, badOperand, absent, notSet, badStruct, fieldFixed, badBranch, valuesLeft, noDefault}
 
 -- "byte faults (1 to 5)"
 pub data ByteFault : ℕ → Type 0 where

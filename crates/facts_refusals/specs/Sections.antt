@@ -7,7 +7,7 @@ use mathlib.Core.List.{List}
 use lib.ListN.{length}
 use Rattle.scope.specs.Lists.{joined}
 use Rattle.scope.specs.Reading.{refused}
-use Rattle.scope.specs.Syntax.{Definition, Group, typesOf}
+use Rattle.scope.specs.Syntax.{Group, typesOf}
 use Rattle.scope.specs.Sections.{readSection}
 use Rattle.scope.specs.Judging.{rejected, judgeSection}
 use Rattle.facts_sections.specs.WithinSizes.{WithinSizes}

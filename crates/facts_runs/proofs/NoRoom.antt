@@ -1,25 +1,23 @@
 -- Trap 45, both ways. Only `make` says 45, and it does exactly when the test of room fails; every other way of putting an
 -- outcome together says another trap or none. So an instruction that traps with 45 is an allocation that came to its room.
-use Prim.Native.Nat.{ℕ, zero, suc, _+_, _≤_, _<_}
+use Prim.Native.Nat.{ℕ, zero, suc, _+_}
 use native.Mathlib.Omega.{arith}
 use mathlib.Core.Path.{_≡_, refl, sym, _∙_, ap}
-use mathlib.Core.Logic.{_↔_, _⊎_, inl, inr}
 use mathlib.Core.Bool.{Bool, true, false, cond, _&&_, false≢true}
 use mathlib.Core.Option.{Option, none, some}
-use mathlib.Core.List.{List, [], _∷_, _++_, map, reverse}
+use mathlib.Core.List.{List, [], _∷_, _++_, reverse}
 use lib.ListN.{length, replicate, length-reverse, getElem?}
 use lib.Dec.{eqb, ltb, leb}
-use borrow.Author.Tests.{ltb-true, ltb-false, lt-ltb, leb-true, leb-false, le-leb}
+use borrow.Author.Tests.{ltb-true, ltb-false, leb-true, leb-false}
 use Rattle.scope.specs.Sizes.{mostObjects, mostCells}
 use Rattle.scope.specs.Refusals.{trapUnreachable, trapNull, trapNullDescriptor, trapCast, trapNoRoom}
 use Rattle.scope.specs.Reading.{given}
-use Rattle.scope.specs.Lists.{sum}
-use Rattle.scope.specs.Syntax.{Heap, Number, i32, i64, f32, f64, Val, Field, Form, struct, func, Types}
+use Rattle.scope.specs.Syntax.{Heap, i32, i64, f32, f64, Val, Field, Form, struct, func, Types}
 use Rattle.scope.specs.BodyRules.{fieldsOf, holdsOf}
 use Rattle.scope.specs.Instructions.{Op, unreachable, nop, return, drop-value, br, br-if, local-get, local-set, local-tee, i32-const, ref-null, ref-is-null, ref-eq, ref-as-non-null, struct-new, struct-new-default, struct-get, struct-set, ref-test, ref-cast, br-on-cast, br-on-cast-fail, struct-new-desc, struct-new-default-desc, ref-get-desc, ref-cast-desc-eq, br-on-cast-desc-eq, br-on-cast-desc-eq-fail}
-use Rattle.scope.specs.Machine.{Value, number, null, object, Object, Store, Block, openBlock, openLoop, Machine, Program, Outcome, goes, ends, traps, stuck, withOperands, withHeap, onI32, onReference, onObject, onTaken, truth, splitTop, cellsOf, hasRoom, make, makeGiven, defaultsOf, defaultOf, makeDefault, onDescriptor, castPasses, descriptorCastPasses, onSet, finish, jump, branch, doOp}
+use Rattle.scope.specs.Machine.{Value, number, null, object, Object, Store, Block, openBlock, openLoop, Machine, Program, Outcome, goes, ends, traps, stuck, withOperands, withHeap, onI32, onReference, onObject, onTaken, truth, splitTop, cellsOf, hasRoom, make, makeGiven, defaultsOf, defaultOf, makeDefault, onDescriptor, castPasses, descriptorCastPasses, onSet, finish, jump, doOp}
 use Rattle.scope.proofs.Impossible.{contradiction}
-use Rattle.scope.proofs.Truths.{none-is-not-some, from-both, both, decided}
+use Rattle.scope.proofs.Truths.{none-is-not-some, from-both}
 use Rattle.facts_runs.specs.Counting.{makesObject}
 use Rattle.facts_runs.specs.NoRoom.{Cells, no-cells, more-cells, NoRoom, all-objects, too-few-cells, ComesToRoom, of-new, of-default, of-new-desc, of-default-desc, TrapsNoRoom, FortyFive}
 

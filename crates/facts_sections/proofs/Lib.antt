@@ -13,6 +13,7 @@ pub mod DefinitionReading
 pub mod SectionReading
 pub mod Verdict
 pub mod Exactly
+pub mod Witness
 pub mod FaultOrder
 pub mod UnequalForms
 pub mod FirstFaults

@@ -2,16 +2,16 @@
 -- rule 6.
 use Prim.Native.Nat.{ℕ, zero, suc, _≤_}
 use native.Mathlib.Omega.{arith}
-use mathlib.Core.Path.{_≡_, refl, sym, ap}
+use mathlib.Core.Path.{_≡_, refl}
 use mathlib.Core.Logic.{_↔_, _⊎_, inl, inr}
 use mathlib.Core.Bool.{Bool, true, false, false≢true}
 use mathlib.Core.Option.{Option, none, some}
-use mathlib.Core.List.{List, [], _∷_}
+use mathlib.Core.List.{List}
 use borrow.Author.Tests.{eqb-true, eq-eqb}
 use Rattle.scope.specs.Sizes.{mostSteps}
 use Rattle.scope.specs.Reading.{given}
 use Rattle.scope.specs.Abstract.{Abstract, sameAbstract}
-use Rattle.scope.specs.Syntax.{Heap, abstract, defined, exact, Number, i32, i64, f32, f64, Val, num, ref, Field, Form, struct, func, Definition, Types, typesOf, superOf}
+use Rattle.scope.specs.Syntax.{Heap, abstract, defined, exact, Val, num, ref, Field, Form, struct, func, Definition, Types, typesOf, superOf}
 use Rattle.scope.specs.Order.{sameType, kindOf, bottomOf, climbs, heapBelow, numberCode, valBelow}
 use Rattle.scope.specs.TypeRules.{fieldMatches, formMatches, matchesSuper}
 use Rattle.scope.proofs.Truths.{both, from-both, from-either, either-first, either-second}

@@ -2,9 +2,8 @@
 -- type's own form and at its chain. In a table that keeps rule 2 this is the order of rule 6 (proofs/OwnForms.antt); in one that
 -- does not, a type's supertype may have another form, and then transitivity is what gives way (proofs/UnequalForms.antt).
 use Prim.Native.Nat.{ℕ, _≤_}
-use mathlib.Core.Path.{_≡_}
 use mathlib.Core.Bool.{Bool, true, false}
-use mathlib.Core.List.{List, []}
+use mathlib.Core.List.{List}
 use Rattle.scope.specs.Sizes.{mostSteps}
 use Rattle.scope.specs.Abstract.{Abstract, NONE, NOFUNC, STRUCT, FUNC}
 use Rattle.scope.specs.Syntax.{Heap, abstract, defined, exact, Number, Val, num, ref, Field, Form, struct, func, Types}
