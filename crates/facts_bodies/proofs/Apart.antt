@@ -1,21 +1,22 @@
 -- The checker's functions are equal to the relations of specs/Apart.antt: each function's value stands in its relation, and it
 -- is the only one that does.
-use Prim.Native.Nat.{ℕ, _+_}
-use mathlib.Core.Path.{_≡_, refl, sym, _∙_, subst}
+use Prim.Native.Nat.{ℕ, zero, suc, _+_}
+use mathlib.Core.Path.{_≡_, refl, sym, _∙_, ap, subst}
 use mathlib.Core.Bool.{Bool, true, false, not, _&&_}
+use mathlib.Core.Option.{Option, none, some}
 use mathlib.Core.List.{List, [], _∷_, _++_, map, reverse, reverseAux}
-use lib.ListN.{length}
+use lib.ListN.{length, set}
 use Rattle.scope.specs.Lists.{sum}
 use Rattle.scope.specs.Abstract.{Abstract, NOFUNC, NOEXTERN, NONE, FUNC, EXTERN, ANY, EQ, I31, STRUCT, ARRAY, row}
 use Rattle.scope.specs.Syntax.{Heap, abstract, defined, exact, Val, num, ref, nullable, Types}
 use Rattle.scope.specs.Order.{kindOf, HeapOrder, heaps, abstractBelow, heapBelow, valBelow}
 use Rattle.scope.specs.Instructions.{Cast}
 use Rattle.scope.specs.BodyRules.{Context, Scope, Wanted, value, fromTop, hasDefault, topOf, restOf}
-use Rattle.scope.specs.Bodies.{Operand, known, onTop, Frame, ofBlock, ofLoop, labelOf, outerOf, State, scopeOf, operandsIn, Function, startState}
+use Rattle.scope.specs.Bodies.{Operand, known, onTop, Frame, ofBlock, ofLoop, labelOf, outerOf, State, scopeOf, operandsIn, marked, Function, startState}
 use Rattle.scope.proofs.TenRows.{row-kept, pair-kept}
 use Rattle.scope.proofs.Order.{tested-order}
 use Rattle.facts_bodies.specs.Premises.{Default, zero-default, null-default}
-use Rattle.facts_bodies.specs.Apart.{IsTop, any-is-top, func-is-top, extern-is-top, TopOf, top-of, Rest, rest-is-source, rest-not-null, Labels, own-label, block-label, loop-label, Sees, sees, SetAtFirst, none-set, parameter-set, default-set, default-missing, Starts, starts, Around, around-none, around-block, around-loop, AllOperands, all-operands, Wants, wants-none, wants-last, Lie, none-lie, last-lies}
+use Rattle.facts_bodies.specs.Apart.{IsTop, any-is-top, func-is-top, extern-is-top, TopOf, top-of, Rest, rest-is-source, rest-not-null, Labels, own-label, block-label, loop-label, Sees, sees, SetAtFirst, none-set, parameter-set, default-set, default-missing, Starts, starts, Around, around-none, around-block, around-loop, AllOperands, all-operands, Wants, wants-none, wants-last, Lie, none-lie, last-lies, Marks, marks-none, marks-this, marks-later, marks-nothing}
 use Rattle.facts_bodies.proofs.Premises.{Ordered}
 
 -- a hierarchy's top
@@ -198,3 +199,20 @@ values-lie vs = subst (λ (us : List Val). Lie us (onTop vs)) (reverse-twice vs)
 pub only-lie : {vs : List Val} {os : List Operand} → Lie vs os → onTop vs ≡ os
 only-lie none-lie = refl
 only-lie (last-lies {vs = vs} {v = v} more) = rw (reverse-last vs v, only-lie more)
+
+-- locals that are set
+
+set-stands : (bs : List Bool) (n : ℕ) → Marks (some n) bs (set bs n true)
+set-stands [] n = marks-nothing
+set-stands (b ∷ bs) zero = marks-this
+set-stands (b ∷ bs) (suc n) = marks-later (set-stands bs n)
+
+pub mark-stands : (o : Option ℕ) (bs : List Bool) → Marks o bs (marked o bs)
+mark-stands none bs = marks-none
+mark-stands (some n) bs = set-stands bs n
+
+pub only-mark : {o : Option ℕ} {bs more : List Bool} → Marks o bs more → marked o bs ≡ more
+only-mark marks-none = refl
+only-mark marks-this = refl
+only-mark (marks-later {b = b} m) = ap (λ (cs : List Bool). b ∷ cs) (only-mark m)
+only-mark marks-nothing = refl

@@ -1,9 +1,10 @@
 -- What the checker says by functions, said here by relations of its own, so that a mistake in a function does not stand on both
 -- sides: a hierarchy's top, a cast's source, target and rest, what a label takes, what is set at first, how many operands
--- there are, and how a list of values lies on the stack. proofs/Apart.antt proves each function equal to its relation.
-use Prim.Native.Nat.{ℕ, _+_}
+-- there are, how a list of values lies on the stack, and which local an instruction sets. proofs/Apart.antt proves each function equal to its relation.
+use Prim.Native.Nat.{ℕ, suc, _+_}
 use mathlib.Core.Path.{_≡_}
 use mathlib.Core.Bool.{Bool, true, false}
+use mathlib.Core.Option.{Option, none, some}
 use mathlib.Core.List.{List, [], _∷_, _++_}
 use lib.ListN.{length}
 use Rattle.scope.specs.Abstract.{Abstract, ANY, FUNC, EXTERN}
@@ -80,3 +81,10 @@ pub data Wants : List Val → List Wanted → Type 0 where
 pub data Lie : List Val → List Operand → Type 0 where
   none-lie : Lie [] []
   last-lies : {vs : List Val} {v : Val} {os : List Operand} → Lie vs os → Lie (vs ++ v ∷ []) (known v ∷ os)
+
+-- local.set and local.tee set that local and no other
+pub data Marks : Option ℕ → List Bool → List Bool → Type 0 where
+  marks-none : {bs : List Bool} → Marks none bs bs
+  marks-this : {b : Bool} {bs : List Bool} → Marks (some 0) (b ∷ bs) (true ∷ bs)
+  marks-later : {n : ℕ} {b : Bool} {bs more : List Bool} → Marks (some n) bs more → Marks (some (suc n)) (b ∷ bs) (b ∷ more)
+  marks-nothing : {n : ℕ} → Marks (some n) [] []
