@@ -1,4 +1,4 @@
-//! Medians of many samples, the library's and the plain checker's in turn.
+//! The least of many samples, the library's and the plain checker's in turn: other work on the machine only adds to a time.
 
 use crate::inputs::{Input, Size};
 use chelbugan::calls::{self, Ended};
@@ -136,8 +136,8 @@ pub fn measure(input: Input) -> Row {
         kind: input.kind,
         size: input.size,
         amount: input.amount(),
-        library: median(samples.0),
-        plain: median(samples.1),
+        library: least(samples.0),
+        plain: least(samples.1),
     }
 }
 
@@ -148,7 +148,7 @@ pub fn library_alone(input: &Input) -> String {
         let _ = black_box(lent.judge(black_box(input)));
     };
     let calls = calls_for(&mut library);
-    let least = (0..SAMPLES / 2).map(|_| sample(&mut library, calls)).fold(f64::INFINITY, f64::min);
+    let least = least((0..SAMPLES / 2).map(|_| sample(&mut library, calls)).collect());
     format!("{}, {}\t{:.2}", input.kind, input.size, least / 1000.0)
 }
 
@@ -195,7 +195,6 @@ fn sample(call: &mut impl FnMut(), calls: usize) -> f64 {
     started.elapsed().as_nanos() as f64 / calls as f64
 }
 
-fn median(mut samples: Vec<f64>) -> f64 {
-    samples.sort_by(f64::total_cmp);
-    samples[samples.len() / 2]
+fn least(samples: Vec<f64>) -> f64 {
+    samples.into_iter().fold(f64::INFINITY, f64::min)
 }
