@@ -15,6 +15,10 @@ COUNT := 1000000
 PREFIX := /usr/local
 DESTDIR :=
 
+# cargo's build scripts run in another folder.
+ifneq ($(CHELBUGAN_LIB_DIR),)
+export CHELBUGAN_LIB_DIR := $(abspath $(CHELBUGAN_LIB_DIR))
+endif
 ARCHIVE := $(if $(CHELBUGAN_LIB_DIR),$(CHELBUGAN_LIB_DIR),build)/libchelbugan.a
 HEADER := include/chelbugan.h
 VERSION := $(shell sed -n 's/^.define CHELBUGAN_VERSION_TEXT "\(.*\)"/\1/p' $(HEADER))

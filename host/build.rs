@@ -23,7 +23,10 @@ fn main() {
 fn archive_there(folder: PathBuf) -> PathBuf {
     let archive = folder.join(ARCHIVE);
     if !archive.is_file() {
-        fail(&format!("{LIB_DIR} is {}, and there is no {ARCHIVE} in it", folder.display()));
+        let name = folder.display();
+        fail(&format!(
+            "{LIB_DIR} is {name}, and there is no {ARCHIVE} in it (write the whole path)"
+        ));
     }
     watch(&archive);
     folder.canonicalize().unwrap_or(folder)

@@ -148,3 +148,29 @@ impl Trap {
 }
 
 impl Error for Trap {}
+
+#[cfg(test)]
+mod tests {
+    use super::*;
+
+    #[test]
+    fn a_refusal_says_itself_in_words() {
+        let refusal = Refusal { number: 11, place: 1 };
+        assert_eq!(refusal.reason(), Some(Reason::ClausesDisagree));
+        let error: Box<dyn Error> = refusal.into();
+        assert_eq!(error.to_string(), "refusal 11 at 1: clauses disagree");
+        let absent = Refusal { number: 26, place: 7 };
+        assert_eq!(absent.reason(), None);
+        assert_eq!(absent.to_string(), "refusal 26 at 7, a number that is not known");
+        assert_eq!(
+            Refusal::unknown(9).to_string(),
+            "an answer that is not known (9), taken as a no"
+        );
+    }
+
+    #[test]
+    fn traps_have_their_numbers() {
+        assert_eq!(Trap::of_number(43), Some(Trap::NullDescriptor));
+        assert_eq!([40, 46].map(Trap::of_number), [None, None]);
+    }
+}

@@ -95,6 +95,47 @@ fn the_host_in_c() {
     held_to_the_page(&folder.join("host"));
 }
 
+/// What `make install` puts below a folder is all that a host in C needs, by the words of its pkg-config file.
+#[test]
+fn the_host_in_c_with_what_is_installed() {
+    let (below, folder) = (folder("installed"), folder("c_installed"));
+    let archive = Path::new(env!("CHELBUGAN_ARCHIVE")).parent().expect("its folder");
+    let made = Command::new("make")
+        .args(["--silent", "install", "PREFIX=/opt/some"])
+        .arg(format!("DESTDIR={}", below.display()))
+        .arg(format!("CHELBUGAN_LIB_DIR={}", archive.display()))
+        .current_dir(root())
+        .output()
+        .expect("make");
+    assert!(made.status.success(), "{}", String::from_utf8_lossy(&made.stderr));
+    let prefix = below.join("opt/some");
+    let words = std::fs::read_to_string(prefix.join("lib/pkgconfig/chelbugan.pc")).expect("it");
+    assert!(words.contains("\nVersion: 1.0.0\n"), "{words}");
+    let flags = |name: &str| {
+        let line = words.lines().find_map(|line| line.strip_prefix(name)).expect("the flags");
+        let line = line
+            .replace("${libdir}", "${prefix}/lib")
+            .replace("${includedir}", "${prefix}/include");
+        let words = line
+            .split_whitespace()
+            .map(|word| word.replace("${prefix}", &prefix.display().to_string()));
+        words.collect::<Vec<_>>()
+    };
+    assert!(
+        words.starts_with("prefix=/opt/some\nlibdir=${prefix}/lib\nincludedir=${prefix}/include\n")
+    );
+    std::fs::write(folder.join("host.c"), block("c")).expect("the host's source");
+    let compiled = Command::new("cc")
+        .args(flags("Cflags:"))
+        .arg(folder.join("host.c"))
+        .args(flags("Libs:"))
+        .arg("-o")
+        .arg(folder.join("host"))
+        .status();
+    assert!(compiled.expect("a C compiler").success());
+    held_to_the_page(&folder.join("host"));
+}
+
 #[test]
 fn the_host_in_rust() {
     let beside = folder("rust");
