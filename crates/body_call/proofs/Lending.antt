@@ -24,7 +24,8 @@ use Rattle.section_reader.proofs.Modest.{Each, no-more, one-more, Few, few-fiel
 use Rattle.body_state.proofs.Alike.{both-false}
 use Rattle.section_call.proofs.Asking.{verdict-refused, verdict-accepted, call-accepted, viewed}
 use Rattle.body_judge.specs.Typed.{Fresh, Sized, typedOn, sizedOn, SizedJudged}
-use Rattle.body_call.specs.Calling.{LentJudged, EnoughJudged, Cleared}
+use Rattle.body_clear.specs.Clearing.{Cleared}
+use Rattle.body_call.specs.Calling.{LentJudged, EnoughJudged}
 
 -- the sizes of an accepted section
 

@@ -2,7 +2,6 @@
 use Prim.Native.Nat.{ℕ}
 use mathlib.Core.Path.{_≡_}
 use mathlib.Core.List.{List}
-use lib.ListN.{length, replicate}
 use Rattle.scope.specs.Bodies.{instructions, judgeBody}
 use Rattle.scope.specs.Answers.{tableLent, lentEnough, verdictOf, bodyCall}
 use Rattle.scope.specs.declared.Verdict.{Verdict}
@@ -14,8 +13,3 @@ pub record LentJudged (section s : List ℕ) (x : ℕ) (rows codes : List ℕ) (
 -- and where the scratch has its size too
 pub record EnoughJudged (section s : List ℕ) (x : ℕ) (rows codes work : List ℕ) (r : Verdict) : Type 0 where
   pub answer : r ≡ verdictOf instructions (bodyCall section s x rows codes work)
-
-pub record Cleared (rows codes work rows′ codes′ work′ : List ℕ) : Type 0 where
-  pub rowsZero : rows′ ≡ replicate (length rows) 0
-  pub codesZero : codes′ ≡ replicate (length codes) 0
-  pub workZero : work′ ≡ replicate (length work) 0

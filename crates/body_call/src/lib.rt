@@ -5,7 +5,7 @@ use scope::refusals;
 use scope::sizes;
 ghost use Rattle.scope.specs.Answers.{BodyJudged};
 ghost use Rattle.body_judge.specs.Typed.{Fresh};
-ghost use Rattle.body_call.specs.Calling.{LentJudged, EnoughJudged, Cleared};
+ghost use Rattle.body_call.specs.Calling.{LentJudged, EnoughJudged};
 
 // The section first, with its own refusals.
 fn judge_lent(
@@ -51,15 +51,6 @@ fn judge_enough(
     judge_lent(section, s, number, rows, codes, work)
 }
 
-// Zero in every word that was lent.
-fn clear(rows: &mut [u16], codes: &mut [u16], used: &mut [u32])
-    ensures { λ r. ⌜ Cleared (now (rows .entry)) (now (codes .entry)) (now (used .entry)) (now (rows .exit)) (now (codes .exit)) (now (used .exit)) ⌝ }
-{
-    lent_u16::wipe(rows);
-    lent_u16::wipe(codes);
-    lent_u32::wipe32(used);
-}
-
 // Judges a body against a function type's number: its count of instructions; or the refusal's number and place.
 pub fn judge_body(
     section: &[u8],
@@ -75,6 +66,6 @@ pub fn judge_body(
         (now (rows .exit)) (now (codes .exit)) (now (work .exit)) r ⌝ }
 {
     let verdict = judge_enough(section, body, number, rows, codes, work);
-    clear(rows, codes, work);
+    body_clear::clear(rows, codes, work);
     verdict
 }
