@@ -4,6 +4,16 @@ use cases_text::zero;
 use cases_text::zero32;
 use libc::STDOUT_FILENO;
 use scope::Verdict;
+use scope::sizes::CODES;
+use scope::sizes::ROWS;
+use scope::sizes::WORK;
+
+// the most that can be lent: one element more than a buffer's size
+const MORE_ROWS: usize = ROWS + 1;
+
+const MORE_CODES: usize = CODES + 1;
+
+const MORE_WORK: usize = WORK + 1;
 
 // How many elements of each buffer are lent.
 pub struct Lent {
@@ -92,9 +102,9 @@ fn judged_within(
 
 // Judges one body in fresh memory that holds rubbish, and writes the case's line.
 pub fn judged(name: &[u8], section: &[u8], body: &[u8], number: u64, lent: Lent) {
-    let mut rows = [42405u16; 3073];
-    let mut codes = [42405u16; 32769];
-    let mut work = [2779096485u32; 4097];
+    let mut rows = [42405u16; MORE_ROWS];
+    let mut codes = [42405u16; MORE_CODES];
+    let mut work = [2779096485u32; MORE_WORK];
     judged_within(
         name,
         section,

@@ -12,6 +12,7 @@ use cases_text::decimal;
 use cases_text::find;
 use cases_text::part;
 use cases_text::sign;
+use scope::sizes;
 
 const SECTION: u8 = b':';
 
@@ -92,9 +93,9 @@ pub fn all(text: &[u8], section: &mut [u8], body: &mut [u8]) {
         length: 0,
         number: 0,
         lent: Lent {
-            rows: 3072,
-            codes: 32768,
-            work: 4096,
+            rows: sizes::ROWS as u64,
+            codes: sizes::CODES as u64,
+            work: sizes::WORK as u64,
         },
     };
     let mut from: usize = 0;

@@ -3,10 +3,13 @@
 mod judging;
 mod lines;
 
+// one byte more than a section or a body may have
+const MORE_BYTES: usize = scope::sizes::MOST_BYTES + 1;
+
 fn main() {
     let mut text = [0u8; 131072];
-    let mut section = [0u8; 32770];
-    let mut body = [0u8; 32770];
+    let mut section = [0u8; MORE_BYTES];
+    let mut body = [0u8; MORE_BYTES];
     let count = io::read_full(libc::STDIN_FILENO, &mut text);
     lines::all(&text[..count], &mut section, &mut body);
 }

@@ -5,6 +5,8 @@ use crate::telling::tell_no;
 use crate::telling::tell_number;
 use libc::STDOUT_FILENO;
 use scope::Asked;
+use scope::sizes::CODES;
+use scope::sizes::ROWS;
 
 // Whether two parts of memory hold the same words.
 fn same_words(a: &[u16], b: &[u16]) -> bool {
@@ -23,8 +25,8 @@ fn same_words(a: &[u16], b: &[u16]) -> bool {
 
 // Whether lent memory holds what the section alone leaves in memory of its own.
 fn as_alone(rows: &[u16], codes: &[u16], section: &[u8]) -> bool {
-    let mut rows_alone = [0u16; section_call::ROWS];
-    let mut codes_alone = [0u16; section_call::CODES];
+    let mut rows_alone = [0u16; ROWS];
+    let mut codes_alone = [0u16; CODES];
     section_call::judge_section(section, &mut rows_alone, &mut codes_alone);
     same_words(rows, &rows_alone) & same_words(codes, &codes_alone)
 }

@@ -5,6 +5,8 @@ use crate::telling::tell_no;
 use crate::telling::tell_number;
 use libc::STDOUT_FILENO;
 use scope::Verdict;
+use scope::sizes::MOST_TYPES;
+use scope::sizes::ROW;
 
 // A yes: the words beyond the table are zero. The codes of the last type begin at its row's word 10, and its words 1 and 2
 // count them.
@@ -12,12 +14,12 @@ fn tell_yes(count: u64, rows: &[u16], codes: &[u16]) {
     io::write_all(STDOUT_FILENO, b" yes");
     tell_number(count);
     match count {
-        1..=256 => {
-            let last = 12 * (count - 1);
+        1..=MOST_TYPES => {
+            let last = ROW * (count - 1);
             let first = lent_u16::word(rows, last + 10);
             let taken = lent_u16::word(rows, last + 1);
             let given = lent_u16::word(rows, last + 2);
-            tell_memory(rows, codes, last + 12, first + taken + given);
+            tell_memory(rows, codes, last + ROW, first + taken + given);
         }
         _ => tell_memory(rows, codes, 0, 0),
     }

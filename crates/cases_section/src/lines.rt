@@ -13,17 +13,19 @@ use cases_text::decimal;
 use cases_text::find;
 use cases_text::part;
 use cases_text::sign;
+use scope::sizes::CODES;
+use scope::sizes::ROWS;
 
 const LENT: u8 = b'=';
 
 const QUESTION: u8 = b'?';
 
-const ROWS: u8 = b'r';
+const OF_ROWS: u8 = b'r';
 
 // A line that begins with `=`.
 fn with_lent(old: Lent, line: &[u8]) -> Lent {
     let count = decimal(part(line, 2, line.len()));
-    if sign(line, 1) == ROWS {
+    if sign(line, 1) == OF_ROWS {
         return Lent {
             rows: count,
             codes: old.codes,
@@ -77,8 +79,8 @@ fn read(lent: Lent, whole: &[u8], section: &mut [u8]) -> Lent {
 // Every line of a text. The buffer has room for one byte more than a section may have.
 pub fn all(text: &[u8], section: &mut [u8]) {
     let mut lent = Lent {
-        rows: 3072,
-        codes: 32768,
+        rows: ROWS as u64,
+        codes: CODES as u64,
     };
     let mut from: usize = 0;
     while from < text.len() {

@@ -7,9 +7,12 @@ mod lending;
 mod lines;
 mod telling;
 
+// one byte more than a section may have
+const MORE_BYTES: usize = scope::sizes::MOST_BYTES + 1;
+
 fn main() {
     let mut text = [0u8; 32768];
-    let mut section = [0u8; 32770];
+    let mut section = [0u8; MORE_BYTES];
     let count = io::read_full(libc::STDIN_FILENO, &mut text);
     lines::all(&text[..count], &mut section);
 }
