@@ -4,11 +4,27 @@ mod lines;
 mod telling;
 mod trying;
 
+use scope::sizes;
+
+// one byte more than a section or a body may have
+const MORE_BYTES: usize = sizes::MOST_BYTES + 1;
+
 fn main() {
     let mut text = [0u8; 131072];
-    let mut section = [0u8; 32770];
-    let mut body = [0u8; 32770];
-    let mut sizes = [3072u64, 32768, 4096, 32768, 6, 4096, 8192, 512, 1024, 189];
+    let mut section = [0u8; MORE_BYTES];
+    let mut body = [0u8; MORE_BYTES];
+    let mut sizes = [
+        sizes::ROWS as u64,
+        sizes::CODES as u64,
+        sizes::WORK as u64,
+        sizes::ENDS as u64,
+        sizes::COUNTS as u64,
+        sizes::OBJECTS as u64,
+        sizes::CELLS as u64,
+        sizes::LOCALS as u64,
+        sizes::OPERANDS as u64,
+        sizes::BLOCKS as u64,
+    ];
     let count = io::read_full(libc::STDIN_FILENO, &mut text);
     lines::all(&text[..count], &mut section, &mut body, &mut sizes);
 }

@@ -4,6 +4,12 @@
 // place and no entries.
 use libc::STDOUT_FILENO;
 use scope::Ran;
+use scope::sizes;
+
+// as many as can be lent
+const MORE_OBJECTS: usize = sizes::OBJECTS + 1;
+
+const MORE_BLOCKS: usize = sizes::BLOCKS + 1;
 
 // A space, and a number.
 fn tell_number(n: u64) {
@@ -190,8 +196,8 @@ pub fn tell(
     operands: &[u64],
     blocks: &[u16],
 ) {
-    let mut wide_objects = [0u64; 4097];
-    let mut wide_blocks = [0u64; 190];
+    let mut wide_objects = [0u64; MORE_OBJECTS];
+    let mut wide_blocks = [0u64; MORE_BLOCKS];
     widen(objects, &mut wide_objects);
     widen(blocks, &mut wide_blocks);
     let told = tell_ran(ran);

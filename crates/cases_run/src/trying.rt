@@ -3,7 +3,29 @@ use crate::telling::tell;
 use crate::telling::tell_name;
 use cases_text::zero;
 use cases_text::zero32;
+use scope::sizes;
 ghost use Prim.Native.Nat.{_≤_};
+
+// the most that can be lent: one element more than a buffer's size
+const MORE_ROWS: usize = sizes::ROWS + 1;
+
+const MORE_CODES: usize = sizes::CODES + 1;
+
+const MORE_WORK: usize = sizes::WORK + 1;
+
+const MORE_ENDS: usize = sizes::ENDS + 1;
+
+const MORE_COUNTS: usize = sizes::COUNTS + 1;
+
+const MORE_OBJECTS: usize = sizes::OBJECTS + 1;
+
+const MORE_CELLS: usize = sizes::CELLS + 1;
+
+const MORE_LOCALS: usize = sizes::LOCALS + 1;
+
+const MORE_OPERANDS: usize = sizes::OPERANDS + 1;
+
+const MORE_BLOCKS: usize = sizes::BLOCKS + 1;
 
 // A size, at most what there is.
 fn size(sizes: &[u64], which: usize, most: usize) -> usize
@@ -68,26 +90,26 @@ fn tried_in(
 
 // Each buffer has room for one element more than its size; so many elements as the sizes say are lent.
 pub fn tried(name: &[u8], section: &[u8], body: &[u8], number: u64, budget: u64, sizes: &[u64]) {
-    let mut rows = [42405u16; 3073];
-    let mut codes = [42405u16; 32769];
-    let mut work = [2779096485u32; 4097];
-    let mut ends = [42405u16; 32769];
-    let mut counts = [11936128518282651045u64; 7];
-    let mut objects = [42405u16; 4097];
-    let mut cells = [11936128518282651045u64; 8193];
-    let mut locals = [11936128518282651045u64; 513];
-    let mut operands = [11936128518282651045u64; 1025];
-    let mut blocks = [42405u16; 190];
-    let r = size(sizes, 0, 3073);
-    let c = size(sizes, 1, 32769);
-    let w = size(sizes, 2, 4097);
-    let e = size(sizes, 3, 32769);
-    let n = size(sizes, 4, 7);
-    let o = size(sizes, 5, 4097);
-    let f = size(sizes, 6, 8193);
-    let l = size(sizes, 7, 513);
-    let s = size(sizes, 8, 1025);
-    let b = size(sizes, 9, 190);
+    let mut rows = [42405u16; MORE_ROWS];
+    let mut codes = [42405u16; MORE_CODES];
+    let mut work = [2779096485u32; MORE_WORK];
+    let mut ends = [42405u16; MORE_ENDS];
+    let mut counts = [11936128518282651045u64; MORE_COUNTS];
+    let mut objects = [42405u16; MORE_OBJECTS];
+    let mut cells = [11936128518282651045u64; MORE_CELLS];
+    let mut locals = [11936128518282651045u64; MORE_LOCALS];
+    let mut operands = [11936128518282651045u64; MORE_OPERANDS];
+    let mut blocks = [42405u16; MORE_BLOCKS];
+    let r = size(sizes, 0, MORE_ROWS);
+    let c = size(sizes, 1, MORE_CODES);
+    let w = size(sizes, 2, MORE_WORK);
+    let e = size(sizes, 3, MORE_ENDS);
+    let n = size(sizes, 4, MORE_COUNTS);
+    let o = size(sizes, 5, MORE_OBJECTS);
+    let f = size(sizes, 6, MORE_CELLS);
+    let l = size(sizes, 7, MORE_LOCALS);
+    let s = size(sizes, 8, MORE_OPERANDS);
+    let b = size(sizes, 9, MORE_BLOCKS);
     tried_in(
         name,
         section,
