@@ -14,6 +14,7 @@ use borrow.Author.Tests.{eqb-true}
 use Rattle.scope.specs.Reading.{Read, got, refused, Reader, given, then, onByte, entries}
 use Rattle.scope.specs.Numbers.{Bits, bits, cut, long, under, bitsAt, inRange, Whole, plus, minus, unsigned, signed, u32, s33}
 use Rattle.scope.specs.Sizes.{mostEach, mostTypes}
+use Rattle.scope.specs.Refusals.{bytesEnd}
 use Rattle.scope.specs.Abstract.{abstractOf}
 use Rattle.scope.specs.Syntax.{Definition, ref}
 use Rattle.scope.specs.Sections.{typeNumber, heapAt, numberOf, valAt, flagAt, fieldAt, fewAt, supersAt, headAt, Head, clauseAt, describesCode, descriptorCode, formAt, definitionAt, groupAt, groupsAt, ended, readSection}
@@ -57,7 +58,7 @@ byte-inside (x ∷ xs) (suc at) e = let h : at < length xs = byte-inside xs at e
 pub ends-byte : {A : Type 0} {lo : ℕ} (s : List ℕ) (at : ℕ) (f : ℕ → Read A) → ((b : ℕ) → at < length s → Ends lo (length s) (f b)) → Ends lo (length s) (onByte s at f)
 ends-byte {A} {lo} s at f k = go (getElem? s at) refl
   where
-    go : (o : Option ℕ) → getElem? s at ≡ o → Ends lo (length s) (given o (refused 1 at) f)
+    go : (o : Option ℕ) → getElem? s at ≡ o → Ends lo (length s) (given o (refused bytesEnd at) f)
     go none e = stops
     go (some b) e = k b (byte-inside s at e)
 

@@ -7,6 +7,7 @@ use mathlib.Core.Bool.{Bool, true}
 use mathlib.Core.List.{List, [], _∷_, _++_, map}
 use lib.ListN.{replicate}
 use lib.Dec.{eqb}
+use Rattle.scope.specs.Sizes.{mostEach}
 use Rattle.scope.specs.Lists.{every, pairwise, joined}
 use Rattle.scope.specs.Judging.{Judged, accepted, rejected}
 use Rattle.scope.specs.Machine.{Machine}
@@ -53,7 +54,7 @@ types =
     ++ (0x50 ∷ 0x01 ∷ 0x02 ∷ 0x4C ∷ 0x04 ∷ 0x5F ∷ 0x00 ∷ [])
     ++ (0x60 ∷ 0x00 ∷ 0x01 ∷ 0x7F ∷ [])
     ++ (0x5F ∷ 0x40 ∷ [])
-    ++ joined (replicate 64 (0x7F ∷ 0x00 ∷ []))
+    ++ joined (replicate mostEach (0x7F ∷ 0x00 ∷ []))
 
 -- instructions, as bytes
 
