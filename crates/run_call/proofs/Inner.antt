@@ -1,15 +1,14 @@
 -- Each way out of the run: the state that the steps leave, the locals at their start, and what was prepared.
 use Prim.Native.Nat.{ℕ, _*_, _≤_}
-use mathlib.Core.Path.{_≡_, refl, sym, ap, _∙_}
+use mathlib.Core.Path.{_≡_, sym, ap, _∙_}
 use mathlib.Core.List.{List}
 use native.Mathlib.Omega.{arith}
 use lib.ListN.{length}
 use Rattle.scope.specs.declared.Ran.{Ran}
 use Rattle.scope.specs.declared.Ran
-use Rattle.scope.specs.Layout.{blockSpan, localsSize}
-use Rattle.scope.specs.Judging.{Judged, rejected}
+use Rattle.scope.specs.Layout.{blockSpan}
+use Rattle.scope.specs.Judging.{rejected}
 use Rattle.scope.specs.Running as running
-use Rattle.scope.specs.Running.{Trial}
 use Rattle.scope.specs.Memory.{StateWords, stateWords, filled}
 use Rattle.scope.specs.Answers.{machineOf, ranAs}
 use Rattle.run_stack.specs.Pile.{LocalRoom, Started}
@@ -24,8 +23,8 @@ use Rattle.run_ending.specs.Telling.{tellOf}
 use Rattle.run_ending.proofs.Endings.{told-ending, told-machine}
 use Rattle.run_prepare.specs.declared.Prepared.{Prepared}
 use Rattle.run_prepare.specs.declared.Prepared
-use Rattle.run_prepare.specs.Preparing.{Readied, Prepares}
-use Rattle.run_call.specs.Trial.{StateRoom, Zeroed, Tried, Startable, runHere, RunStarted, Placed, RunPlaced, Waiting, RunPrepared}
+use Rattle.run_prepare.specs.Preparing.{Readied}
+use Rattle.run_call.specs.Trial.{Startable, runHere, RunStarted, Placed, RunPlaced, Waiting, RunPrepared}
 use Rattle.run_call.proofs.Startable.{trial-is, runnable}
 use Rattle.run_call.proofs.Outer.{filled-long, refused-tried}
 

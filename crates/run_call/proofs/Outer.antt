@@ -4,7 +4,7 @@ use Prim.Native.Nat.{ℕ, _-_}
 use mathlib.Core.Path.{_≡_, refl, sym, ap, _∙_}
 use mathlib.Core.Bool.{Bool, true, _&&_}
 use mathlib.Core.List.{List, _++_}
-use lib.ListN.{length, replicate, length-replicate}
+use lib.ListN.{length, replicate}
 use borrow.Author.Tests.{leb-true}
 use Rattle.scope.specs.declared.Ran.{Ran}
 use Rattle.scope.specs.declared.Ran
@@ -19,15 +19,10 @@ use Rattle.run_limits.specs.Limits.{scratchLent}
 use Rattle.run_ending.specs.Wiping.{ScratchCleared}
 use Rattle.run_prepare.specs.declared.Prepared.{Prepared}
 use Rattle.run_prepare.specs.Preparing.{PreparedFor}
+use Rattle.run_prepare.proofs.Ways.{wiped-long, wiped-zero}
 use Rattle.run_call.specs.Trial.{StateRoom, Zeroed, Tried, Waiting, RunPrepared}
 
 -- lent buffers
-
-wiped-long : (m : List ℕ) {m₁ : List ℕ} → m₁ ≡ wiped m → length m₁ ≡ length m
-wiped-long m e = rw e (length-replicate (length m) 0)
-
-wiped-zero : (m : List ℕ) {m₁ : List ℕ} → m₁ ≡ wiped m → m₁ ≡ wiped m₁
-wiped-zero m e = e ∙ ap (λ (n : ℕ). replicate n 0) (sym (wiped-long m e))
 
 -- a buffer that is filled looks only at its length
 pub filled-long : (m m′ ws : List ℕ) → length m′ ≡ length m → filled m′ ws ≡ filled m ws

@@ -10,7 +10,7 @@ use Rattle.scope.specs.Bodies.{Body}
 use Rattle.scope.specs.Running as running
 use Rattle.scope.specs.Running.{run, trialOf, Trial}
 use Rattle.scope.specs.Memory.{StateWords, stateWords, wiped}
-use Rattle.scope.specs.Answers.{lentAfter, RunMemory, runCall, machineOf, ranAs, ranOf}
+use Rattle.scope.specs.Answers.{lentAfter, machineOf, ranAs, ranOf}
 use Rattle.scope.specs.Layout.{countsSize, objectsSize, cellsSize, localsSize, operandsSize, blocksSize}
 use Rattle.run_ends.specs.Matching.{EndsOf}
 use Rattle.run_state.specs.Machines.{Words, words, machineAt, programAt, startStage}

@@ -1,6 +1,6 @@
 -- Each way out of the preparation. What was accepted is not refused when it is read again; a refusal is the verdict's own, and
 -- where none is left all that the run reads is at hand.
-use Prim.Native.Nat.{ℕ, _^_, _≤_, _<_}
+use Prim.Native.Nat.{ℕ, _^_, _<_}
 use mathlib.Core.Path.{_≡_, refl, sym, ap, _∙_}
 use mathlib.Core.Bool.{Bool, true, false, not, and-false, false≢true}
 use mathlib.Core.List.{List}
@@ -10,18 +10,18 @@ use lib.Dec.{ltb}
 use borrow.Author.Tests.{not-true, not-false, leb-true, le-leb}
 use Rattle.scope.specs.Sizes.{mostBudget}
 use Rattle.scope.specs.Layout.{workSize, endsSize}
-use Rattle.scope.specs.Refusals.{bytesEnd, oversize, bufferTooSmall, noDefault}
+use Rattle.scope.specs.Refusals.{oversize, bufferTooSmall, noDefault}
 use Rattle.scope.specs.Lists.{every}
 use Rattle.scope.specs.BodyRules.{hasDefault}
 use Rattle.scope.specs.Judging.{Judged, accepted, rejected}
 use Rattle.scope.specs.Bodies.{Body, instructions, judgeBody}
-use Rattle.scope.specs.Running.{trialOf, withParameters, trialRun}
+use Rattle.scope.specs.Running.{withParameters, trialRun}
 use Rattle.scope.specs.Memory.{wiped}
 use Rattle.scope.specs.Answers.{tableLent, verdictOf, SectionJudged, bodyCall, BodyJudged}
 use Rattle.scope.specs.declared.Verdict.{Verdict}
 use Rattle.scope.specs.declared.Verdict
 use Rattle.scope.proofs.Truths.{from-both}
-use Rattle.scope.proofs.Impossible.{impossible, contradiction}
+use Rattle.scope.proofs.Impossible.{impossible}
 use Rattle.type_table.specs.declared.Shape.{Shape}
 use Rattle.type_table.specs.declared.Shape
 use Rattle.type_table.specs.Answers.{shapeForm}
@@ -33,7 +33,7 @@ use Rattle.run_ends.specs.Matching.{Fillable, Filled}
 use Rattle.run_limits.specs.Limits.{scratchLent}
 use Rattle.run_prepare.specs.declared.Prepared.{Prepared}
 use Rattle.run_prepare.specs.declared.Prepared
-use Rattle.run_prepare.specs.Preparing.{Placing, Readied, ZeroScratch, Shaping, Shaped, BodyRead, Typing, Typed, TypeRead, Allowed, SectionRead, ScratchRoom, RunJudged, PreparedFor}
+use Rattle.run_prepare.specs.Preparing.{ZeroScratch, Shaping, Shaped, BodyRead, Typing, Typed, TypeRead, Allowed, SectionRead, ScratchRoom, RunJudged, PreparedFor}
 use Rattle.run_prepare.proofs.Bodily.{parts}
 use Rattle.run_prepare.proofs.Again.{section-unrefused, section-again, count-fits, shape-not-struct, shape-again, may-start-again, start-unrefused, start-again, may-fill-again, ends-told, ends-again}
 
@@ -168,11 +168,15 @@ body-accepted : (j : Judged Body) {v : Verdict} {k : ℕ} → v ≡ verdictOf in
 body-accepted (accepted b) e f = (b, refl)
 body-accepted (rejected n p) e f = impossible cc
 
-wiped-long : (m : List ℕ) {m₁ : List ℕ} → m₁ ≡ wiped m → length m₁ ≡ length m
+-- a buffer that was zeroed
+
+pub wiped-long : (m : List ℕ) {m₁ : List ℕ} → m₁ ≡ wiped m → length m₁ ≡ length m
 wiped-long m e = rw e (length-replicate (length m) 0)
 
-wiped-zero : (m : List ℕ) {m₁ : List ℕ} → m₁ ≡ wiped m → m₁ ≡ wiped m₁
+pub wiped-zero : (m : List ℕ) {m₁ : List ℕ} → m₁ ≡ wiped m → m₁ ≡ wiped m₁
 wiped-zero m e = e ∙ ap (λ (n : ℕ). replicate n 0) (sym (wiped-long m e))
+
+-- the body, and then the budget
 
 module _ {rows codes work ends : List ℕ} (lent : ScratchRoom rows codes work ends) {section s : List ℕ} {x : ℕ}
     {rows₁ codes₁ work₁ : List ℕ} {v : Verdict} (a : BodyJudged section s x rows codes work rows₁ codes₁ work₁ v) where
