@@ -37,8 +37,6 @@ fn all_inputs() -> impl Iterator<Item = Input> {
 
 fn write_the_page() -> io::Result<()> {
     let docs = Path::new(env!("CARGO_MANIFEST_DIR")).join("../docs");
-    let measured =
-        |inputs: Vec<Input>| -> Vec<Row> { inputs.into_iter().map(measure::measure).collect() };
     let sections = measured(inputs::of_sections());
     let bodies = measured(inputs::of_bodies());
     let runs = measured(inputs::of_runs());
@@ -55,4 +53,12 @@ fn write_the_page() -> io::Result<()> {
     println!("{}\n{}", page::table("Section", &sections), page::table("Body", &bodies));
     print!("{}", page::run_table(&runs));
     Ok(())
+}
+
+fn measured(inputs: Vec<Input>) -> Vec<Row> {
+    let rounds = (0..measure::ROUNDS).map(|_| inputs.iter().map(measure::measure).collect());
+    let least = |one: Vec<Row>, other: Vec<Row>| {
+        one.into_iter().zip(other).map(|(row, again)| row.least(again)).collect()
+    };
+    rounds.reduce(least).unwrap_or_default()
 }

@@ -6,7 +6,10 @@ use plain::refusal::Refusal;
 use std::hint::black_box;
 use std::time::{Duration, Instant};
 
-const SAMPLES: usize = 41;
+/// Rounds over all inputs, so that a while of other work does not fall on all samples of one.
+pub const ROUNDS: usize = 3;
+/// In each round.
+const SAMPLES: usize = 15;
 const SAMPLE_TIME: Duration = Duration::from_millis(3);
 
 /// An input with the nanoseconds that each takes for it.
@@ -31,6 +34,11 @@ impl Row {
 
     pub fn ratio(&self) -> f64 {
         self.library / self.plain
+    }
+
+    /// Of two rounds.
+    pub fn least(self, other: Row) -> Row {
+        Row { library: self.library.min(other.library), plain: self.plain.min(other.plain), ..self }
     }
 }
 
@@ -117,14 +125,14 @@ fn judge_plainly(input: &Input) -> Result<usize, Refusal> {
     }
 }
 
-pub fn measure(input: Input) -> Row {
+pub fn measure(input: &Input) -> Row {
     let mut lent = Lent::new();
-    same_answer(&input, &mut lent);
+    same_answer(input, &mut lent);
     let mut library = || {
-        let _ = black_box(lent.judge(black_box(&input)));
+        let _ = black_box(lent.judge(black_box(input)));
     };
     let mut plain = || {
-        let _ = black_box(judge_plainly(black_box(&input)));
+        let _ = black_box(judge_plainly(black_box(input)));
     };
     let calls = (calls_for(&mut library), calls_for(&mut plain));
     let mut samples = (Vec::new(), Vec::new());
@@ -148,7 +156,7 @@ pub fn library_alone(input: &Input) -> String {
         let _ = black_box(lent.judge(black_box(input)));
     };
     let calls = calls_for(&mut library);
-    let least = least((0..SAMPLES / 2).map(|_| sample(&mut library, calls)).collect());
+    let least = least((0..SAMPLES).map(|_| sample(&mut library, calls)).collect());
     format!("{}, {}\t{:.2}", input.kind, input.size, least / 1000.0)
 }
 

@@ -10,7 +10,7 @@ For whoever asks what the proofs cost in speed. `make bench` measures anew and w
 
 Machine: {machine}.
 
-The proved library and the plain checker of `tests/plain` judge the same inputs, one after the other in turn. A time is the least of 41 samples of 3 ms each (of one call where that takes longer): other work on the machine only adds to it. Buffers are cleared first. The library clears what it is lent in each call, and that is in its time: 71,680 bytes at the start for a section, 88,064 at the start and again at the end for a body; a run's ten buffers are 240,042 bytes. The plain checker allocates its tree and its lists, which is in its time. A ratio below 1 means that the library is the faster one. In the tables lower is better but for steps a second.
+The proved library and the plain checker of `tests/plain` judge the same inputs, one after the other in turn. A time is the least of 45 samples of 3 ms each (of one call where that takes longer), in three rounds: other work on the machine only adds to it. Buffers are cleared first. The library clears what it is lent in each call, and that is in its time: 71,680 bytes at the start for a section, 88,064 at the start and again at the end for a body; a run's ten buffers are 240,042 bytes. The plain checker allocates its tree and its lists, which is in its time. A ratio below 1 means that the library is the faster one. In the tables lower is better but for steps a second.
 
 ## Sections
 
