@@ -7,11 +7,11 @@ use mathlib.Core.Bool.{Bool, true, false, _&&_}
 use mathlib.Core.List.{List, [], _∷_}
 use lib.ListN.{length}
 use Rattle.scope.specs.Bodies.{Body}
-use Rattle.scope.specs.Machine.{Machine, Program, Outcome, goes, ends, traps, stuck, step}
-use Rattle.scope.specs.Running.{onOutcome, run, startOf, programOf}
+use Rattle.scope.specs.Machine.{Machine, Program, OutcomeOf, Outcome, goes, ends, traps, stuck, step}
+use Rattle.scope.specs.Running.{onOutcome, runBy, run, startOf, programOf}
 use Rattle.scope.specs.Answers.{machineOf}
 use Rattle.scope.proofs.Computes.{computes}
-use Rattle.facts_runs.specs.Counting.{stepsOf, stepsFrom, taken, allocates, oneMoreIf, allocations}
+use Rattle.facts_runs.specs.Counting.{stepsOf, stepsFrom, takenBy, taken, allocates, oneMoreIf, allocations}
 use Rattle.facts_runs.specs.Samples.{twoObjects, nullDescriptor, sample}
 use Rattle.facts_runs.proofs.Steps.{Comes, going, ending, trapping, failing, Grown, Stepped, step-does}
 
@@ -24,9 +24,23 @@ none-counted : (new : Bool) (before : ℕ) → before ≡ before + oneMoreIf (ne
 none-counted true before = omega arith
 none-counted false before = omega arith
 
+-- of any machine: those in `takenBy` are as many as the steps
+as-many-taken : {M : Type 0} (next : M → OutcomeOf M) (n k : ℕ) (m : M) → stepsOf (runBy next n k m) ≡ k + length (takenBy next n m)
+unfolding runBy takenBy
+as-many-taken next zero k m = omega arith
+as-many-taken {M} next (suc n) k m = go (next m) (as-many-taken next n (k + 1))
+  where
+    go : (o : OutcomeOf M)
+        → ((later : M) → stepsOf (runBy next n (k + 1) later) ≡ k + 1 + length (takenBy next n later))
+        → stepsOf (onOutcome o k m (λ later. runBy next n (k + 1) later)) ≡ k + length (stepsFrom o m (λ later. takenBy next n later))
+    go (goes later) from = let h = from later in omega arith
+    go (ends later) from = refl
+    go (traps number) from = refl
+    go stuck from = omega arith
+
 module _ (p : Program) where
   pub objects-added : (n k : ℕ) (m : Machine) → length (machineOf (run p n k m) .heap) ≡ length (m .heap) + allocations p (taken p n m)
-  unfolding run taken
+  unfolding run runBy taken takenBy
   objects-added zero k m = omega arith
   objects-added (suc n) k m = go (step p m) refl (step-does p m) (objects-added n (k + 1))
     where
@@ -38,19 +52,9 @@ module _ (p : Program) where
       go (traps number) e trapping from = rw e (none-counted (allocates m) _)
       go stuck e failing from = omega arith
 
-  -- the machines in `taken` are as many as the steps
   pub steps-taken : (n k : ℕ) (m : Machine) → stepsOf (run p n k m) ≡ k + length (taken p n m)
   unfolding run taken
-  steps-taken zero k m = omega arith
-  steps-taken (suc n) k m = go (step p m) (steps-taken n (k + 1))
-    where
-      go : (o : Outcome)
-          → ((later : Machine) → stepsOf (run p n (k + 1) later) ≡ k + 1 + length (taken p n later))
-          → stepsOf (onOutcome o k m (λ later. run p n (k + 1) later)) ≡ k + length (stepsFrom o m (λ later. taken p n later))
-      go (goes later) from = let h = from later in omega arith
-      go (ends later) from = refl
-      go (traps number) from = refl
-      go stuck from = omega arith
+  steps-taken n k m = as-many-taken (step p) n k m
 
   -- "Nothing is freed: the number of objects equals the number of allocation steps that didn't trap."
   pub objects-counted : (n k : ℕ) (m : Machine) → m .heap ≡ [] → length (machineOf (run p n k m) .heap) ≡ allocations p (taken p n m)
@@ -66,9 +70,9 @@ counts b n =
     ∷ []
 
 pub two-made : counts (sample twoObjects) 3 ≡ 2 ∷ 3 ∷ 2 ∷ []
-unfolding computes taken
+unfolding computes taken takenBy
 two-made = refl
 
 pub trap-made-none : counts (sample nullDescriptor) 3 ≡ 0 ∷ 2 ∷ 0 ∷ []
-unfolding computes taken
+unfolding computes taken takenBy
 trap-made-none = refl

@@ -5,44 +5,46 @@ use native.Mathlib.Omega.{arith}
 use native.Mathlib.Nat.{zero-add, suc-add}
 use mathlib.Core.Path.{_≡_, refl, sym, ap}
 use mathlib.Core.Bool.{false, false≢true}
-use Rattle.scope.specs.Machine.{Machine, Program, Outcome, goes, ends, traps, stuck, step}
-use Rattle.scope.specs.Running.{Ending, done, trapped, spent, wrong, onOutcome, run, startOf, programOf}
+use Rattle.scope.specs.Machine.{Machine, Program, OutcomeOf, goes, ends, traps, stuck, step}
+use Rattle.scope.specs.Running.{EndingOf, done, trapped, spent, wrong, onOutcome, runBy, run, startOf, programOf}
 use Rattle.scope.specs.Answers.{machineOf}
 use Rattle.scope.proofs.Computes.{computes}
 use Rattle.facts_runs.specs.Counting.{isSpent, stepsOf, goneOn}
 use Rattle.facts_runs.specs.Samples.{twoObjects, sample}
 
 -- the steps of an ending: all of the limit where it is spent, at most so many where not
-pub data Within (limit : ℕ) : Ending → Type 0 where
-  isDone : {steps : ℕ} {m : Machine} → steps ≤ limit → Within limit (done steps m)
-  isTrapped : {number steps : ℕ} {m : Machine} → steps ≤ limit → Within limit (trapped number steps m)
-  isSpentAll : {steps : ℕ} {m : Machine} → steps ≡ limit → Within limit (spent steps m)
-  isWrong : {steps : ℕ} {m : Machine} → steps ≤ limit → Within limit (wrong steps m)
+pub data Within {M : Type 0} (limit : ℕ) : EndingOf M → Type 0 where
+  isDone : {steps : ℕ} {m : M} → steps ≤ limit → Within limit (done steps m)
+  isTrapped : {number steps : ℕ} {m : M} → steps ≤ limit → Within limit (trapped number steps m)
+  isSpentAll : {steps : ℕ} {m : M} → steps ≡ limit → Within limit (spent steps m)
+  isWrong : {steps : ℕ} {m : M} → steps ≤ limit → Within limit (wrong steps m)
 
-pub within-steps : {limit : ℕ} {r : Ending} → Within limit r → stepsOf r ≤ limit
+pub within-steps : {M : Type 0} {limit : ℕ} {r : EndingOf M} → Within limit r → stepsOf r ≤ limit
 within-steps (isDone h) = h
 within-steps (isTrapped h) = h
 within-steps (isSpentAll e) = omega arith
 within-steps (isWrong h) = h
 
-module _ (p : Program) where
-  pub run-splits : (n j k : ℕ) (m : Machine) → run p (n + j) k m ≡ goneOn (run p n k m) (run p j)
-  unfolding run
-  run-splits zero j k m = rw zero-add
-  run-splits (suc n) j k m = rw suc-add (go (step p m) (run-splits n j (k + 1)))
+-- of any machine and any step
+
+module _ {M : Type 0} (next : M → OutcomeOf M) where
+  by-splits : (n j k : ℕ) (m : M) → runBy next (n + j) k m ≡ goneOn (runBy next n k m) (runBy next j)
+  unfolding runBy
+  by-splits zero j k m = rw zero-add
+  by-splits (suc n) j k m = rw suc-add (go (next m) (by-splits n j (k + 1)))
     where
-      go : (o : Outcome)
-          → ((later : Machine) → run p (n + j) (k + 1) later ≡ goneOn (run p n (k + 1) later) (run p j))
-          → onOutcome o k m (λ later. run p (n + j) (k + 1) later) ≡ goneOn (onOutcome o k m (λ later. run p n (k + 1) later)) (run p j)
+      go : (o : OutcomeOf M)
+          → ((later : M) → runBy next (n + j) (k + 1) later ≡ goneOn (runBy next n (k + 1) later) (runBy next j))
+          → onOutcome o k m (λ later. runBy next (n + j) (k + 1) later) ≡ goneOn (onOutcome o k m (λ later. runBy next n (k + 1) later)) (runBy next j)
       go (goes later) from = from later
       go (ends later) from = refl
       go (traps number) from = refl
       go stuck from = refl
 
-  pub steps-within : (n k : ℕ) (m : Machine) → Within (k + n) (run p n k m)
-  unfolding run
-  steps-within zero k m = let q : k ≡ k + zero = omega arith in isSpentAll q
-  steps-within (suc n) k m = go (step p m) (steps-within n (k + 1))
+  by-within : (n k : ℕ) (m : M) → Within (k + n) (runBy next n k m)
+  unfolding runBy
+  by-within zero k m = let q : k ≡ k + zero = omega arith in isSpentAll q
+  by-within (suc n) k m = go (next m) (by-within n (k + 1))
     where
       one : k + 1 ≤ k + suc n
       one = omega arith
@@ -50,33 +52,46 @@ module _ (p : Program) where
       none : k ≤ k + suc n
       none = omega arith
 
-      go : (o : Outcome)
-          → ((later : Machine) → Within (k + 1 + n) (run p n (k + 1) later))
-          → Within (k + suc n) (onOutcome o k m (λ later. run p n (k + 1) later))
+      go : (o : OutcomeOf M)
+          → ((later : M) → Within (k + 1 + n) (runBy next n (k + 1) later))
+          → Within (k + suc n) (onOutcome o k m (λ later. runBy next n (k + 1) later))
       go (goes later) from = let q : k + suc n ≡ k + 1 + n = omega arith in rw q (from later)
       go (ends later) from = isDone one
       go (traps number) from = isTrapped one
       go stuck from = isWrong none
+
+-- a spent ending has all of the limit's steps
+all-spent : {M : Type 0} {limit steps : ℕ} {after : M} → Within limit (spent steps after) → steps ≡ limit
+all-spent (isSpentAll q) = q
+
+-- more budget changes nothing where none of it is needed
+not-spent : {M : Type 0} (more : ℕ → M → EndingOf M) (r : EndingOf M) → isSpent r ≡ false → goneOn r more ≡ r
+not-spent more (done steps m) e = refl
+not-spent more (trapped number steps m) e = refl
+not-spent more (spent steps m) e = absurd (false≢true (sym e))
+not-spent more (wrong steps m) e = refl
+
+-- of the trial run
+
+module _ (p : Program) where
+  pub run-splits : (n j k : ℕ) (m : Machine) → run p (n + j) k m ≡ goneOn (run p n k m) (run p j)
+  unfolding run
+  run-splits n j k m = by-splits (step p) n j k m
+
+  pub steps-within : (n k : ℕ) (m : Machine) → Within (k + n) (run p n k m)
+  unfolding run
+  steps-within n k m = by-within (step p) n k m
 
   -- The run of n + j steps is the run of j from the state after n.
   pub run-of-sum : (n j k : ℕ) (m : Machine) {steps : ℕ} {after : Machine} → run p n k m ≡ spent steps after → run p (n + j) k m ≡ run p j steps after
   run-of-sum n j k m e = rw (run-splits, e)
 
   pub spent-steps : (n k : ℕ) (m : Machine) {steps : ℕ} {after : Machine} → run p n k m ≡ spent steps after → steps ≡ k + n
-  spent-steps n k m {steps} {after} e = go (rw e at (steps-within n k m))
-    where
-      go : Within (k + n) (spent steps after) → steps ≡ k + n
-      go (isSpentAll q) = q
+  spent-steps n k m e = all-spent (rw e at (steps-within n k m))
 
   -- A larger budget that is not spent changes nothing.
   pub larger-budget : (n j k : ℕ) (m : Machine) → isSpent (run p n k m) ≡ false → run p (n + j) k m ≡ run p n k m
-  larger-budget n j k m e = rw run-splits (go (run p n k m) e)
-    where
-      go : (r : Ending) → isSpent r ≡ false → goneOn r (run p j) ≡ r
-      go (done steps m) e = refl
-      go (trapped number steps m) e = refl
-      go (spent steps m) e = absurd (false≢true (sym e))
-      go (wrong steps m) e = refl
+  larger-budget n j k m e = rw run-splits (not-spent (run p j) (run p n k m) e)
 
 -- An example: the body that makes two objects is done after 3 steps
 

@@ -14,7 +14,7 @@ use Rattle.scope.specs.Judging.{accepted}
 use Rattle.scope.specs.Instructions.{nop, op}
 use Rattle.scope.specs.Bodies.{Body, instructions, judgeBody}
 use Rattle.scope.specs.Machine.{Machine, Program, Outcome, goes, ends, traps, stuck, step}
-use Rattle.scope.specs.Running.{onOutcome, run, startOf, programOf}
+use Rattle.scope.specs.Running.{onOutcome, runBy, run, startOf, programOf}
 use Rattle.scope.proofs.Truths.{decided}
 use Rattle.scope.proofs.Computes.{computes}
 use Rattle.facts_runs.specs.Counting.{isSpent, stepsOf, allocates, hasLoop}
@@ -25,7 +25,7 @@ use Rattle.facts_runs.proofs.Straight.{none-open, Straight, straight-so
 use Rattle.facts_runs.proofs.Steps.{Comes, going, ending, trapping, failing, Grown, Stepped, step-does}
 
 pub straight-stops : (p : Program) (n k : ℕ) (m : Machine) → Straight (m .blocks) (m .code) → length (m .code) ≤ n → isSpent (run p n k m) ≡ false
-unfolding run
+unfolding run runBy
 straight-stops p zero k m s h = absurd (let some = straight-some s in omega arith)
 straight-stops p (suc n) k m s h = go (step p m) (step-does p m) (straight-stops p n (k + 1))
   where

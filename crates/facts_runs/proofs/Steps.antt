@@ -17,7 +17,7 @@ use Rattle.scope.specs.Order.{heapBelow}
 use Rattle.scope.specs.Instructions.{Op, unreachable, nop, return, drop-value, br, br-if, local-get, local-set, local-tee, i32-const, ref-null, ref-is-null, ref-eq, ref-as-non-null, struct-new, struct-new-default, struct-get, struct-set, ref-test, ref-cast, br-on-cast, br-on-cast-fail, struct-new-desc, struct-new-default-desc, ref-get-desc, ref-cast-desc-eq, br-on-cast-desc-eq, br-on-cast-desc-eq-fail, Instr, block, loop, end, op}
 use Rattle.scope.specs.BodyRules.{fieldsOf, holdsOf}
 use Rattle.scope.specs.Bodies.{Code}
-use Rattle.scope.specs.Machine.{Value, number, null, object, Object, Store, Block, openBlock, openLoop, Machine, Program, Outcome, goes, ends, traps, stuck, truth, withControl, onI32, onReference, onObject, onTaken, splitTop, make, hasRoom, defaultsOf, makeGiven, makeDefault, onDescriptor, castPasses, isVery, descriptorCastPasses, finish, jump, branch, doEnd, doOp, doInstr, stepOn, step}
+use Rattle.scope.specs.Machine.{Value, number, null, object, Object, Store, objectOf, withNew, Block, openBlock, openLoop, Machine, Program, Outcome, goes, ends, traps, stuck, truth, withControl, onI32, onReference, onObject, onTaken, splitTop, make, hasRoom, defaultsOf, makeGiven, makeDefault, onDescriptor, castPasses, isVery, descriptorCastPasses, finish, jump, branch, doEnd, doOp, doInstr, stepOn, step}
 use Rattle.facts_runs.specs.Counting.{makesObject, isAllocation, startsWithAllocation, allocates, oneMoreIf}
 use Rattle.facts_runs.proofs.Straight.{Straight, past-no-longer, straight-op, straight-block, straight-no-loop, straight-end, no-loop-open, Seeks, seeks-first, seeks-next, found-block, found-no-loop}
 
@@ -62,12 +62,12 @@ module _ {P Q : Machine → Type 0} where
   on-reference (object o) f = f (some o)
 
   on-object : (os : Store) (trap : ℕ) (v : Value) {f : ℕ → Object → Outcome} → ((o : ℕ) (it : Object) → Comes P Q (f o it)) → Comes P Q (onObject os trap v f)
-  on-object os trap v f = on-reference v (λ r. on-given r trapping (λ o. on-given (getElem? os o) failing (f o)))
+  on-object os trap v f = on-reference v (λ r. on-given r trapping (λ o. on-given (objectOf os o) failing (f o)))
 
   -- a cast, by this test of the object
-  on-tested : (os : Store) (nullToo : Bool) (test : Object → Bool) (v : Value) {f : Bool → Outcome} → ((b : Bool) → Comes P Q (f b)) → Comes P Q (onReference v (λ r. given r (f nullToo) (λ o. given (getElem? os o) stuck (λ it. f (test it)))))
+  on-tested : (os : Store) (nullToo : Bool) (test : Object → Bool) (v : Value) {f : Bool → Outcome} → ((b : Bool) → Comes P Q (f b)) → Comes P Q (onReference v (λ r. given r (f nullToo) (λ o. given (objectOf os o) stuck (λ it. f (test it)))))
   on-tested os nullToo test v f =
-      on-reference v (λ r. on-given r (f nullToo) (λ o. on-given (getElem? os o) failing (λ it. f (test it))))
+      on-reference v (λ r. on-given r (f nullToo) (λ o. on-given (objectOf os o) failing (λ it. f (test it))))
 
   on-passes : (ts : Types) (os : Store) (nullToo : Bool) (h : Heap) (v : Value) {f : Bool → Outcome} → ((b : Bool) → Comes P Q (f b)) → Comes P Q (castPasses ts os nullToo h v f)
   on-passes ts os nullToo h v f = on-tested os nullToo (λ it. heapBelow ts (exact (it .type)) h) v f
@@ -129,7 +129,7 @@ module _ (p : Program) (m : Machine) where
 
   makes : (x : ℕ) (d : Option ℕ) (fields below : List Value) → Does true m (make m x d fields below)
   makes x d fields below =
-      let one : length (m .heap ++ record { type = x; descriptor = d; fields = fields } ∷ []) ≡ suc (length (m .heap)) = rw length-append (omega arith) in
+      let one : length (withNew (m .heap) (record { type = x; descriptor = d; fields = fields })) ≡ suc (length (m .heap)) = rw length-append (omega arith) in
       on-cond (hasRoom (m .heap) (length fields)) (changed one) trapping
 
   makes-given : (x : ℕ) (d : Option ℕ) (vs : List Value) → Does true m (makeGiven p m x d vs)

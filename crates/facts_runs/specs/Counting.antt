@@ -7,18 +7,18 @@ use Rattle.scope.specs.Lists.{someOf}
 use Rattle.scope.specs.Instructions.{Op, unreachable, nop, return, drop-value, br, br-if, local-get, local-set, local-tee, i32-const, ref-null, ref-is-null, ref-eq, ref-as-non-null, struct-new, struct-new-default, struct-get, struct-set, ref-test, ref-cast, br-on-cast, br-on-cast-fail, struct-new-desc, struct-new-default-desc, ref-get-desc, ref-cast-desc-eq, br-on-cast-desc-eq, br-on-cast-desc-eq-fail, Instr, block, loop, end, op}
 use Rattle.scope.specs.Judging.{Judged, accepted, rejected}
 use Rattle.scope.specs.Bodies.{Code}
-use Rattle.scope.specs.Machine.{Machine, Program, Outcome, goes, ends, traps, stuck, step}
-use Rattle.scope.specs.Running.{Ending, done, trapped, spent, wrong, Trial}
+use Rattle.scope.specs.Machine.{Machine, Program, OutcomeOf, Outcome, goes, ends, traps, stuck, step}
+use Rattle.scope.specs.Running.{EndingOf, done, trapped, spent, wrong, Trial}
 
--- endings
+-- endings, of any machine
 
-abbrev pub isSpent : Ending → Bool
+abbrev pub isSpent : {M : Type 0} → EndingOf M → Bool
 isSpent (done steps m) = false
 isSpent (trapped number steps m) = false
 isSpent (spent steps m) = true
 isSpent (wrong steps m) = false
 
-abbrev pub stepsOf : Ending → ℕ
+abbrev pub stepsOf : {M : Type 0} → EndingOf M → ℕ
 stepsOf (done steps m) = steps
 stepsOf (trapped number steps m) = steps
 stepsOf (spent steps m) = steps
@@ -30,7 +30,7 @@ ranOut (accepted t) = isSpent (t .ending)
 ranOut (rejected n p) = false
 
 -- with more budget: a run that is spent goes on from where it stands, any other has ended
-abbrev pub goneOn : Ending → (ℕ → Machine → Ending) → Ending
+abbrev pub goneOn : {M : Type 0} → EndingOf M → (ℕ → M → EndingOf M) → EndingOf M
 goneOn (done steps m) more = done steps m
 goneOn (trapped number steps m) more = trapped number steps m
 goneOn (spent steps m) more = more steps m
@@ -39,16 +39,19 @@ goneOn (wrong steps m) more = wrong steps m
 -- the steps of a run
 
 -- a trapping step is a step; where the machine is stuck there is none
-abbrev pub stepsFrom : Outcome → Machine → (Machine → List Machine) → List Machine
+abbrev pub stepsFrom : {M : Type 0} → OutcomeOf M → M → (M → List M) → List M
 stepsFrom (goes later) m more = m ∷ more later
 stepsFrom (ends later) m more = m ∷ []
 stepsFrom (traps number) m more = m ∷ []
 stepsFrom stuck m more = []
 
 -- the machines at which the steps of a run with this budget were taken, the first one first
+unfoldable pub takenBy : {M : Type 0} → (M → OutcomeOf M) → ℕ → M → List M
+takenBy next zero m = []
+takenBy next (suc left) m = stepsFrom (next m) m (λ later. takenBy next left later)
+
 unfoldable pub taken : Program → ℕ → Machine → List Machine
-taken p zero m = []
-taken p (suc left) m = stepsFrom (step p m) m (λ later. taken p left later)
+taken p left m = takenBy (step p) left m
 
 -- allocation
 

@@ -9,7 +9,7 @@ use mir.Syntax.{w64}
 use mir.Val.{Fits}
 use Rattle.scope.specs.Instructions.{instrAt}
 use Rattle.scope.specs.Machine.{Machine, Program, Outcome, step}
-use Rattle.scope.specs.Running.{run, onOutcome}
+use Rattle.scope.specs.Running.{runBy, run, onOutcome}
 use Rattle.scope.proofs.Soundness.{Reaches, atFirst, oneMore}
 use Rattle.scope.proofs.Impossible.{contradiction}
 use Rattle.body_immediates.specs.declared.Instruction.{Instruction}
@@ -60,7 +60,7 @@ going-first budget may is =
 one-step :
     (p : Program) (budget steps : ℕ) (m : Machine) → steps < budget
     → run p (budget - steps) steps m ≡ onOutcome (step p m) steps m (λ later. run p (budget - (steps + 1)) (steps + 1) later)
-unfolding run
+unfolding run runBy
 one-step p budget steps m h =
     let more : budget - steps ≡ suc (budget - (steps + 1)) = omega arith in
     ap (λ (left : ℕ). run p left steps m) more
@@ -90,7 +90,7 @@ module _ {s rows codes ends′ : List ℕ} {count : ℕ} {w₀ : Words} {results
   some-code e = g .sound .more (g .reaches) e
 
   pub going-spent : budget ≤ steps → RanFrom s rows codes count w₀ (words o c l p b) results first budget (Ending.the-variants.Spent st steps)
-  unfolding endingAt run
+  unfolding endingAt run runBy
   going-spent h =
       let none : budget - steps ≡ 0 = omega arith in
       let rest = g .rest ∙ ap (λ (left : ℕ). run (programAt rows codes results) left steps (machineAt s count (words o c l p b) st)) none in

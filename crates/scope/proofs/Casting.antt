@@ -6,14 +6,13 @@ use mathlib.Core.Path.{_≡_, refl, sym, ap, _∙_, subst}
 use mathlib.Core.Bool.{Bool, true, false, not, _&&_, false≢true}
 use mathlib.Core.Option.{Option, none, some}
 use mathlib.Core.List.{List, [], _∷_, _++_, reverse, reverse-append, Forall₂·cons}
-use lib.ListN.{getElem?}
 use borrow.Author.Tests.{eqb-true, eq-eqb}
 use Rattle.scope.specs.Reading.{given}
 use Rattle.scope.specs.Syntax.{Heap, abstract, defined, exact, Val, ref, Definition, Types, typesOf}
 use Rattle.scope.specs.Order.{heapBelow}
 use Rattle.scope.specs.BodyRules.{descriptorFor, lastOf}
 use Rattle.scope.specs.Bodies.{Operand, Body}
-use Rattle.scope.specs.Machine.{Value, null, object, Object, Store, Outcome, isVery, castPasses, descriptorCastPasses}
+use Rattle.scope.specs.Machine.{Value, null, object, Object, Store, objectOf, Outcome, isVery, castPasses, descriptorCastPasses}
 use Rattle.scope.proofs.Truths.{none-is-not-some}
 use Rattle.scope.proofs.Accepted.{Kept, kept-passes}
 use Rattle.scope.proofs.Chains.{chain-climbs}
@@ -50,10 +49,10 @@ very-one none d e = absurd (false≢true e)
 very-one (some c) d e = ap some (eqb-true c d e)
 
 -- what an object with the descriptor d tells of its type
-own-descriptor : {heap : Store} {y o : Option ℕ} {d : ℕ} {e : Object} → Described heap y o → o ≡ some d → getElem? heap d ≡ some e → y ≡ some (e .type)
+own-descriptor : {heap : Store} {y o : Option ℕ} {d : ℕ} {e : Object} → Described heap y o → o ≡ some d → objectOf heap d ≡ some e → y ≡ some (e .type)
 own-descriptor noDescriptor q at = absurd (none-is-not-some q)
 own-descriptor {heap} {e} (itsDescriptor {y = y} {d = c} {it = it} there is) q at =
-    let same : it ≡ e = some-is-one (sym there ∙ ap (getElem? heap) (some-is-one q) ∙ at) in
+    let same : it ≡ e = some-is-one (sym there ∙ ap (objectOf heap) (some-is-one q) ∙ at) in
     ap some (sym is ∙ ap (λ (a : Object). a .type) same)
 
 given-some : {A B : Type 0} (o : Option A) (f : A → B) {y : B} → given o none (λ x. some (f x)) ≡ some y → (x : A) × (o ≡ some x) × (f x ≡ y)

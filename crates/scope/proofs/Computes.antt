@@ -11,9 +11,9 @@ use Rattle.scope.specs.Instructions.{blockTypeAt, castAt, instrAt}
 use Rattle.scope.specs.BodyRules.{lastOf, planOf}
 use Rattle.scope.specs.Bodies.{fits, takeAll, put, doPlan, judgeEnd, judgeInstr, judgeFrom, localsAt, bodyAt, judgeBody}
 use Rattle.scope.specs.Machine.{splitTop, defaultsOf, pastEnds, jump, doOp, doInstr, step}
-use Rattle.scope.specs.Running.{run, trialRun}
+use Rattle.scope.specs.Running.{runBy, run, trialRun}
 use Rattle.scope.specs.Memory.{rowWords, rowsFrom, objectsFrom, blockWords, stateWords}
 
 unfoldable pub computes : ℕ
-unfolding entries bitsAt unsigned signed heapAt valAt fieldAt fewAt supersAt headAt clauseAt formAt definitionAt groupAt groupsAt readSection upTable climbs heapBelow valBelow sameHeap sameVal names inReach superEarlierAndOpen shortChain formMatches matchesSuper clausesOnStruct describesEarlier clausesAgree descriptorFollows describesFollows linksFault ruleFault scan judgeTypes judgeSection askType blockTypeAt castAt instrAt lastOf planOf fits takeAll put doPlan judgeEnd judgeInstr judgeFrom localsAt bodyAt judgeBody splitTop defaultsOf pastEnds jump doOp doInstr step run trialRun rowWords rowsFrom objectsFrom blockWords stateWords
+unfolding entries bitsAt unsigned signed heapAt valAt fieldAt fewAt supersAt headAt clauseAt formAt definitionAt groupAt groupsAt readSection upTable climbs heapBelow valBelow sameHeap sameVal names inReach superEarlierAndOpen shortChain formMatches matchesSuper clausesOnStruct describesEarlier clausesAgree descriptorFollows describesFollows linksFault ruleFault scan judgeTypes judgeSection askType blockTypeAt castAt instrAt lastOf planOf fits takeAll put doPlan judgeEnd judgeInstr judgeFrom localsAt bodyAt judgeBody splitTop defaultsOf pastEnds jump doOp doInstr step runBy run trialRun rowWords rowsFrom objectsFrom blockWords stateWords
 computes = 0

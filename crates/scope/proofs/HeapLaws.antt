@@ -5,18 +5,19 @@ use mathlib.Core.Path.{_≡_, refl, sym, ap, _∙_, subst}
 use mathlib.Core.Logic.{_⊎_, inl, inr}
 use mathlib.Core.Bool.{Bool, true, false, false≢true}
 use mathlib.Core.Option.{Option, some}
-use mathlib.Core.List.{List, [], _∷_, _++_, Forall₂}
-use lib.ListN.{getElem?, set}
+use mathlib.Core.List.{List, Forall₂}
+use lib.ListN.{getElem?}
 use borrow.Author.Tests.{eqb-true}
 use Rattle.scope.specs.Syntax.{exact, Number, Val, num, ref, Definition, Types, typesOf}
 use Rattle.scope.specs.Order.{heapBelow, valBelow}
 use Rattle.scope.specs.BodyRules.{holdsOf}
 use Rattle.scope.specs.Bodies.{Operand}
-use Rattle.scope.specs.Machine.{Value, number, object, Object, Store, withField}
+use Rattle.scope.specs.Machine.{Value, number, object, Object, Store, objectOf, withNew, withObject, withField}
 use Rattle.scope.proofs.Truths.{from-both, implies}
 use Rattle.scope.proofs.Accepted.{Passes}
 use Rattle.scope.proofs.Order.{below-transitive, same-number-equal}
-use Rattle.scope.proofs.Pairs.{each-pair, set-first, some-is-one, at-append, at-one-more, at-set, set-at}
+use Rattle.scope.proofs.Pairs.{each-pair, set-first, some-is-one}
+use Rattle.scope.proofs.Stores.{new-keeps, new-or-old, other-keeps, other-or-old}
 use Rattle.scope.proofs.Soundness.{Has, ofNumber, ofNull, ofObject, HasOperand, ofKnown, HasLocal, noValue, itsValue, Described, noDescriptor, itsDescriptor, WellMade, HeapTyped, Same, Grows}
 
 -- in a type above
@@ -38,7 +39,7 @@ pub exact-type : (ts : Types) (t x : ℕ) → heapBelow ts (exact t) (exact x) �
 unfolding heapBelow
 exact-type ts t x e = eqb-true t x e
 
-pub exact-very : {ts : Types} {heap : Store} {o x : ℕ} {it : Object} {n : Bool} → Has ts heap (object o) (ref n (exact x)) → getElem? heap o ≡ some it → it .type ≡ x
+pub exact-very : {ts : Types} {heap : Store} {o x : ℕ} {it : Object} {n : Bool} → Has ts heap (object o) (ref n (exact x)) → objectOf heap o ≡ some it → it .type ≡ x
 exact-very {ts} {x} {it} (ofObject {it = found} q below) e =
     let same : found ≡ it = some-is-one (sym q ∙ e) in
     subst (λ (a : Object). a .type ≡ x) same (exact-type ts (found .type) x below)
@@ -103,36 +104,36 @@ module _ {heap later : Store} (grows : Grows heap later) where
 
 -- one object more
 
-pub one-more-grows : (heap : Store) (it : Object) → Grows heap (heap ++ it ∷ [])
-one-more-grows heap it = record { keeps = λ o {it = old} e. (old, at-append heap (it ∷ []) o e, same-itself old) }
+pub one-more-grows : (heap : Store) (it : Object) → Grows heap (withNew heap it)
+one-more-grows heap it = record { keeps = λ o {it = old} e. (old, new-keeps heap it o e, same-itself old) }
 
-pub one-more-typed : {ds : List Definition} {heap : Store} (it : Object) → HeapTyped ds heap → WellMade ds heap it → HeapTyped ds (heap ++ it ∷ [])
+pub one-more-typed : {ds : List Definition} {heap : Store} (it : Object) → HeapTyped ds heap → WellMade ds heap it → HeapTyped ds (withNew heap it)
 one-more-typed {ds} {heap} it typed made =
-    record { wellMade = λ o e. well-made-later (one-more-grows heap it) (go o (at-one-more heap it o e)) }
+    record { wellMade = λ o e. well-made-later (one-more-grows heap it) (go o (new-or-old heap it o e)) }
   where
-    go : (o : ℕ) {found : Object} → (getElem? heap o ≡ some found) ⊎ (it ≡ found) → WellMade ds heap found
+    go : (o : ℕ) {found : Object} → (objectOf heap o ≡ some found) ⊎ (it ≡ found) → WellMade ds heap found
     go o (inl e) = typed .wellMade o e
     go o (inr q) = subst (WellMade ds heap) q made
 
 -- another value in a field
 
-pub other-field-grows : (heap : Store) (o i : ℕ) {it : Object} (v : Value) → getElem? heap o ≡ some it → Grows heap (set heap o (withField it i v))
-other-field-grows heap o i {it} v at = record { keeps = λ q e. go q e (set-at heap o q at e) }
+pub other-field-grows : (heap : Store) (o i : ℕ) {it : Object} (v : Value) → objectOf heap o ≡ some it → Grows heap (withObject heap o (withField it i v))
+other-field-grows heap o i {it} v at = record { keeps = λ q e. go q e (other-keeps heap o q at e) }
   where
-    go : (q : ℕ) {old : Object} → getElem? heap q ≡ some old
-        → (getElem? (set heap o (withField it i v)) q ≡ some old) ⊎ ((getElem? (set heap o (withField it i v)) q ≡ some (withField it i v)) × (it ≡ old))
-        → (now : Object) × (getElem? (set heap o (withField it i v)) q ≡ some now) × Same old now
+    go : (q : ℕ) {old : Object} → objectOf heap q ≡ some old
+        → (objectOf (withObject heap o (withField it i v)) q ≡ some old) ⊎ ((objectOf (withObject heap o (withField it i v)) q ≡ some (withField it i v)) × (it ≡ old))
+        → (now : Object) × (objectOf (withObject heap o (withField it i v)) q ≡ some now) × Same old now
     go q {old} e (inl still) = (old, still, same-itself old)
     go q {old} e (inr (changed, same)) =
         (withField it i v, changed, record { type = ap (λ (a : Object). a .type) same; descriptor = ap (λ (a : Object). a .descriptor) same })
 
 pub other-field-typed :
     {ds : List Definition} {heap : Store} (o i : ℕ) {it : Object} {v : Value} {t : Val}
-    → HeapTyped ds heap → getElem? heap o ≡ some it → (w : WellMade ds heap it)
+    → HeapTyped ds heap → objectOf heap o ≡ some it → (w : WellMade ds heap it)
     → getElem? (holdsOf (w .fields)) i ≡ some t → Has (typesOf ds) heap v t
-    → HeapTyped ds (set heap o (withField it i v))
+    → HeapTyped ds (withObject heap o (withField it i v))
 other-field-typed {ds} {heap} o i {it} {v} typed at w there has =
-    record { wellMade = λ q e. well-made-later (other-field-grows heap o i v at) (go q (at-set heap o q e)) }
+    record { wellMade = λ q e. well-made-later (other-field-grows heap o i v at) (go q (other-or-old heap o q e)) }
   where
     changed : WellMade ds heap (withField it i v)
     changed =
@@ -144,6 +145,6 @@ other-field-typed {ds} {heap} o i {it} {v} typed at w there has =
           described = w .described;
         }
 
-    go : (q : ℕ) {found : Object} → (getElem? heap q ≡ some found) ⊎ (withField it i v ≡ found) → WellMade ds heap found
+    go : (q : ℕ) {found : Object} → (objectOf heap q ≡ some found) ⊎ (withField it i v ≡ found) → WellMade ds heap found
     go q (inl e) = typed .wellMade q e
     go q (inr same) = subst (WellMade ds heap) same changed

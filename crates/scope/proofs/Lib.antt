@@ -11,6 +11,7 @@ pub mod OrderExamples
 pub mod Identity
 pub mod Soundness
 pub mod Pairs
+pub mod Stores
 pub mod HeapLaws
 pub mod Descent
 pub mod Telling

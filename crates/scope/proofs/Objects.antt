@@ -14,13 +14,14 @@ use Rattle.scope.specs.Syntax.{defined, exact, Val, num, ref, nonNull, F
 use Rattle.scope.specs.Order.{heapBelow}
 use Rattle.scope.specs.BodyRules.{fieldsOf, holdsOf, hasDefault}
 use Rattle.scope.specs.Bodies.{Operand, known, State, Body}
-use Rattle.scope.specs.Machine.{Value, number, null, object, Object, Store, Machine, splitTop, defaultOf, defaultsOf, hasRoom, make, makeGiven, makeDefault}
+use Rattle.scope.specs.Machine.{Value, number, null, object, Object, Store, objectOf, Machine, splitTop, defaultOf, defaultsOf, hasRoom, make, makeGiven, makeDefault}
 use Rattle.scope.specs.Running.{programOf}
 use Rattle.scope.proofs.Truths.{none-is-not-some, from-both}
 use Rattle.scope.proofs.Accepted.{Kept, kept-passes}
 use Rattle.scope.proofs.Chains.{Chain, climb-is-chain, chain-climbs}
 use Rattle.scope.proofs.Order.{below-reflexive}
-use Rattle.scope.proofs.Pairs.{some-is-one, at-second, turn-both, at-last}
+use Rattle.scope.proofs.Pairs.{some-is-one, at-second, turn-both}
+use Rattle.scope.proofs.Stores.{new-there}
 use Rattle.scope.proofs.HeapLaws.{one-more-grows, one-more-typed, operands-later}
 use Rattle.scope.proofs.Descent.{FieldBelow, field-along, descriptor-along}
 use Rattle.scope.proofs.Taking.{Tops, split-tops}
@@ -60,7 +61,7 @@ module _ {b : Body} {st : State} (m : Machine) (typed : Typed b st m) (alive : s
       let grows = one-more-grows (m .heap) it in
       either-side (hasRoom (m .heap) (length fields))
       (λ room. changes m typed alive stands grows (one-more-typed it (typed .store .objects) made)
-      (Forall₂·cons (ofKnown (ofObject (at-last (m .heap) it) (below-reflexive (typesOf (b .types)) (exact x)))) (operands-later grows has)))
+      (Forall₂·cons (ofKnown (ofObject (new-there (m .heap) it) (below-reflexive (typesOf (b .types)) (exact x)))) (operands-later grows has)))
       (λ full. isTrap isNoRoom)
 
   pub makes-given :
@@ -122,7 +123,7 @@ module _ (ds : List Definition) (kept : Kept (typesOf ds)) {heap : Store} where
 
 described-there :
     {heap : Store} {o q : Option ℕ} {y : ℕ} → Described heap o q → o ≡ some y
-    → (d : ℕ) × (e : Object) × (q ≡ some d) × (getElem? heap d ≡ some e) × (e .type ≡ y)
+    → (d : ℕ) × (e : Object) × (q ≡ some d) × (objectOf heap d ≡ some e) × (e .type ≡ y)
 described-there noDescriptor f = absurd (none-is-not-some f)
 described-there (itsDescriptor {d = d} {it = e} there is) f = (d, e, refl, there, is ∙ some-is-one f)
 
@@ -131,7 +132,7 @@ pub record Descriptor (ds : List Definition) (heap : Store) (it : Object) (x y :
   pub number : ℕ
   pub object : Object
   pub carried : it .descriptor ≡ some number
-  pub there : getElem? heap number ≡ some object
+  pub there : objectOf heap number ≡ some object
   pub below : heapBelow (typesOf ds) (exact (object .type)) (defined y) ≡ true
   pub exactly : it .type ≡ x → heapBelow (typesOf ds) (exact (object .type)) (exact y) ≡ true
 

@@ -6,7 +6,7 @@ use mathlib.Core.Path.{_≡_, refl}
 use mathlib.Core.Bool.{Bool, true, false, not, cond, _&&_, _||_}
 use mathlib.Core.Option.{Option}
 use mathlib.Core.List.{List, [], _∷_, _++_}
-use lib.ListN.{length, getElem?}
+use lib.ListN.{length}
 use lib.Dec.{eqb}
 use Rattle.scope.specs.Sizes.{mostSteps}
 use Rattle.scope.specs.Refusals.{badOperand, noMatch, clauseNotOnStruct, describesNotEarlier, clausesDisagree, badDescriptor, badDescribes}
@@ -20,7 +20,7 @@ use Rattle.scope.specs.Judging.{accepted, rejected, firstBroken, linksFa
 use Rattle.scope.specs.Instructions.{Op, block, loop, end, op, instrAt}
 use Rattle.scope.specs.BodyRules.{Context, Scope, Wanted, value, anyValue, anyReference, values, Plan, Ruled, allowed, fault, test, andRuled, takes, fromTop, reached, structOf, described, defaulted, planOf}
 use Rattle.scope.specs.Bodies.{Operand, known, unknown, unknownReference, fits, Taken, alsoTaken, State, scopeOf, afterPlan, Code, Body, startState, contextOf, judgeBody}
-use Rattle.scope.specs.Machine.{Value, number, null, object, Object}
+use Rattle.scope.specs.Machine.{Value, number, null, object, Object, objectOf}
 use Rattle.scope.specs.Running.{Ending, done, trapped, spent, wrong, run, startOf, programOf, placeOf}
 use Rattle.scope.proofs.Computes.{computes}
 
@@ -81,7 +81,7 @@ abbrev fieldsThere : List Object → List Value → List ℕ
 fieldsThere heap [] = []
 fieldsThere heap (number k n ∷ vs) = []
 fieldsThere heap (null ∷ vs) = []
-fieldsThere heap (object o ∷ vs) = given (getElem? heap o) [] (λ it. length (it .fields) ∷ [])
+fieldsThere heap (object o ∷ vs) = given (objectOf heap o) [] (λ it. length (it .fields) ∷ [])
 
 abbrev stuckAt : List ℕ → Ending → List ℕ
 stuckAt s (done steps m) = []

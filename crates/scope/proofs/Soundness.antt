@@ -7,7 +7,7 @@ use mathlib.Core.Path.{_≡_}
 use mathlib.Core.Bool.{Bool, true, false}
 use mathlib.Core.Option.{Option, none, some}
 use mathlib.Core.List.{List, [], _∷_, reverse, Forall₂}
-use lib.ListN.{length, getElem?}
+use lib.ListN.{length}
 use Rattle.scope.specs.declared.Ran.{Ran}
 use Rattle.scope.specs.declared.Ran
 use Rattle.scope.specs.Refusals.{trapUnreachable, trapNull, trapNullDescriptor, trapCast, trapNoRoom}
@@ -18,7 +18,7 @@ use Rattle.scope.specs.Judging.{accepted}
 use Rattle.scope.specs.Instructions.{Instr, op, struct-get, struct-set}
 use Rattle.scope.specs.BodyRules.{Context, allowed, fieldsOf, holdsOf, hasDefault}
 use Rattle.scope.specs.Bodies.{Operand, known, Frame, ofBlock, ofLoop, State, goesOn, judgeInstr, Code, Body, startState, contextOf, judgeBody}
-use Rattle.scope.specs.Machine.{Value, number, null, object, Object, Store, Block, openBlock, openLoop, Machine, Program, Outcome, goes, ends, traps, step}
+use Rattle.scope.specs.Machine.{Value, number, null, object, Object, Store, objectOf, Block, openBlock, openLoop, Machine, Program, Outcome, goes, ends, traps, step}
 use Rattle.scope.specs.Running.{Ending, done, trapped, spent, run, startOf, programOf, Trial, trialRun}
 use Rattle.scope.specs.Memory.{filled, stateWords}
 use Rattle.scope.specs.Answers.{RunMemory, machineOf, ranAs, RunTried}
@@ -30,7 +30,7 @@ use Rattle.scope.specs.Answers.{RunMemory, machineOf, ranAs, RunTried}
 pub data Has (ts : Types) (heap : Store) : Value → Val → Type 0 where
   ofNumber : {k : Number} {n : ℕ} → Has ts heap (number k n) (num k)
   ofNull : {h : Heap} → Has ts heap null (ref true h)
-  ofObject : {o : ℕ} {it : Object} {n : Bool} {h : Heap} → getElem? heap o ≡ some it → heapBelow ts (exact (it .type)) h ≡ true → Has ts heap (object o) (ref n h)
+  ofObject : {o : ℕ} {it : Object} {n : Bool} {h : Heap} → objectOf heap o ≡ some it → heapBelow ts (exact (it .type)) h ≡ true → Has ts heap (object o) (ref n h)
 
 -- an operand: the checker knows its type, which is no unknown
 pub data HasOperand (ts : Types) (heap : Store) : Value → Operand → Type 0 where
@@ -49,7 +49,7 @@ pub data Covers : Bool → Option Value → Type 0 where
 -- the descriptor that a type declares, and an object's: none and none, or an object made as exactly the declared type
 pub data Described (heap : Store) : Option ℕ → Option ℕ → Type 0 where
   noDescriptor : Described heap none none
-  itsDescriptor : {y d : ℕ} {it : Object} → getElem? heap d ≡ some it → it .type ≡ y → Described heap (some y) (some d)
+  itsDescriptor : {y d : ℕ} {it : Object} → objectOf heap d ≡ some it → it .type ≡ y → Described heap (some y) (some d)
 
 -- an object made as its type declares: as many fields, each of the declared kind; its descriptor
 pub record WellMade (ds : List Definition) (heap : Store) (it : Object) : Type 0 where
@@ -60,7 +60,7 @@ pub record WellMade (ds : List Definition) (heap : Store) (it : Object) : Type 0
   pub described : Described heap (typesOf ds (it .type) .descriptor) (it .descriptor)
 
 pub record HeapTyped (ds : List Definition) (heap : Store) : Type 0 where
-  pub wellMade : (o : ℕ) {it : Object} → getElem? heap o ≡ some it → WellMade ds heap it
+  pub wellMade : (o : ℕ) {it : Object} → objectOf heap o ≡ some it → WellMade ds heap it
 
 -- an object's type and descriptor do not change
 pub record Same (it later : Object) : Type 0 where
@@ -68,7 +68,7 @@ pub record Same (it later : Object) : Type 0 where
   pub descriptor : later .descriptor ≡ it .descriptor
 
 pub record Grows (heap later : Store) : Type 0 where
-  pub keeps : (o : ℕ) {it : Object} → getElem? heap o ≡ some it → (now : Object) × (getElem? later o ≡ some now) × Same it now
+  pub keeps : (o : ℕ) {it : Object} → objectOf heap o ≡ some it → (now : Object) × (objectOf later o ≡ some now) × Same it now
 
 -- states
 
@@ -178,7 +178,7 @@ pub data Answered (section s : List ℕ) (x budget : ℕ) (lent later : RunMemor
 -- the place i lies inside the object that is there
 pub record FieldInside (heap : Store) (o i : ℕ) : Type 0 where
   pub it : Object
-  pub there : getElem? heap o ≡ some it
+  pub there : objectOf heap o ≡ some it
   pub inside : i < length (it .fields)
 
 -- the theorem
@@ -193,7 +193,7 @@ pub record Soundness : Type 0 where
       {section s : List ℕ} {x : ℕ} {b : Body} {n : ℕ} {m : Machine} → Runs section s x b → Reaches (programOf b) (startOf b) n m
       → Proceeds b (m .heap) (step (programOf b) m)
   -- a reference of an exact type is null where that type allows it or names an object made as that very type
-  pub exactly : {ts : Types} {heap : Store} {o x : ℕ} {n : Bool} {it : Object} → Has ts heap (object o) (ref n (exact x)) → getElem? heap o ≡ some it → it .type ≡ x
+  pub exactly : {ts : Types} {heap : Store} {o x : ℕ} {n : Bool} {it : Object} → Has ts heap (object o) (ref n (exact x)) → objectOf heap o ≡ some it → it .type ≡ x
   pub nullable : {ts : Types} {heap : Store} {n : Bool} {h : Heap} → Has ts heap null (ref n h) → n ≡ true
   -- an object's type and descriptor never change from the step that makes it on
   pub lasting :

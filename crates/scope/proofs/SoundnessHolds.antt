@@ -20,8 +20,8 @@ use Rattle.scope.specs.Judging.{Judged, accepted, rejected}
 use Rattle.scope.specs.Instructions.{Op, op, struct-get, struct-set}
 use Rattle.scope.specs.BodyRules.{hasDefault}
 use Rattle.scope.specs.Bodies.{Code, Body, judgeBody}
-use Rattle.scope.specs.Machine.{Value, null, object, Object, Store, Machine, Outcome, goes, ends, traps, stuck, withControl, withOperands, withHeap, withField, doOp, doInstr, stepOn, step}
-use Rattle.scope.specs.Running.{Ending, spent, onOutcome, run, startOf, programOf, Trial, trialOf, trialRun}
+use Rattle.scope.specs.Machine.{Value, null, object, Object, Store, objectOf, Machine, Outcome, goes, ends, traps, stuck, withControl, withOperands, withHeap, withObject, withField, doOp, doInstr, stepOn, step}
+use Rattle.scope.specs.Running.{Ending, spent, onOutcome, runBy, run, startOf, programOf, Trial, trialOf, trialRun}
 use Rattle.scope.specs.Answers.{RunMemory, ranAs, ranOf, stateAfter, runCall, runLent, RunTried}
 use Rattle.scope.proofs.Pairs.{inside}
 use Rattle.scope.proofs.HeapLaws.{exact-very}
@@ -56,7 +56,7 @@ module _ {section s : List ℕ} {x : ℕ} {b : Body} (runs : Runs section s x b)
 
   -- so many steps are left of the budget
   runs-on : (budget left steps : ℕ) (m : Machine) → Reaches (programOf b) (startOf b) steps m → steps + left ≡ budget → EndsWell b budget (run (programOf b) left steps m)
-  unfolding run
+  unfolding run runBy
   runs-on budget zero steps m reaches e =
       let q : steps ≡ budget = omega arith in
       subst (λ (n : ℕ). EndsWell b budget (spent n m)) (sym q) (isSpent (rw q at reaches) (typed-there reaches))
@@ -149,14 +149,14 @@ soundness =
 -- a step that looks at field i of object o is stuck where there is no such object or no such field
 looked-inside :
     {b : Body} {heap : Store} (os : Store) (o i : ℕ) (f : Object → Value → Outcome)
-    → Proceeds b heap (given (getElem? os o) stuck (λ it. given (getElem? (it .fields) i) stuck (f it))) → FieldInside os o i
-looked-inside {b} {heap} os o i f p = go (getElem? os o) refl p
+    → Proceeds b heap (given (objectOf os o) stuck (λ it. given (getElem? (it .fields) i) stuck (f it))) → FieldInside os o i
+looked-inside {b} {heap} os o i f p = go (objectOf os o) refl p
   where
-    field : (it : Object) (v : Option Value) → getElem? os o ≡ some it → getElem? (it .fields) i ≡ v → Proceeds b heap (given v stuck (f it)) → FieldInside os o i
+    field : (it : Object) (v : Option Value) → objectOf os o ≡ some it → getElem? (it .fields) i ≡ v → Proceeds b heap (given v stuck (f it)) → FieldInside os o i
     field it none there is p = absurd (not-stuck p)
     field it (some v) there is p = record { it = it; there = there; inside = inside (it .fields) i is }
 
-    go : (it : Option Object) → getElem? os o ≡ it → Proceeds b heap (given it stuck (λ it. given (getElem? (it .fields) i) stuck (f it))) → FieldInside os o i
+    go : (it : Option Object) → objectOf os o ≡ it → Proceeds b heap (given it stuck (λ it. given (getElem? (it .fields) i) stuck (f it))) → FieldInside os o i
     go none there p = absurd (not-stuck p)
     go (some it) there p = field it (getElem? (it .fields) i) there refl p
 
@@ -176,7 +176,7 @@ written-inside :
     {b : Body} {heap : Store} (m : Machine) (y i o : ℕ) (v : Value) (below : List Value)
     → Proceeds b heap (doOp (programOf b) m (v ∷ object o ∷ below) (struct-set y i)) → FieldInside (m .heap) o i
 unfolding doOp
-written-inside m y i o v below p = looked-inside (m .heap) o i (λ it old. goes (withOperands (withHeap m (set (m .heap) o (withField it i v))) below)) p
+written-inside m y i o v below p = looked-inside (m .heap) o i (λ it old. goes (withOperands (withHeap m (withObject (m .heap) o (withField it i v))) below)) p
 
 pub no-field-outside : NoFieldOutside
 no-field-outside =

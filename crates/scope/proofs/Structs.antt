@@ -12,7 +12,7 @@ use Rattle.scope.specs.Syntax.{defined, exact, nullable, nonNull, Field,
 use Rattle.scope.specs.Instructions.{struct-new, struct-new-default, struct-get, struct-set, struct-new-desc, struct-new-default-desc, ref-get-desc}
 use Rattle.scope.specs.BodyRules.{value, fromTop, fieldsOf, holdsOf, hasDefault, itsDescriptor}
 use Rattle.scope.specs.Bodies.{Operand, known, fits, put, State, Body}
-use Rattle.scope.specs.Machine.{Value, object, Object, Store, Machine, doOp}
+use Rattle.scope.specs.Machine.{Value, object, Object, Store, objectOf, Machine, doOp}
 use Rattle.scope.proofs.Accepted.{Kept, Passes, kept-passes}
 use Rattle.scope.proofs.HeapLaws.{has-above, exact-type, exact-very, other-field-grows, other-field-typed, operands-later}
 use Rattle.scope.proofs.Taking.{ofType, done, also, tops-of}
@@ -24,7 +24,7 @@ use Rattle.scope.proofs.Soundness.{Has, ofNull, ofObject, HasOperand, o
 -- an operand below (ref null (exact x)) names an object of x itself
 exact-operand :
     {ds : List Definition} (passes : Passes ds) {heap : Store} {operand : Operand} {o x : ℕ} {it : Object}
-    → HasOperand (typesOf ds) heap (object o) operand → fits (typesOf ds) operand (value (nullable (exact x))) ≡ true → getElem? heap o ≡ some it
+    → HasOperand (typesOf ds) heap (object o) operand → fits (typesOf ds) operand (value (nullable (exact x))) ≡ true → objectOf heap o ≡ some it
     → it .type ≡ x
 unfolding fits
 exact-operand passes {x} (ofKnown h) e q = exact-very (has-above passes (nullable (exact x)) h e) q

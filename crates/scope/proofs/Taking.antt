@@ -6,12 +6,12 @@ use mathlib.Core.Path.{_≡_, refl, ap, _∙_, subst}
 use mathlib.Core.Bool.{true, false, false≢true}
 use mathlib.Core.Option.{some}
 use mathlib.Core.List.{List, [], _∷_, _++_, map, reverse, Forall₂, Forall₂·nil, Forall₂·cons}
-use lib.ListN.{length, getElem?, length-reverse}
+use lib.ListN.{length, length-reverse}
 use Rattle.scope.specs.Refusals.{badOperand}
 use Rattle.scope.specs.Syntax.{Val, Definition, Types, typesOf}
 use Rattle.scope.specs.BodyRules.{Wanted, value, anyValue, anyReference}
 use Rattle.scope.specs.Bodies.{Operand, known, fits, takeAll, onTop}
-use Rattle.scope.specs.Machine.{Value, null, object, Object, Store, splitTop}
+use Rattle.scope.specs.Machine.{Value, null, object, Object, Store, objectOf, splitTop}
 use Rattle.scope.proofs.Telling.{Allows, this, nothing, after-test, after-and}
 use Rattle.scope.proofs.Accepted.{Passes}
 use Rattle.scope.proofs.Pairs.{as-many, append-both}
@@ -23,7 +23,7 @@ pub data Meets (ts : Types) (heap : Store) : Value → Wanted → Type 0 where
   ofType : {v : Value} {t : Val} → Has ts heap v t → Meets ts heap v (value t)
   anything : {v : Value} → Meets ts heap v anyValue
   aNull : Meets ts heap null anyReference
-  anObject : {o : ℕ} {it : Object} → getElem? heap o ≡ some it → Meets ts heap (object o) anyReference
+  anObject : {o : ℕ} {it : Object} → objectOf heap o ≡ some it → Meets ts heap (object o) anyReference
 
 -- the wanted values lie on top of `vs`, with `below` under them; the checker took and left operands of their types
 pub data Takes (ts : Types) (heap : Store) : List Wanted → List Operand → List Operand → List Value → List Value → Type 0 where

@@ -32,6 +32,16 @@ pub record Object : Type 0 where
 abbrev pub Store : Type 0
 Store = List Object
 
+-- the store is reached by an object's number, and changed in two ways; proofs/Stores.antt has the laws
+abbrev pub objectOf : Store → ℕ → Option Object
+objectOf os o = getElem? os o
+
+abbrev pub withNew : Store → Object → Store
+withNew os it = os ++ it ∷ []
+
+abbrev pub withObject : Store → ℕ → Object → Store
+withObject os o it = set os o it
+
 -- an open block: the place of its instruction, how many values its label takes, the operands below it; a loop has the
 -- code after its instruction besides
 pub data Block : Type 0 where
@@ -54,12 +64,16 @@ pub record Program : Type 0 where
   pub types : Types
   pub results : ℕ
 
--- what a step comes to. `stuck`: a value is missing or of the wrong kind; demand 3 is that no accepted body comes to it.
-pub data Outcome : Type 0 where
-  goes : Machine → Outcome
-  ends : Machine → Outcome
-  traps : ℕ → Outcome
-  stuck : Outcome
+-- what a step comes to, of any machine. `stuck`: a value is missing or of the wrong kind; demand 3 is that no accepted body
+-- comes to it.
+pub data OutcomeOf (M : Type 0) : Type 0 where
+  goes : M → OutcomeOf M
+  ends : M → OutcomeOf M
+  traps : ℕ → OutcomeOf M
+  stuck : OutcomeOf M
+
+abbrev pub Outcome : Type 0
+Outcome = OutcomeOf Machine
 
 -- parts of a state, replaced
 
@@ -93,7 +107,7 @@ onReference (object o) f = f (some o)
 
 -- a reference that may not be null here
 abbrev pub onObject : Store → ℕ → Value → (ℕ → Object → Outcome) → Outcome
-onObject os trap v f = onReference v (λ r. given r (traps trap) (λ o. given (getElem? os o) stuck (f o)))
+onObject os trap v f = onReference v (λ r. given r (traps trap) (λ o. given (objectOf os o) stuck (f o)))
 
 abbrev pub onTaken : List Value → (Value → List Value → Outcome) → Outcome
 onTaken [] f = stuck
@@ -127,7 +141,7 @@ hasRoom os n = ltb (length os) mostObjects && leb (cellsOf os + n) mostCells
 abbrev pub make : Machine → ℕ → Option ℕ → List Value → List Value → Outcome
 make m x d fields below =
     cond (hasRoom (m .heap) (length fields))
-    (goes (withOperands (withHeap m (m .heap ++ record { type = x; descriptor = d; fields = fields } ∷ [])) (object (length (m .heap)) ∷ below)))
+    (goes (withOperands (withHeap m (withNew (m .heap) (record { type = x; descriptor = d; fields = fields }))) (object (length (m .heap)) ∷ below)))
     (traps trapNoRoom)
 
 -- the fields of a new object: from the stack, the last on top; or each type's default
@@ -154,7 +168,7 @@ onDescriptor vs f = onTaken vs (λ d below. onReference d (λ r. given r (traps 
 -- does the value belong to the target? null where the target may be null, an object by the type it was made as
 abbrev pub castPasses : Types → Store → Bool → Heap → Value → (Bool → Outcome) → Outcome
 castPasses ts os nullToo h v f =
-    onReference v (λ r. given r (f nullToo) (λ o. given (getElem? os o) stuck (λ x. f (heapBelow ts (exact (x .type)) h))))
+    onReference v (λ r. given r (f nullToo) (λ o. given (objectOf os o) stuck (λ x. f (heapBelow ts (exact (x .type)) h))))
 
 -- "ref.cast_desc_eq passes when the object's descriptor is the very object given, or on null with a nullable target."
 abbrev pub isVery : Option ℕ → ℕ → Bool
@@ -162,7 +176,7 @@ isVery d o = given d false (λ e. eqb e o)
 
 abbrev pub descriptorCastPasses : Store → Bool → ℕ → Value → (Bool → Outcome) → Outcome
 descriptorCastPasses os nullToo d v f =
-    onReference v (λ r. given r (f nullToo) (λ o. given (getElem? os o) stuck (λ x. f (isVery (x .descriptor) d))))
+    onReference v (λ r. given r (f nullToo) (λ o. given (objectOf os o) stuck (λ x. f (isVery (x .descriptor) d))))
 
 -- null is the same as null, an object as itself
 abbrev pub sameReference : Option ℕ → Option ℕ → Bool
@@ -249,7 +263,7 @@ doOp p m vs (struct-set x i) =
     onTaken vs (λ new others.
     onTaken others (λ v below.
     onObject (m .heap) trapNull v (λ o it.
-    given (getElem? (it .fields) i) stuck (λ old. goes (withOperands (withHeap m (set (m .heap) o (withField it i new))) below)))))
+    given (getElem? (it .fields) i) stuck (λ old. goes (withOperands (withHeap m (withObject (m .heap) o (withField it i new))) below)))))
 doOp p m vs (ref-test n h) =
     onTaken vs (λ v below. castPasses (p .types) (m .heap) n h v (λ b. goes (withOperands m (truth b ∷ below))))
 doOp p m vs (ref-cast n h) =

@@ -12,26 +12,32 @@ use Rattle.scope.specs.Syntax.{typesOf}
 use Rattle.scope.specs.Judging.{Judged, accepted, rejected, andThen}
 use Rattle.scope.specs.BodyRules.{hasDefault}
 use Rattle.scope.specs.Bodies.{Code, Function, Body, judgeBody}
-use Rattle.scope.specs.Machine.{Machine, Program, Outcome, goes, ends, traps, stuck, defaultOf, step}
+use Rattle.scope.specs.Machine.{Machine, Program, OutcomeOf, goes, ends, traps, stuck, defaultOf, step}
 
 -- "The answer holds done with results, trap with place, or spent; and the steps": each with the steps and the machine after
 -- exactly those steps. A trap has its number; "a trapping step changes none of them". `wrong`: no accepted body comes to it.
-pub data Ending : Type 0 where
-  done : ℕ → Machine → Ending
-  trapped : ℕ → ℕ → Machine → Ending
-  spent : ℕ → Machine → Ending
-  wrong : ℕ → Machine → Ending
+pub data EndingOf (M : Type 0) : Type 0 where
+  done : ℕ → M → EndingOf M
+  trapped : ℕ → ℕ → M → EndingOf M
+  spent : ℕ → M → EndingOf M
+  wrong : ℕ → M → EndingOf M
 
-abbrev pub onOutcome : Outcome → ℕ → Machine → (Machine → Ending) → Ending
+abbrev pub Ending : Type 0
+Ending = EndingOf Machine
+
+abbrev pub onOutcome : {M : Type 0} → OutcomeOf M → ℕ → M → (M → EndingOf M) → EndingOf M
 onOutcome (goes later) steps m more = more later
 onOutcome (ends later) steps m more = done (steps + 1) later
 onOutcome (traps number) steps m more = trapped number (steps + 1) m
 onOutcome stuck steps m more = wrong steps m
 
--- so many steps are left of the budget, so many are done
+-- the run of any machine by its step: so many steps are left of the budget, so many are done
+unfoldable pub runBy : {M : Type 0} → (M → OutcomeOf M) → ℕ → ℕ → M → EndingOf M
+runBy next zero steps m = spent steps m
+runBy next (suc left) steps m = onOutcome (next m) steps m (λ later. runBy next left (steps + 1) later)
+
 unfoldable pub run : Program → ℕ → ℕ → Machine → Ending
-run p zero steps m = spent steps m
-run p (suc left) steps m = onOutcome (step p m) steps m (λ later. run p left (steps + 1) later)
+run p left steps m = runBy (step p) left steps m
 
 -- "It starts with an empty heap, zero or null parameters. A local with a default starts at it; any other holds no value."
 abbrev pub startOf : Body → Machine
