@@ -67,7 +67,7 @@ pub data Takes (ts : Types) : Bool → List Wanted → List Operand → List Ope
       → Takes ts true (w ∷ ws) [] (unknown ∷ taken) left
 
 -- What is put there, by what was taken: `Puts ts gives taken put`. "ref.as_non_null of an unknown is a non-null reference of
--- unknown heap." "ref.get_desc x gives (ref y), exact when the operand is below (ref null (exact x))."
+-- unknown heap." "ref.get_desc x .. gives (ref y), exact when the operand is below (ref null (exact x))."
 pub data Puts (ts : Types) : Gives → List Operand → List Operand → Type 0 where
   puts-values : {vs : List Val} {taken : List Operand} → Puts ts (values vs) taken (onTop vs)
   puts-non-null : {null : Bool} {h : Heap} → Puts ts itNonNull (known (ref null h) ∷ []) (known (nonNull h) ∷ [])

@@ -38,7 +38,7 @@ pub record FieldOf (c : Context) (x i : ℕ) (f : Field) : Type 0 where
   pub isStruct : StructType c x fields
   pub present : getElem? fields i ≡ some f
 
--- Branching casts: "the target matches the source. The label's last type takes what is carried." `below` are the label's
+-- Branching casts: "the target matches the source. .. The label's last type takes what is carried." `below` are the label's
 -- types before the last.
 pub record Branching (c : Context) (here : Scope) (k : Cast) (carried : Val) (below : List Val) : Type 0 where
   pub sourceReached : HeapReached (c .count) (k .source)
@@ -70,7 +70,7 @@ pub data Rule (c : Context) (here : Scope) : Op → Plan → Type 0 where
   rule-ref-is-null : Rule c here ref-is-null (taking (anyReference ∷ []) (values (num i32 ∷ [])))
   rule-ref-eq : Rule c here ref-eq (taking (value (nullable (abstract EQ)) ∷ value (nullable (abstract EQ)) ∷ []) (values (num i32 ∷ [])))
   rule-ref-as-non-null : Rule c here ref-as-non-null (taking (anyReference ∷ []) itNonNull)
-  -- "struct.new and its default take only types with no descriptor. All give (ref (exact x))."
+  -- "struct.new and its default take only types with no descriptor. .. All give (ref (exact x))."
   rule-struct-new : {x : ℕ} {fs : List Field}
       → StructType c x fs
       → c .types x .descriptor ≡ none

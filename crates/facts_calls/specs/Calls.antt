@@ -34,11 +34,11 @@ module _ {s rows codes rows′ codes′ : List ℕ} {r : Verdict} where
   pub record OfSection (promise : SectionJudged s rows codes rows′ codes′ r) : Type 1 where
     -- yes exactly when the buffers suffice and some list of n definitions is allowed for these bytes
     pub accepted : (n : ℕ) → (r ≡ Verdict.the-variants.Accepted n) ↔ (TableSuffices rows codes × SectionOf s n)
-    -- "An accepted section gives its type count and its table, zero beyond."
+    -- "An accepted section gives its type count and its table .., zero beyond."
     pub table : (ds : List Definition) → TableSuffices rows codes → Allowed s ds → (rows′ ≡ filled rows (tableRows ds)) × (codes′ ≡ filled codes (tableCodes ds))
     -- Never no to an allowed section: "Demand 2 shuts out the loader that refuses all."
     pub never : (n number place : ℕ) → TableSuffices rows codes → SectionOf s n → ¬ (r ≡ Verdict.the-variants.Refused number place)
-    -- "14: a lent buffer under its one size; never otherwise": at 0 exactly when one is short, and nowhere else
+    -- 14: "a lent buffer under its one size ..; never otherwise": at 0 exactly when one is short, and nowhere else
     pub short : (r ≡ Verdict.the-variants.Refused bufferTooSmall 0) ↔ TableShort rows codes
     pub only : (place : ℕ) → r ≡ Verdict.the-variants.Refused bufferTooSmall place → TableShort rows codes × (place ≡ 0)
     -- any other no exactly when the bytes, or the rules' first fault, say it
@@ -63,9 +63,9 @@ module _ {section s : List ℕ} {x : ℕ} {rows codes work rows′ codes′ work
     pub only : (place : ℕ) → r ≡ Verdict.the-variants.Refused bufferTooSmall place → BodyShort rows codes work × (place ≡ 0)
     -- the first fault in document 01's order
     pub refused : (number place : ℕ) → BodySuffices rows codes work → (r ≡ Verdict.the-variants.Refused number place) ↔ BodySaysNo section s x number place
-    -- "Places are byte offsets. An instruction's place is its first byte."
+    -- "Places are byte offsets; .. An instruction's place is its first byte."
     pub places : (number place : ℕ) → BodySuffices rows codes work → r ≡ Verdict.the-variants.Refused number place → BodyPlace section s x number place
-    -- "An accepted body leaves scratch zero. Every refusal zeroes all memory lent for writing."
+    -- "An accepted body .. leaves scratch zero. Every refusal zeroes all memory lent for writing."
     pub wipes : (rows′ ≡ wiped rows) × (codes′ ≡ wiped codes) × (work′ ≡ wiped work)
 
 -- the trial run

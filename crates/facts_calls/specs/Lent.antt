@@ -1,5 +1,5 @@
--- Lent memory that suffices, and lent memory that does not. "14: a lent buffer under its one size fixed in docs/; never
--- otherwise." The sizes are those of scope's specs/Layout.antt.
+-- Lent memory that suffices, and lent memory that does not. 14: "a lent buffer under its one size fixed in docs/, ..; never
+-- otherwise". The sizes are those of scope's specs/Layout.antt.
 use Prim.Native.Nat.{ℕ, _<_, _≤_}
 use mathlib.Core.List.{List}
 use lib.ListN.{length}

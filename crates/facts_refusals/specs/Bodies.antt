@@ -182,7 +182,7 @@ pub data BodyPlace (section s : List ℕ) (x : ℕ) : ℕ → ℕ → Type 1 whe
 pub record BodyRefusals : Type 1 where
   -- the no to a body, both ways
   pub exactly : (section s : List ℕ) (x number place : ℕ) → (judgeBody section s x ≡ rejected number place) ↔ BodySaysNo section s x number place
-  -- "within the instruction the number is the first whose condition fails", over any types whose order is decided by its test
+  -- within the instruction the number is the first whose condition fails, over any types whose order is decided by its test
   pub first : (c : Context) (st : State) → Ordered (c .types) → (i : Instr) (number : ℕ) → (judgeInstr c st i ≡ fault number) ↔ FirstBroken (conditions c st i) number
   -- the questions of each instruction stand in document 01's order
   pub inOrder : (o : Op) → rising (map numberOf (asks o)) ≡ true

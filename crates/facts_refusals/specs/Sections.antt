@@ -1,5 +1,5 @@
 -- What the no to a section says. "A section's byte faults (1 to 5) come before its rules." "Places are byte offsets; a missing
--- byte lies at the input's length; a type number is that of the type at fault."
+-- byte lies at the input's length. .. a type number is that of the type at fault."
 use Prim.Native.Nat.{ℕ, _≤_, _<_}
 use mathlib.Core.Path.{_≡_}
 use mathlib.Core.Logic.{_↔_}

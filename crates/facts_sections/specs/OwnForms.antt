@@ -45,7 +45,7 @@ pub data OwnField (ts : Types) : Field → Field → Type 0 where
 pub data OwnAgainst (ts : Types) (v w : Val) : Type 0 where
   own-against : OwnVal ts w v → OwnAgainst ts v w
 
--- "Forms are equal. A struct matches its supertype with at least as many fields. Functions: same counts, parameters against, results
+-- "Forms are equal. A struct matches its supertype with at least as many fields: .. Functions: same counts, parameters against, results
 -- along."
 pub data OwnForm (ts : Types) : Form → Form → Type 0 where
   own-structs : {fs gs : List Field} → AtLeast (OwnField ts) fs gs → OwnForm ts (struct fs) (struct gs)

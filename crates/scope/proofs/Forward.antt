@@ -247,10 +247,6 @@ groups-end (suc n) first s at h =
     ends-then (group-takes first .takes s at) (λ g next a b.
     ends-then (groups-end n (first + length g) s next b) (λ gs end c d. reaches (le-trans (one-less a) c) d))
 
--- reading is deterministic: a reader is a function of the bytes and the place
-pub one-reading : {A : Type 0} (r : Reader A) (s : List ℕ) (at : ℕ) {x y : Read A} → r s at ≡ x → r s at ≡ y → x ≡ y
-one-reading r s at p q = sym p ∙ q
-
 -- reading never moves back, and stays inside the input
 pub never-back : {A : Type 0} {r : Reader A} → Takes r → (s : List ℕ) (at : ℕ) {x : A} {next : ℕ} → r s at ≡ got x next → (at < next) × (next ≤ length s)
 never-back {A} {r} t s at {x} {next} e = go (t .takes s at) e

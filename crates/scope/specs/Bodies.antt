@@ -242,7 +242,7 @@ abbrev pub judgedOf : {A : Type 0} → Read A → Judged A
 judgedOf (got x stop) = accepted x
 judgedOf (refused n p) = rejected n p
 
--- "A body: section, body size, 27, the locals entry by entry, then the first faulty instruction; last, 5."
+-- "A body: section, body size, 27, the locals entry by entry .., then the first faulty instruction ..; last, 5."
 unfoldable pub judgeBody : List ℕ → List ℕ → ℕ → Judged Body
 judgeBody section s x =
     andThen (judgeSection section) (λ ds.

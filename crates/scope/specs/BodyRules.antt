@@ -156,8 +156,8 @@ castDescriptor c h f = need (descriptorFor (c .types) h) badStruct f
 abbrev pub changeable : {A : Type 0} → Field → Ruled A → Ruled A
 changeable f more = test (f .mutable) fieldFixed more
 
--- 25: branching cast's rule, label without types. "The target matches the source. The label's last type takes what is
--- carried. Values below are read as the label's types afterwards." `carried` goes to the label, `falls` falls through;
+-- 25: branching cast's rule, label without types. "The target matches the source. .. The label's last type takes what is
+-- carried. Values below, .. are read as the label's types afterwards." `carried` goes to the label, `falls` falls through;
 -- `first` is taken before the object.
 abbrev pub branches : Context → List Wanted → Cast → Val → Val → List Val → Ruled Plan
 branches c first k carried falls label =
@@ -178,7 +178,7 @@ alreadySet here x more = test (getD (here .isSet) x false) notSet more
 abbrev pub castReached : {A : Type 0} → Context → Scope → Cast → (List Val → Ruled A) → Ruled A
 castReached c here k f = reached c (heapNames (k .source) ++ heapNames (k .target)) (labelled here (k .label) f)
 
--- 23 of a descriptor's branching cast: what is taken on top, "(ref null y), exact y when the target is exact"
+-- 23 of a descriptor's branching cast: what is taken: "(ref null y) on top, exact y when the target is exact"
 abbrev pub castDescribed : {A : Type 0} → Context → Cast → (List Wanted → Ruled A) → Ruled A
 castDescribed c k f = castDescriptor c (k .target) (λ d. f (value (nullable d) ∷ []))
 
@@ -200,7 +200,7 @@ planOf c here (ref-null h) = reached c (heapNames h) (takes [] (values (nullable
 planOf c here ref-is-null = takes (anyReference ∷ []) (values (num i32 ∷ []))
 planOf c here ref-eq = takes (value (nullable (abstract EQ)) ∷ value (nullable (abstract EQ)) ∷ []) (values (num i32 ∷ []))
 planOf c here ref-as-non-null = takes (anyReference ∷ []) itNonNull
--- "struct.new and its default take only types with no descriptor. All give (ref (exact x))."
+-- "struct.new and its default take only types with no descriptor. .. All give (ref (exact x))."
 planOf c here (struct-new x) =
     reached c (x ∷ []) (structOf c x (λ fs. undescribed c x (takes (fromTop (holdsOf fs)) (values (nonNull (exact x) ∷ [])))))
 planOf c here (struct-new-default x) =

@@ -63,13 +63,13 @@ judgeRead (refused n p) = rejected n p
 unfoldable pub judgeSection : List ℕ → Judged (List Definition)
 judgeSection s = judgeRead (readSection s)
 
--- "Anyone can ask a section for a type by number. The section is judged first, with its own refusals. An absent number
+-- "Anyone can ask a section for a type by number. The section is judged first, with its own refusals; .. An absent number
 -- gives refusal 6 with that number as place."
 unfoldable pub askType : List ℕ → ℕ → Judged Definition
 askType s x =
     andThen (judgeSection s) (λ ds. cond (ltb x (length ds)) (accepted (typesOf ds x)) (rejected outOfReach x))
 
--- "The answer hands back the very bytes of that definition. Every refusal gives an empty part."
+-- "The answer hands back the very bytes of that definition, .. Every refusal gives an empty part."
 abbrev pub partOf : List ℕ → Judged Definition → List ℕ
 partOf s (accepted d) = take (d .to - d .from) (drop (d .from) s)
 partOf s (rejected n p) = []

@@ -119,7 +119,7 @@ belowOf (openLoop at below again) = below
 abbrev pub allOperands : Machine → List Value
 allOperands m = m .operands ++ joined (map belowOf (m .blocks))
 
--- an open block, innermost first: 1 block or 2 loop, its place, the operands below it
+-- an open block: 1 block or 2 loop, its place, the operands below it
 abbrev pub blockKind : Block → ℕ
 blockKind (openBlock at n below) = 1
 blockKind (openLoop at below again) = 2

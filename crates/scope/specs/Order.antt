@@ -1,5 +1,6 @@
 -- Type rule 6, twice: as a relation with a constructor for each thing that its sentences say, and as a test that computes.
--- proofs/Order.antt shows that the two say the same.
+-- proofs/Order.antt shows that the two say the same of types whose supertypes have equal forms and short chains, as those of every
+-- accepted section have.
 use Prim.Native.Nat.{ℕ, zero, suc}
 use mathlib.Core.Path.{_≡_}
 use mathlib.Core.Bool.{Bool, true, false, not, _&&_, _||_, Bool·beq}

@@ -39,7 +39,7 @@ runBy next (suc left) steps m = onOutcome (next m) steps m (λ later. runBy next
 unfoldable pub run : Program → ℕ → ℕ → Machine → Ending
 run p left steps m = runBy (step p) left steps m
 
--- "It starts with an empty heap, zero or null parameters. A local with a default starts at it; any other holds no value."
+-- "It starts with an empty heap, zero or null parameters .. A local with a default starts at it; any other holds no value, .."
 abbrev pub startOf : Body → Machine
 startOf b =
     record { heap = []; locals = map defaultOf (b .function .parameters ++ b .locals); operands = []; blocks = []; code = b .code }
