@@ -61,7 +61,7 @@ data Other : Outcome → Type 0 where
   is-43 : Other (traps trapNullDescriptor)
   is-44 : Other (traps trapCast)
 
-same-trap : {n k : ℕ} → traps n ≡ traps k → n ≡ k
+same-trap : {n k : ℕ} → _≡_ {A = Outcome} (traps n) (traps k) → n ≡ k
 same-trap e = cc
 
 other-not-45 : {o : Outcome} → Other o → o ≡ traps trapNoRoom → ⊥
