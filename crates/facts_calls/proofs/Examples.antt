@@ -26,7 +26,7 @@ use Rattle.facts_sections.specs.Writing.{WritesDefinition}
 use Rattle.facts_sections.proofs.Exactly.{accepted-exactly}
 use Rattle.facts_bodies.specs.Premises.{of-none}
 use Rattle.facts_runs.specs.Samples.{F1, twoObjects, sample}
-use Rattle.facts_runs.specs.Counting.{taken}
+use Rattle.facts_runs.specs.Counting.{taken, takenBy}
 use Rattle.facts_refusals.specs.Bodies.{BodySaysNo}
 use Rattle.facts_calls.specs.Lent.{TableSuffices, TableShort, BodySuffices, BodyShort, RunSuffices}
 use Rattle.facts_calls.specs.Meant.{SectionOf, BodyOf, CanRun}
@@ -191,7 +191,7 @@ unfolding computes
 two-run = tried twoObjects 3 _ refl
 
 pub two-objects : getElem? (later twoObjects 3 .state .counts) 1 ≡ some 2
-unfolding computes taken
+unfolding computes taken takenBy
 two-objects = runs two-run .objects (sample twoObjects) memory-suffices two-can-run
 
 pub two-stops : Stops 3 (Ran.the-variants.Done 3 1)
