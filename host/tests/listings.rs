@@ -49,7 +49,9 @@ fn a_listing_breaks_off_where_reading_does() {
                 broken_off += 1;
             }
         }
-        assert_eq!(listed_bytes(&said.out), hex(&section), "{}", said.out);
+        // No bytes are written as -, and listed as none.
+        let bytes = if section.is_empty() { String::new() } else { hex(&section) };
+        assert_eq!(listed_bytes(&said.out), bytes, "{}", said.out);
     }
     assert!(whole > 100 && broken_off > 30, "{whole} and {broken_off}");
 }

@@ -87,7 +87,7 @@ impl Writer<'_> {
         groups.iter().for_each(|group| self.group(group));
     }
 
-    fn group(&mut self, group: &Group) {
+    pub fn group(&mut self, group: &Group) {
         if !(group.alone && group.definitions.len() == 1) {
             self.byte(code::GROUP);
             self.unsigned(group.definitions.len() as u32);

@@ -1,5 +1,6 @@
 //! Requests for comparing two loaders: valid ones by construction, near misses of
-//! them, sizes on both sides, and plain noise. The same seed gives the same lines.
+//! them, sizes on both sides, shapes that chance hardly makes, and plain noise. The
+//! same seed gives the same lines.
 
 pub mod at_size;
 pub mod dead_code;
@@ -13,6 +14,10 @@ pub mod random;
 pub mod spoil_body;
 pub mod spoil_bytes;
 pub mod spoil_section;
+pub mod thin;
+pub mod thin_high;
+pub mod thin_lists;
+pub mod thin_rules;
 pub mod value_types;
 
 use crate::lines::hex;
@@ -47,6 +52,7 @@ fn request(random: &mut Random, small: bool) -> String {
         540..=549 => at_size::room_request(random, small),
         550..=559 => at_size::small_size_request(random),
         560..=599 if !small => at_size::size_request(random),
+        600..=639 => thin::thin_request(random, small),
         _ => run_request(random, small),
     }
 }

@@ -1,0 +1,156 @@
+//! Shapes that lie high: type numbers near 200 and 255, places above 16,383.
+
+use super::encode::{Group, Writer};
+use super::random::Random;
+use super::thin::{about_body, about_section, alone, body_of};
+use super::thin::{open_function, open_struct, section_of};
+use crate::lines::hex;
+use crate::sizes;
+use crate::syntax::{Definition, Field, Form, Heap, Instruction, ValueType};
+
+fn heap(random: &mut Random, number: usize) -> Heap {
+    match random.one_in(2) {
+        true => Heap::Exact(number as u32),
+        false => Heap::Defined(number as u32),
+    }
+}
+
+fn one_field(value: ValueType) -> Form {
+    Form::Struct(vec![Field { value, mutable: false }])
+}
+
+/// Structs alone, then a group that ends near type 200 or 255 and whose numbers are
+/// named in it or in a body: the last in reach, or the first that is not.
+pub fn high_numbers(random: &mut Random) -> String {
+    let end = random.pick(&[199, 200, 201, 202, 203, 254, 255, 256, 256, 256]);
+    let size = random.between(3, 6);
+    let start = end - size;
+    let named = random.pick(&[start - 1, start, end - 1, end, end]);
+    let mut last = vec![open_struct(None); size - 1];
+    last.push(open_function(Vec::new(), Vec::new()));
+    if random.one_in(2) {
+        let section = section_of(random, &high_groups(start, last));
+        return body_naming(random, &section, end, named);
+    }
+    let namer = random.below(size - 1);
+    match random.below(4) {
+        0 => last[namer].supertypes = vec![named as u32],
+        1 => {
+            // The last struct describes the first one, or one that is absent.
+            let described = if named == end { end } else { start };
+            last[0].descriptor = Some(end as u32 - 2);
+            last[size - 2].describes = Some(described as u32);
+        }
+        2 => last[namer].form = one_field(ValueType::nullable(heap(random, named))),
+        _ => {
+            let value = ValueType::nullable(heap(random, named));
+            last[size - 1] = open_function(vec![value], vec![value]);
+        }
+    }
+    let mut groups = high_groups(start, last);
+    if random.one_in(6) {
+        // A number that is there, but in a later group.
+        groups[start - 1].definitions[0].form = one_field(ValueType::nullable(heap(random, named)));
+    }
+    let section = section_of(random, &groups);
+    about_section(random, &section, end)
+}
+
+fn high_groups(start: usize, last: Vec<Definition>) -> Vec<Group> {
+    let alone = Group { alone: true, definitions: vec![open_struct(None)] };
+    let mut groups = vec![alone; start];
+    groups.push(Group { alone: false, definitions: last });
+    groups
+}
+
+/// A body of the last type, which is a function.
+fn body_naming(random: &mut Random, section: &[u8], end: usize, named: usize) -> String {
+    let heap = heap(random, named);
+    let made = Instruction::StructNewDefault(named as u32);
+    let code = match random.below(3) {
+        0 => vec![Instruction::RefNull(heap), Instruction::Drop],
+        1 => vec![made, Instruction::Drop],
+        _ => vec![made, Instruction::LocalSet(0)],
+    };
+    let local = matches!(code[1], Instruction::LocalSet(_)).then_some(ValueType::nullable(heap));
+    let body = body_of(random, local.as_slice(), &[&code[..], &[Instruction::End]].concat());
+    about_body(random, section, end - 1, &body)
+}
+
+/// Above it an end needs more than 14 bits.
+const HIGH: usize = 16_383;
+
+/// Empty groups or full structs, then three types; the last ends near 16,383, near the
+/// greatest place, or between.
+pub fn high_places(random: &mut Random) -> String {
+    let most = sizes::INPUT_BYTES;
+    let near = random.between(HIGH - 2, HIGH + 60);
+    let end = random.pick(&[HIGH, HIGH + 1, near, near, most - 1, most, most, most + 1]);
+    let end = if random.one_in(3) { random.between(HIGH, most) } else { end };
+    let full = random.pick(&[0, 0, 1, 40, 120]);
+    let last = last_types(random, full);
+    let mut writer = Writer::new(random);
+    last.iter().for_each(|group| writer.group(group));
+    let last_bytes = writer.bytes;
+    let before = full * FULL_STRUCT_BYTES + last_bytes.len();
+    let empty = empty_groups(random, end - COUNT_BYTES - before);
+    let count = padded_count(empty.len() + full + last.len());
+    let section = [&count[..], &full_struct().repeat(full), &empty.concat(), &last_bytes].concat();
+    let types = full + last.len();
+    if random.one_in(3) {
+        let code = [Instruction::RefNull(Heap::Defined(types as u32 - 2)), Instruction::End];
+        let body = body_of(random, &[], &code);
+        return about_body(random, &section, types - 1, &body);
+    }
+    if random.one_in(8) {
+        // Cut inside the last definition, or with a byte too many.
+        let cut = section.len() - random.between(1, 4);
+        let beyond = [&section[..], &[0x00]].concat();
+        let spoilt = random.pick(&[&section[..cut], &beyond]);
+        return format!("S {}", hex(spoilt));
+    }
+    about_section(random, &section, types)
+}
+
+/// A struct, one below it and a function that gives it; now and then against a rule.
+fn last_types(random: &mut Random, first: usize) -> Vec<Group> {
+    let upper = Definition { form: one_field(ValueType::I32), ..open_struct(None) };
+    let fault = random.below(8);
+    let value = if fault == 0 { ValueType::I64 } else { ValueType::I32 };
+    let lower = Definition { form: one_field(value), ..open_struct(Some(first as u32)) };
+    let given = first + if fault == 1 { 3 } else { 1 };
+    let result = ValueType::nullable(Heap::Defined(given as u32));
+    alone(vec![upper, lower, open_function(Vec::new(), vec![result])])
+}
+
+const FULL_STRUCT_BYTES: usize = 2 + 2 * sizes::ENTRIES;
+
+/// 64 fields of two bytes each.
+fn full_struct() -> Vec<u8> {
+    let fields = [0x7F, 0x01].repeat(sizes::ENTRIES);
+    [&[0x5F, sizes::ENTRIES as u8], &fields[..]].concat()
+}
+
+/// Groups of no types that are so many bytes long together: each is 4E and a zero of
+/// one byte to five.
+fn empty_groups(random: &mut Random, length: usize) -> Vec<Vec<u8>> {
+    let usual = random.pick(&[2, 3, 6]);
+    let mut left = length;
+    let mut groups = Vec::new();
+    while left > 0 {
+        let bytes = if left <= 6 { left } else { usual.min(left - 2) };
+        let mut group = vec![0x80; bytes];
+        group[0] = 0x4E;
+        group[bytes - 1] = 0x00;
+        groups.push(group);
+        left -= bytes;
+    }
+    groups
+}
+
+/// The count of groups always takes this many bytes.
+const COUNT_BYTES: usize = 3;
+
+fn padded_count(count: usize) -> [u8; COUNT_BYTES] {
+    [count as u8 | 0x80, (count >> 7) as u8 | 0x80, (count >> 14) as u8]
+}
