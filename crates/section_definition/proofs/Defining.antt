@@ -7,6 +7,8 @@ use mathlib.Core.List.{List, [], _∷_, _++_, map}
 use native.Mathlib.Omega.{arith}
 use native.Mathlib.Nat.{le-trans}
 use lib.ListN.{length}
+use mir.Syntax.{w64}
+use mir.Val.{Fits}
 use Rattle.scope.specs.Reading.{Read, got, refused, then}
 use Rattle.scope.specs.Syntax.{Form, Definition}
 use Rattle.scope.specs.Sections.{Head, headAt, clauseAt, describesCode, descriptorCode, formAt, definitionAt}
@@ -87,8 +89,8 @@ front-inside s at {x} {n} e = go (front-ends s at) e
     go (reaches {next = m} a b) q = let same : m ≡ n = cc in (omega arith, omega arith)
 
 module _ (s : List ℕ) (at : ℕ) {r : Front} (a : r ≡ frontIs (frontAt s at)) where
-  pub definition-refused : (reach : ℕ) (rows : List ℕ) (line : ℕ) (codes : List ℕ) (used : ℕ) {k place : ℕ} → r ≡ Front.the-variants.Refused k place → DefinitionPut reach s at rows rows line codes codes used (DefinitionRead.the-variants.Refused k place)
-  definition-refused reach rows line codes used {k} {place} e =
+  pub definition-refused : (reach : ℕ) (rows : List ℕ) (line : ℕ) (codes : List ℕ) (base filled : ℕ) {k place : ℕ} → r ≡ Front.the-variants.Refused k place → DefinitionPut reach s at rows rows line codes codes base filled (DefinitionRead.the-variants.Refused k place)
+  definition-refused reach rows line codes base filled {k} {place} e =
       let none : definitionAt reach s at ≡ refused k place = definition-is reach s at ∙ rw (front-refused (frontAt s at) a e) in
       record {
         answer = rw none;
@@ -99,12 +101,13 @@ module _ (s : List ℕ) (at : ℕ) {r : Front} (a : r ≡ frontIs (frontAt s at)
       }
 
   module _ {i f g d e n : ℕ} (is : r ≡ Front.the-variants.Got i f g d e n) where
-    pub form-place : {rows codes : List ℕ} {line used : ℕ} → Place s rows codes at line used → Place s rows codes n line used
+    pub form-place : {rows codes : List ℕ} {line used filled : ℕ} → Place s rows codes at line used filled → Place s rows codes n line used filled
     form-place place =
         let (x, read, same) = front-got (frontAt s at) a is in
         let inside = front-inside s at read in
         record {
-          room = record { behind = le-trans (place .room .behind) (inside .0); inside = inside .1; enough = place .room .enough; small = place .room .small };
+          room = record { behind = le-trans (place .room .behind) (inside .0); inside = inside .1; enough = omega (arith, place .room .enough, inside .0); small = place .room .small };
+          behind = le-trans (place .behind) (inside .0);
           line = place .line;
         }
 
@@ -118,10 +121,10 @@ module _ (s : List ℕ) (at : ℕ) {r : Front} (a : r ≡ frontIs (frontAt s at)
         let a₅ : e ≡ orZero (keptOption (x .clauses .descriptor)) = cc in
         rw (a₁, a₂, a₃, a₄, a₅)
 
-    definition-read : {reach line used : ℕ} {rows rows′ codes codes′ : List ℕ} {q : DefinitionRead} (x : FrontOf) → frontAt s at ≡ got x n → Front.the-variants.Got i f g d e n ≡ frontIs (got x n) → FormedRead (rowOf i f d e at reach used g) s n rows rows′ line codes codes′ used q → DefinitionPut reach s at rows rows′ line codes codes′ used q
-    definition-read {reach} {line} {used} {rows} {rows′} {codes} {codes′} {q} x read same b =
+    definition-read : {reach line base filled : ℕ} {rows rows′ codes codes′ : List ℕ} {q : DefinitionRead} (x : FrontOf) → frontAt s at ≡ got x n → Front.the-variants.Got i f g d e n ≡ frontIs (got x n) → FormedRead (rowOf i f d e at reach (base + filled) g) s n rows rows′ line codes codes′ filled q → DefinitionPut reach s at rows rows′ line codes codes′ base filled q
+    definition-read {reach} {line} {base} {filled} {rows} {rows′} {codes} {codes′} {q} x read same b =
         record {
-          answer = b .answer ∙ told (formAt s n) ∙ ap (definitionIs used) (sym whole);
+          answer = b .answer ∙ told (formAt s n) ∙ ap (definitionIs filled) (sym whole);
           rowPut = λ y end h. put (formAt s n) refl y end (sym whole ∙ h);
           codesPut = λ y end h. coded (formAt s n) refl y end (sym whole ∙ h);
           rowsKept = b .rowsKept;
@@ -131,24 +134,27 @@ module _ (s : List ℕ) (at : ℕ) {r : Front} (a : r ≡ frontIs (frontAt s at)
         whole : definitionAt reach s at ≡ then (formAt s n) (λ k end. got (defined x k at end reach) end)
         whole = definition-is reach s at ∙ rw read
 
-        told : (o : Read Form) → formedIs used o ≡ definitionIs used (then o (λ k end. got (defined x k at end reach) end))
+        told : (o : Read Form) → formedIs filled o ≡ definitionIs filled (then o (λ k end. got (defined x k at end reach) end))
         told (got k end) = refl
         told (refused m p) = refl
 
-        put : (o : Read Form) → formAt s n ≡ o → (y : Definition) (end : ℕ) → then o (λ k stop. got (defined x k at stop reach) stop) ≡ got y end → Puts rows rows′ line (map low (row used (keptDefinition y)))
+        put : (o : Read Form) → formAt s n ≡ o → (y : Definition) (end : ℕ) → then o (λ k stop. got (defined x k at stop reach) stop) ≡ got y end → Puts rows rows′ line (map low (row (base + filled) (keptDefinition y)))
         put (refused m p) u y end h = impossible cc
         put (got k stop) u y end h =
             let it : defined x k at stop reach ≡ y = cc in
-            rw (← it, ← same-row x k reach used stop same) (b .rowPut k stop u)
+            rw (← it, ← same-row x k reach (base + filled) stop same) (b .rowPut k stop u)
 
-        coded : (o : Read Form) → formAt s n ≡ o → (y : Definition) (end : ℕ) → then o (λ k stop. got (defined x k at stop reach) stop) ≡ got y end → Puts codes codes′ used (formCodes (keptForm (y .form)))
+        coded : (o : Read Form) → formAt s n ≡ o → (y : Definition) (end : ℕ) → then o (λ k stop. got (defined x k at stop reach) stop) ≡ got y end → Puts codes codes′ filled (formCodes (keptForm (y .form)))
         coded (refused m p) u y end h = impossible cc
         coded (got k stop) u y end h = let it : defined x k at stop reach ≡ y = cc in rw (← it) (b .codesPut k stop u)
 
-    pub definition-got : {reach line used : ℕ} {rows rows′ codes codes′ : List ℕ} {q : DefinitionRead} → FormedRead (rowOf i f d e at reach used g) s n rows rows′ line codes codes′ used q → DefinitionPut reach s at rows rows′ line codes codes′ used q
+    pub definition-got : {reach line base filled : ℕ} {rows rows′ codes codes′ : List ℕ} {q : DefinitionRead} → FormedRead (rowOf i f d e at reach (base + filled) g) s n rows rows′ line codes codes′ filled q → DefinitionPut reach s at rows rows′ line codes codes′ base filled q
     definition-got b = let (x, read, same) = front-got (frontAt s at) a is in definition-read x read same b
 
-pub ruleset definition-exits = (definition-refused, form-place, definition-got)
+pub used-fits : {s rows codes : List ℕ} {at line used filled : ℕ} → Place s rows codes at line used filled → Fits w64 used
+used-fits place = record { fits = omega (arith, place .behind, place .room .inside, place .room .small) }
+
+pub ruleset definition-exits = (definition-refused, form-place, definition-got, used-fits)
 
 -- a definition's codes took a byte each
 pub definition-ahead : (reach : ℕ) (s : List ℕ) (at : ℕ) {y : Definition} {end : ℕ} → definitionAt reach s at ≡ got y end → at + length (formCodes (keptForm (y .form))) < end
@@ -169,10 +175,10 @@ definition-ahead reach s at {y} {end} e = go (frontAt s at) refl (sym (definitio
 
 -- the answer, taken apart
 
-pub definition-inv : (used : ℕ) (o : Read Definition) {r : DefinitionRead} {next more : ℕ} → r ≡ definitionIs used o → r ≡ DefinitionRead.the-variants.Got next more → (d : Definition) × (o ≡ got d next) × (more ≡ used + length (formCodes (keptForm (d .form))))
-definition-inv used (got d m) {next = next} p q = let e : m ≡ next = cc in (d, ap (got d) e, cc)
-definition-inv used (refused k m) p q = impossible cc
+pub definition-inv : (filled : ℕ) (o : Read Definition) {r : DefinitionRead} {next more : ℕ} → r ≡ definitionIs filled o → r ≡ DefinitionRead.the-variants.Got next more → (d : Definition) × (o ≡ got d next) × (more ≡ filled + length (formCodes (keptForm (d .form))))
+definition-inv filled (got d m) {next = next} p q = let e : m ≡ next = cc in (d, ap (got d) e, cc)
+definition-inv filled (refused k m) p q = impossible cc
 
-pub definition-refused-inv : (used : ℕ) (o : Read Definition) {r : DefinitionRead} {k place : ℕ} → r ≡ definitionIs used o → r ≡ DefinitionRead.the-variants.Refused k place → o ≡ refused k place
-definition-refused-inv used (got d m) p q = impossible cc
-definition-refused-inv used (refused n m) p q = cc
+pub definition-refused-inv : (filled : ℕ) (o : Read Definition) {r : DefinitionRead} {k place : ℕ} → r ≡ definitionIs filled o → r ≡ DefinitionRead.the-variants.Refused k place → o ≡ refused k place
+definition-refused-inv filled (got d m) p q = impossible cc
+definition-refused-inv filled (refused n m) p q = cc

@@ -30,30 +30,33 @@ unfoldable pub rowOf : ℕ → ℕ → ℕ → ℕ → ℕ → ℕ → ℕ → �
 rowOf opens first described describing from reach used further f to =
     map low (formWords f ++ opens ∷ first ∷ described ∷ describing ∷ from ∷ to ∷ reach ∷ used ∷ further ∷ [])
 
--- the table has room for the row and for the codes
-pub record Place (s rows codes : List ℕ) (at row used : ℕ) : Type 0 where
-  pub room : Room s codes at used
+-- There is room for the row, and in the part of the codes that is filled so far, for codes. `used` codes of the whole are
+-- before, and each took a byte.
+pub record Place (s rows codes : List ℕ) (at row used filled : ℕ) : Type 0 where
+  pub room : Room s codes at filled
+  pub behind : used ≤ at
   pub line : row + rowSpan ≤ length rows
 
 abbrev pub formedIs : ℕ → Read Form → DefinitionRead
-formedIs used (got f end) = DefinitionRead.the-variants.Got end (used + length (formCodes (keptForm f)))
-formedIs used (refused n p) = DefinitionRead.the-variants.Refused n p
+formedIs filled (got f end) = DefinitionRead.the-variants.Got end (filled + length (formCodes (keptForm f)))
+formedIs filled (refused n p) = DefinitionRead.the-variants.Refused n p
 
 -- a form that was read, with the row that is made of it
-pub record FormedRead (made : Form → ℕ → List ℕ) (s : List ℕ) (at : ℕ) (rows rows′ : List ℕ) (row : ℕ) (codes codes′ : List ℕ) (used : ℕ) (r : DefinitionRead) : Type 0 where
-  pub answer : r ≡ formedIs used (formAt s at)
+pub record FormedRead (made : Form → ℕ → List ℕ) (s : List ℕ) (at : ℕ) (rows rows′ : List ℕ) (row : ℕ) (codes codes′ : List ℕ) (filled : ℕ) (r : DefinitionRead) : Type 0 where
+  pub answer : r ≡ formedIs filled (formAt s at)
   pub rowPut : (f : Form) (end : ℕ) → formAt s at ≡ got f end → Puts rows rows′ row (made (keptForm f) end)
-  pub codesPut : (f : Form) (end : ℕ) → formAt s at ≡ got f end → Puts codes codes′ used (formCodes (keptForm f))
+  pub codesPut : (f : Form) (end : ℕ) → formAt s at ≡ got f end → Puts codes codes′ filled (formCodes (keptForm f))
   pub rowsKept : length rows′ ≡ length rows
   pub codesKept : length codes′ ≡ length codes
 
 abbrev pub definitionIs : ℕ → Read Definition → DefinitionRead
-definitionIs used (got d end) = DefinitionRead.the-variants.Got end (used + length (formCodes (keptForm (d .form))))
-definitionIs used (refused n p) = DefinitionRead.the-variants.Refused n p
+definitionIs filled (got d end) = DefinitionRead.the-variants.Got end (filled + length (formCodes (keptForm (d .form))))
+definitionIs filled (refused n p) = DefinitionRead.the-variants.Refused n p
 
-pub record DefinitionPut (reach : ℕ) (s : List ℕ) (at : ℕ) (rows rows′ : List ℕ) (line : ℕ) (codes codes′ : List ℕ) (used : ℕ) (r : DefinitionRead) : Type 0 where
-  pub answer : r ≡ definitionIs used (definitionAt reach s at)
-  pub rowPut : (d : Definition) (end : ℕ) → definitionAt reach s at ≡ got d end → Puts rows rows′ line (map low (row used (keptDefinition d)))
-  pub codesPut : (d : Definition) (end : ℕ) → definitionAt reach s at ≡ got d end → Puts codes codes′ used (formCodes (keptForm (d .form)))
+-- the definition's row, and its codes in the part before which the whole has `base` codes
+pub record DefinitionPut (reach : ℕ) (s : List ℕ) (at : ℕ) (rows rows′ : List ℕ) (line : ℕ) (codes codes′ : List ℕ) (base filled : ℕ) (r : DefinitionRead) : Type 0 where
+  pub answer : r ≡ definitionIs filled (definitionAt reach s at)
+  pub rowPut : (d : Definition) (end : ℕ) → definitionAt reach s at ≡ got d end → Puts rows rows′ line (map low (row (base + filled) (keptDefinition d)))
+  pub codesPut : (d : Definition) (end : ℕ) → definitionAt reach s at ≡ got d end → Puts codes codes′ filled (formCodes (keptForm (d .form)))
   pub rowsKept : length rows′ ≡ length rows
   pub codesKept : length codes′ ≡ length codes

@@ -1,4 +1,5 @@
-// Reading a definition: what stands before its form, its form, and its row in the lent table.
+// Reading a definition: what stands before its form, its form, and its row. Of the table's codes a part is lent: a code is
+// put where the part is filled so far, and the row says where it lies in the whole.
 use section_clauses::Front;
 use section_forms::FormRead;
 ghost use Prim.Native.Nat.{_+_, _≤_};
@@ -44,13 +45,13 @@ fn put_row(
     put_four(m, at + 8, to, reach, used, further);
 }
 
-// The place after a definition and the codes that are used then; or a refusal's number and place.
+// The place after a definition and how far the part is filled then; or a refusal's number and place.
 pub enum DefinitionRead {
     Got(usize, u64),
     Refused(u64, usize),
 }
 
-// The form of a definition that began at `from`, and then its row.
+// The form of a definition that began at `from`, and then its row, which says that `used` codes are before its own.
 fn formed_at(
     s: &[u8],
     at: usize,
@@ -65,13 +66,14 @@ fn formed_at(
     row: u64,
     codes: &mut [u16],
     used: u64,
+    filled: u64,
 ) -> DefinitionRead
-    requires { ⌜ Place (now s) (now rows) (now codes) at row used ⌝ }
+    requires { ⌜ Place (now s) (now rows) (now codes) at row used filled ⌝ }
     ensures { λ r.
         let words = rowOf opens first described describing from reach used further in
-        ⌜ FormedRead words (now (s .entry)) at (now (rows .entry)) (now (rows .exit)) row (now (codes .entry)) (now (codes .exit)) used r ⌝ }
+        ⌜ FormedRead words (now (s .entry)) at (now (rows .entry)) (now (rows .exit)) row (now (codes .entry)) (now (codes .exit)) filled r ⌝ }
 {
-    let form = section_forms::form_at(s, at, codes, used);
+    let form = section_forms::form_at(s, at, codes, filled);
     match form {
         FormRead::Refused(number, place) => DefinitionRead::Refused(number, place),
         FormRead::Struct(n, end) => {
@@ -91,7 +93,8 @@ fn formed_at(
                 used,
                 further,
             );
-            DefinitionRead::Got(end, used + n)
+            let full = filled + n;
+            DefinitionRead::Got(end, full)
         }
         FormRead::Func(n, m, end) => {
             put_row(
@@ -110,12 +113,15 @@ fn formed_at(
                 used,
                 further,
             );
-            DefinitionRead::Got(end, used + n + m)
+            let parameters = filled + n;
+            let full = parameters + m;
+            DefinitionRead::Got(end, full)
         }
     }
 }
 
-// A definition of a group that reaches so far, its row put at `row` and its codes from `used` on.
+// A definition of a group that reaches so far, its row put at `row` and its codes into the part from `filled` on; `base`
+// codes are before the part.
 pub fn definition_at(
     s: &[u8],
     at: usize,
@@ -123,11 +129,13 @@ pub fn definition_at(
     rows: &mut [u16],
     row: u64,
     codes: &mut [u16],
-    used: u64,
+    base: u64,
+    filled: u64,
 ) -> DefinitionRead
-    requires { ⌜ Place (now s) (now rows) (now codes) at row used ⌝ }
-    ensures { λ r. ⌜ DefinitionPut reach (now (s .entry)) at (now (rows .entry)) (now (rows .exit)) row (now (codes .entry)) (now (codes .exit)) used r ⌝ }
+    requires { ⌜ Place (now s) (now rows) (now codes) at row (base + filled) filled ⌝ }
+    ensures { λ r. ⌜ DefinitionPut reach (now (s .entry)) at (now (rows .entry)) (now (rows .exit)) row (now (codes .entry)) (now (codes .exit)) base filled r ⌝ }
 {
+    let used = base + filled;
     let front = section_clauses::front_at(s, at);
     match front {
         Front::Refused(number, place) => DefinitionRead::Refused(number, place),
@@ -145,6 +153,7 @@ pub fn definition_at(
             row,
             codes,
             used,
+            filled,
         ),
     }
 }

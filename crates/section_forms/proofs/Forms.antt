@@ -61,7 +61,7 @@ module _ (s : List ℕ) (at : ℕ) {c : Natural} (a : c ≡ naturalIs (u32 s at)
     pub few-room : {codes : List ℕ} {used : ℕ} → Room s codes at used → Room s codes next used
     few-room room =
         let ends = never-back (unsigned-takes 32) s at (natural-got (u32 s at) a e) in
-        record { behind = omega (arith, room .behind, ends .0); inside = ends .1; enough = room .enough; small = room .small }
+        record { behind = omega (arith, room .behind, ends .0); inside = ends .1; enough = omega (arith, room .enough, ends .0); small = room .small }
 
 pub ruleset few-exits = (few-refused, few-got, few-room)
 
@@ -174,7 +174,7 @@ pub ruleset func-exits = (func-refused, results-room, results-fit, func-got)
 module _ {s : List ℕ} {at : ℕ} {r : Byte} (a : ByteAt s at r) where
   pub form-room : {codes : List ℕ} {used b : ℕ} → r ≡ Byte.the-variants.Is b → Room s codes at used → Room s codes (at + 1) used
   form-room {b = b} e room =
-      let h = a .small b e .1 in record { behind = omega (arith, room .behind); inside = omega arith; enough = room .enough; small = room .small }
+      let h = a .small b e .1 in record { behind = omega (arith, room .behind); inside = omega arith; enough = omega (arith, room .enough); small = room .small }
 
   no-form : (codes : List ℕ) (used : ℕ) {k place : ℕ} → formAt s at ≡ refused k place → PartRead formAt s at codes codes used (FormRead.the-variants.Refused k place)
   no-form codes used e = record { answer = rw e; memory = λ f next g. impossible cc; size = refl }

@@ -1,5 +1,5 @@
 -- What the readers of forms answer and leave in the table, by the definitions of document 01.
-use Prim.Native.Nat.{ℕ, _≤_}
+use Prim.Native.Nat.{ℕ, _+_, _≤_}
 use mathlib.Core.Path.{_≡_}
 use mathlib.Core.Bool.{Bool, true, false}
 use mathlib.Core.List.{List, [], _∷_, map}
@@ -17,12 +17,12 @@ use Rattle.section_forms.specs.declared.Entries
 use Rattle.section_forms.specs.declared.FormRead.{FormRead}
 use Rattle.section_forms.specs.declared.FormRead
 
--- The table has room for what follows: each code that was put took a byte of the section, and the codes have as many
--- words as a section may have bytes.
+-- There is room for what follows: each code that was put took a byte of the section, and behind those there is a word for
+-- each byte that is still to come.
 pub record Room (s codes : List ℕ) (at used : ℕ) : Type 0 where
   pub behind : used ≤ at
   pub inside : at ≤ length s
-  pub enough : length s ≤ length codes
+  pub enough : used + length s ≤ at + length codes
   pub small : length s ≤ mostBytes
 
 -- codes in place of what was read

@@ -25,7 +25,7 @@ fn code_at(s: &[u8], at: usize, fields: bool) -> Coded
     type_read::val_at(s, at)
 }
 
-// n entries of a list of at most 64, their codes put into the table from `used` on.
+// n entries of a list of at most 64, their codes put from `used` on.
 fn entries_at(s: &[u8], at: usize, n: u64, fields: bool, codes: &mut [u16], used: u64) -> Entries
     requires { ⌜ Room (now s) (now codes) at used ⌝ }
     ensures { λ r. ⌜ EntriesRead (codeAt fields) n (now (s .entry)) at (now (codes .entry)) (now (codes .exit)) used r ⌝ }

@@ -30,18 +30,19 @@ use Rattle.section_group.specs.declared.GroupRead.{GroupRead}
 use Rattle.section_group.specs.declared.GroupRead
 use Rattle.section_group.specs.Lent.{Lent, entriesAt, keptAll, groupIs, GroupPut}
 
-pub record Grouped (reach first n : ℕ) (s : List ℕ) (at : ℕ) (rows₀ rows codes₀ codes : List ℕ) (used next count taken : ℕ) : Type 0 where
+pub record Grouped (reach first n : ℕ) (s : List ℕ) (at : ℕ) (rows₀ rows codes₀ codes : List ℕ) (used next count filled : ℕ) : Type 0 where
   pub done : List Definition
   pub counted : length done ≡ count
   pub fewer : count ≤ n
   pub few : first + count ≤ mostTypes
   pub same : entriesAt reach first n s at ≡ onto done (entries (definitionAt reach) (mostTypes - first - count) (n - count) s next)
-  pub takes : taken ≡ used + length (codesOf (keptAll done))
+  pub fills : filled ≡ length (codesOf (keptAll done))
   pub rowsPut : Puts rows₀ rows 0 (map low (rowsOf used (keptAll done)))
-  pub codesPut : Puts codes₀ codes used (codesOf (keptAll done))
-  pub room : Room s codes next taken
+  pub codesPut : Puts codes₀ codes 0 (codesOf (keptAll done))
+  pub room : Room s codes next filled
+  pub behind : used + filled ≤ next
 
-pub grouped-first : {s rows codes : List ℕ} {at first used : ℕ} (reach n : ℕ) → Lent s rows codes at first used → Grouped reach first n s at rows rows codes codes used at 0 used
+pub grouped-first : {s rows codes : List ℕ} {at first used : ℕ} (reach n : ℕ) → Lent s rows codes at first used → Grouped reach first n s at rows rows codes codes used at 0 0
 unfolding rowsOf codesOf
 grouped-first {s} {rows} {codes} {at} {first} {used} reach n lent =
     record {
@@ -53,10 +54,11 @@ grouped-first {s} {rows} {codes} {at} {first} {used} reach n lent =
           let a : n - 0 ≡ n = omega arith in
           let b : mostTypes - first - 0 ≡ mostTypes - first = omega arith in
           rw (a, b) (onto-none (entriesAt reach first n s at));
-      takes = omega arith;
+      fills = refl;
       rowsPut = puts-none rows 0 (omega arith);
-      codesPut = puts-none codes used (omega (arith, lent .room .behind, lent .room .inside, lent .room .enough));
+      codesPut = puts-none codes 0 (omega arith);
       room = lent .room;
+      behind = omega (arith, lent .behind);
     }
 
 pub one-row : (used : ℕ) (d : Definition) → rowsOf used (keptDefinition d ∷ []) ≡ row used (keptDefinition d)
@@ -83,24 +85,27 @@ more-codes ds d =
 pub rows-done : (used : ℕ) (ds : List Definition) → length (map low (rowsOf used (keptAll ds))) ≡ rowSpan * length ds
 rows-done used ds = length-map (rowsOf used (keptAll ds)) low ∙ rows-length used (keptAll ds) ∙ ap (λ (n : ℕ). rowSpan * n) (length-map ds keptDefinition)
 
-module _ {reach first n : ℕ} {s : List ℕ} {at : ℕ} {rows₀ rows codes₀ codes : List ℕ} {used next count taken : ℕ} (p : Grouped reach first n s at rows₀ rows codes₀ codes used next count taken) where
+module _ {reach first n : ℕ} {s : List ℕ} {at : ℕ} {rows₀ rows codes₀ codes : List ℕ} {used next count filled : ℕ} (p : Grouped reach first n s at rows₀ rows codes₀ codes used next count filled) where
   pub grouped-rows-size : length rows ≡ length rows₀
   grouped-rows-size = puts-length (p .rowsPut)
 
   pub grouped-codes-size : length codes ≡ length codes₀
   grouped-codes-size = puts-length (p .codesPut)
 
-  pub grouped-done : n ≤ count → GroupPut (entriesAt reach first n) s at rows₀ rows codes₀ codes used (GroupRead.the-variants.Got count next taken)
+  pub grouped-done : n ≤ count → GroupPut (entriesAt reach first n) s at rows₀ rows codes₀ codes used (GroupRead.the-variants.Got count next (used + filled))
   grouped-done h =
       let all : entriesAt reach first n s at ≡ got (p .done ++ []) next = p .same ∙ ap (onto (p .done)) (entries-done (definitionAt reach) (mostTypes - first - count) (n - count) s next (omega arith)) in
       let whole : entriesAt reach first n s at ≡ got (p .done) next = all ∙ ap (λ ds. got ds next) (append-nil (p .done)) in
       record {
-        answer = rw (whole, p .takes, p .counted);
+        answer = rw (whole, p .fills, p .counted);
         rowsPut = λ ds stop e. let same : p .done ≡ ds = cc in rw (← same) (p .rowsPut);
         codesPut = λ ds stop e. let same : p .done ≡ ds = cc in rw (← same) (p .codesPut);
         rowsKept = grouped-rows-size;
         codesKept = grouped-codes-size;
       }
+
+  pub grouped-taken-fits : Fits w64 (used + filled)
+  grouped-taken-fits = record { fits = omega (arith, p .behind, p .room .inside, p .room .small) }
 
   pub grouped-number-fits : Fits w64 (first + count)
   grouped-number-fits = let f = p .few in record { fits = omega arith }
@@ -128,13 +133,13 @@ module _ {reach first n : ℕ} {s : List ℕ} {at : ℕ} {rows₀ rows codes₀ 
       pub grouped-count-fits : Fits w64 (count + 1)
       grouped-count-fits = record { fits = omega arith }
 
-      pub grouped-place : Lent s rows₀ codes₀ at first used → Place s rows codes next (rowSpan * count) taken
+      pub grouped-place : Lent s rows₀ codes₀ at first used → Place s rows codes next (rowSpan * count) (used + filled) filled
       grouped-place lent =
           let size = grouped-rows-size in
           let lines = lent .lines in
-          record { room = p .room; line = omega arith }
+          record { room = p .room; behind = p .behind; line = omega arith }
 
-      module _ {rows′ codes′ : List ℕ} {r : DefinitionRead} (a : DefinitionPut reach s next rows rows′ (rowSpan * count) codes codes′ taken r) where
+      module _ {rows′ codes′ : List ℕ} {r : DefinitionRead} (a : DefinitionPut reach s next rows rows′ (rowSpan * count) codes codes′ used filled r) where
         pub grouped-rows-kept : length rows′ ≡ length rows₀
         grouped-rows-kept = a .rowsKept ∙ grouped-rows-size
 
@@ -145,18 +150,18 @@ module _ {reach first n : ℕ} {s : List ℕ} {at : ℕ} {rows₀ rows codes₀ 
         grouped-refused e =
             no-group grouped-rows-kept grouped-codes-kept
             (p .same
-            ∙ ap (onto (p .done)) (entries-refused (definitionAt reach) (mostTypes - first - count) (n - count) s next (omega arith) (omega arith) (definition-refused-inv taken (definitionAt reach s next) (a .answer) e)))
+            ∙ ap (onto (p .done)) (entries-refused (definitionAt reach) (mostTypes - first - count) (n - count) s next (omega arith) (omega arith) (definition-refused-inv filled (definitionAt reach s next) (a .answer) e)))
 
-        defined-turn : {after later : ℕ} (d : Definition) → definitionAt reach s next ≡ got d after → later ≡ taken + length (formCodes (keptForm (d .form))) → Grouped reach first n s at rows₀ rows′ codes₀ codes′ used after (count + 1) later
+        defined-turn : {after later : ℕ} (d : Definition) → definitionAt reach s next ≡ got d after → later ≡ filled + length (formCodes (keptForm (d .form))) → Grouped reach first n s at rows₀ rows′ codes₀ codes′ used after (count + 1) later
         defined-turn {after} {later} d read count-codes =
             let q : length (p .done) ≡ count = p .counted in
-            let t : taken ≡ used + length (codesOf (keptAll (p .done))) = p .takes in
+            let t : filled ≡ length (codesOf (keptAll (p .done))) = p .fills in
             let ends = never-back (definition-takes reach) s next read in
             let ahead = definition-ahead reach s next read in
             let line : 0 + length (map low (rowsOf used (keptAll (p .done)))) ≡ rowSpan * count = (let l = rows-done used (p .done) in omega arith) in
             let put : Puts rows rows′ (0 + length (map low (rowsOf used (keptAll (p .done))))) (map low (row (used + length (codesOf (keptAll (p .done)))) (keptDefinition d))) =
             rw (line, ← t) (a .rowPut d after read) in
-            let coded : Puts codes codes′ (used + length (codesOf (keptAll (p .done)))) (formCodes (keptForm (d .form))) = rw (← t) (a .codesPut d after read) in
+            let coded : Puts codes codes′ (0 + length (codesOf (keptAll (p .done)))) (formCodes (keptForm (d .form))) = (let z : 0 + length (codesOf (keptAll (p .done))) ≡ filled = omega arith in rw z (a .codesPut d after read)) in
             let size = a .codesKept in
             record {
               done = p .done ++ d ∷ [];
@@ -168,7 +173,7 @@ module _ {reach first n : ℕ} {s : List ℕ} {at : ℕ} {rows₀ rows codes₀ 
                   ∙ ap (onto (p .done)) (entries-step (definitionAt reach) (mostTypes - first - count) (n - count) s next (omega arith) (omega arith) read)
                   ∙ onto-more (p .done) d (entries (definitionAt reach) (mostTypes - first - count - 1) (n - count - 1) s after)
                   ∙ ap₂ (λ (i j : ℕ). onto (p .done ++ d ∷ []) (entries (definitionAt reach) i j s after)) (omega arith) (omega arith);
-              takes = count-codes ∙ ap (λ (k : ℕ). k + length (formCodes (keptForm (d .form)))) t ∙ (let l : length (codesOf (keptAll (p .done ++ d ∷ []))) ≡ length (codesOf (keptAll (p .done))) + length (formCodes (keptForm (d .form))) = ap length (more-codes (p .done) d) ∙ length-append (codesOf (keptAll (p .done))) (formCodes (keptForm (d .form))) in omega arith);
+              fills = (let l : length (codesOf (keptAll (p .done ++ d ∷ []))) ≡ length (codesOf (keptAll (p .done))) + length (formCodes (keptForm (d .form))) = ap length (more-codes (p .done) d) ∙ length-append (codesOf (keptAll (p .done))) (formCodes (keptForm (d .form))) in omega arith);
               rowsPut = rw (more-rows used (p .done) d) (puts-more (p .rowsPut) put);
               codesPut = rw (more-codes (p .done) d) (puts-more (p .codesPut) coded);
               room =
@@ -178,9 +183,10 @@ module _ {reach first n : ℕ} {s : List ℕ} {at : ℕ} {rows₀ rows codes₀ 
                     enough = omega (arith, p .room .enough);
                     small = p .room .small;
                   };
+              behind = omega (arith, p .behind);
             }
 
         pub grouped-turn : {after later : ℕ} → r ≡ DefinitionRead.the-variants.Got after later → Grouped reach first n s at rows₀ rows′ codes₀ codes′ used after (count + 1) later
-        grouped-turn e = let (d, read, codes-count) = definition-inv taken (definitionAt reach s next) (a .answer) e in defined-turn d read codes-count
+        grouped-turn e = let (d, read, codes-count) = definition-inv filled (definitionAt reach s next) (a .answer) e in defined-turn d read codes-count
 
-pub ruleset group-exits = (grouped-first, grouped-rows-size, grouped-codes-size, grouped-done, grouped-number-fits, grouped-over, grouped-line-fits, grouped-count-fits, grouped-place, grouped-rows-kept, grouped-codes-kept, grouped-refused, grouped-turn)
+pub ruleset group-exits = (grouped-first, grouped-rows-size, grouped-codes-size, grouped-done, grouped-taken-fits, grouped-number-fits, grouped-over, grouped-line-fits, grouped-count-fits, grouped-place, grouped-rows-kept, grouped-codes-kept, grouped-refused, grouped-turn)

@@ -16,7 +16,7 @@ use Rattle.scope.specs.Numbers.{u32}
 use Rattle.scope.specs.Syntax.{Definition}
 use Rattle.scope.specs.Sections.{definitionAt, groupAt}
 use Rattle.scope.specs.Memory.{formCodes}
-use Rattle.scope.proofs.Forward.{unsigned-takes, never-back}
+use Rattle.scope.proofs.Forward.{unsigned-takes, definition-takes, never-back}
 use Rattle.scope.proofs.Impossible.{impossible}
 use Rattle.number.specs.declared.Byte.{Byte}
 use Rattle.number.specs.declared.Byte
@@ -32,7 +32,7 @@ use Rattle.section_forms.specs.Reads.{Room}
 use Rattle.section_definition.specs.declared.DefinitionRead.{DefinitionRead}
 use Rattle.section_definition.specs.declared.DefinitionRead
 use Rattle.section_definition.specs.Rows.{low, Place, DefinitionPut}
-use Rattle.section_definition.proofs.Defining.{definition-inv, definition-refused-inv}
+use Rattle.section_definition.proofs.Defining.{definition-ahead, definition-inv, definition-refused-inv}
 use Rattle.section_group.specs.declared.GroupRead.{GroupRead}
 use Rattle.section_group.specs.declared.GroupRead
 use Rattle.section_group.specs.Lent.{Lent, entriesAt, severalAt, aloneAt, keptAll, groupIs, GroupPut}
@@ -71,7 +71,8 @@ module _ (s : List ℕ) (at : ℕ) {c : Natural} (a : c ≡ naturalIs (u32 s at)
     several-lent lent =
         let ends = never-back (unsigned-takes 32) s at (natural-got (u32 s at) a e) in
         record {
-          room = record { behind = omega (arith, lent .room .behind); inside = ends .1; enough = lent .room .enough; small = lent .room .small };
+          room = record { behind = omega (arith, lent .room .behind); inside = ends .1; enough = omega (arith, lent .room .enough, ends .0); small = lent .room .small };
+          behind = omega (arith, lent .behind, ends .0);
           few = lent .few;
           lines = lent .lines;
         }
@@ -89,35 +90,44 @@ pub ruleset several-exits = (several-refused, several-lent, several-reach-fits, 
 pub alone-over : {first : ℕ} (s : List ℕ) (at : ℕ) (rows codes : List ℕ) (used : ℕ) → mostTypes ≤ first → GroupPut (aloneAt first) s at rows rows codes codes used (GroupRead.the-variants.Refused oversize at)
 alone-over {first} s at rows codes used h = no-put (aloneAt first) s at used refl refl (rw (le-ltb first mostTypes h))
 
-pub alone-place : {s rows codes : List ℕ} {at first used : ℕ} → first < mostTypes → Lent s rows codes at first used → Place s rows codes at 0 used
-alone-place h lent = let l = lent .lines in record { room = lent .room; line = omega arith }
+pub alone-place : {s rows codes : List ℕ} {at first used : ℕ} → first < mostTypes → Lent s rows codes at first used → Place s rows codes at 0 (used + 0) 0
+alone-place h lent = let l = lent .lines in record { room = lent .room; behind = omega (arith, lent .behind); line = omega arith }
 
 pub alone-reach-fits : (first : ℕ) → first < mostTypes → Fits w64 (first + 1)
 alone-reach-fits first h = record { fits = omega arith }
 
-module _ {s : List ℕ} {at first : ℕ} {rows rows′ codes codes′ : List ℕ} {used : ℕ} {r : DefinitionRead} (h : first < mostTypes) (a : DefinitionPut (first + 1) s at rows rows′ 0 codes codes′ used r) where
+module _ {s : List ℕ} {at first : ℕ} {rows rows′ codes codes′ : List ℕ} {used : ℕ} {r : DefinitionRead} (h : first < mostTypes) (a : DefinitionPut (first + 1) s at rows rows′ 0 codes codes′ used 0 r) where
   alone-is : {o : Read Definition} → definitionAt (first + 1) s at ≡ o → aloneAt first s at ≡ then o (λ d next. got (d ∷ []) next)
   alone-is e = rw (lt-ltb first mostTypes h, e)
 
   pub alone-refused : {k place : ℕ} → r ≡ DefinitionRead.the-variants.Refused k place → GroupPut (aloneAt first) s at rows rows′ codes codes′ used (GroupRead.the-variants.Refused k place)
   alone-refused e =
-      no-put (aloneAt first) s at used (a .rowsKept) (a .codesKept) (alone-is (definition-refused-inv used (definitionAt (first + 1) s at) (a .answer) e))
+      no-put (aloneAt first) s at used (a .rowsKept) (a .codesKept) (alone-is (definition-refused-inv 0 (definitionAt (first + 1) s at) (a .answer) e))
 
-  alone-read : {next taken : ℕ} (d : Definition) → definitionAt (first + 1) s at ≡ got d next → taken ≡ used + length (formCodes (keptForm (d .form))) → GroupPut (aloneAt first) s at rows rows′ codes codes′ used (GroupRead.the-variants.Got 1 next taken)
-  alone-read {next} {taken} d read count =
+  alone-read : {next filled : ℕ} (d : Definition) → definitionAt (first + 1) s at ≡ got d next → filled ≡ 0 + length (formCodes (keptForm (d .form))) → GroupPut (aloneAt first) s at rows rows′ codes codes′ used (GroupRead.the-variants.Got 1 next (used + filled))
+  alone-read {next} {filled} d read count =
       let whole : aloneAt first s at ≡ got (d ∷ []) next = alone-is read in
+      let fills : filled ≡ length (formCodes (keptForm (d .form))) = omega arith in
+      let none : used + 0 ≡ used = omega arith in
       record {
-        answer = rw (whole, one-codes d, count);
-        rowsPut = λ ds stop f. let same : d ∷ [] ≡ ds = cc in rw (← same, one-row used d) (a .rowPut d next read);
+        answer = rw (whole, one-codes d, fills);
+        rowsPut = λ ds stop f. let same : d ∷ [] ≡ ds = cc in rw (← same, one-row used d) (rw none at (a .rowPut d next read));
         codesPut = λ ds stop f. let same : d ∷ [] ≡ ds = cc in rw (← same, one-codes d) (a .codesPut d next read);
         rowsKept = a .rowsKept;
         codesKept = a .codesKept;
       }
 
-  pub alone-got : {next taken : ℕ} → r ≡ DefinitionRead.the-variants.Got next taken → GroupPut (aloneAt first) s at rows rows′ codes codes′ used (GroupRead.the-variants.Got 1 next taken)
-  alone-got e = let (d, read, count) = definition-inv used (definitionAt (first + 1) s at) (a .answer) e in alone-read d read count
+  pub alone-got : {next filled : ℕ} → r ≡ DefinitionRead.the-variants.Got next filled → GroupPut (aloneAt first) s at rows rows′ codes codes′ used (GroupRead.the-variants.Got 1 next (used + filled))
+  alone-got e = let (d, read, count) = definition-inv 0 (definitionAt (first + 1) s at) (a .answer) e in alone-read d read count
 
-pub ruleset alone-exits = (alone-over, alone-place, alone-reach-fits, alone-refused, alone-got)
+  pub alone-taken-fits : {next filled : ℕ} → r ≡ DefinitionRead.the-variants.Got next filled → Lent s rows codes at first used → Fits w64 (used + filled)
+  alone-taken-fits e lent =
+      let (d, read, count) = definition-inv 0 (definitionAt (first + 1) s at) (a .answer) e in
+      let ahead = definition-ahead (first + 1) s at read in
+      let ends = never-back (definition-takes (first + 1)) s at read in
+      record { fits = omega (arith, lent .behind, lent .room .small, ends .1) }
+
+pub ruleset alone-exits = (alone-over, alone-place, alone-reach-fits, alone-refused, alone-got, alone-taken-fits)
 
 -- group_at
 
@@ -131,7 +141,8 @@ module _ {s : List ℕ} {at : ℕ} {b : Byte} (a : ByteAt s at b) where
     group-lent lent =
         let h = a .small k e .1 in
         record {
-          room = record { behind = omega (arith, lent .room .behind); inside = omega arith; enough = lent .room .enough; small = lent .room .small };
+          room = record { behind = omega (arith, lent .room .behind); inside = omega arith; enough = omega (arith, lent .room .enough); small = lent .room .small };
+          behind = omega (arith, lent .behind);
           few = lent .few;
           lines = lent .lines;
         }

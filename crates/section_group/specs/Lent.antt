@@ -20,9 +20,11 @@ use Rattle.section_definition.specs.Rows.{low}
 use Rattle.section_group.specs.declared.GroupRead.{GroupRead}
 use Rattle.section_group.specs.declared.GroupRead
 
--- The rest of the table from the group's first row on: it has a row for each type that may still come.
+-- The rest of the table from the group's first row and first code on: it has a row for each type and a code for each byte
+-- that may still come. `used` codes are before it, and each took a byte.
 pub record Lent (s rows codes : List ℕ) (at first used : ℕ) : Type 0 where
-  pub room : Room s codes at used
+  pub room : Room s codes at 0
+  pub behind : used ≤ at
   pub few : first ≤ mostTypes
   pub lines : rowSpan * (mostTypes - first) ≤ length rows
 
@@ -44,10 +46,10 @@ abbrev pub groupIs : ℕ → Read (List Definition) → GroupRead
 groupIs used (got ds next) = GroupRead.the-variants.Got (length ds) next (used + length (codesOf (keptAll ds)))
 groupIs used (refused n p) = GroupRead.the-variants.Refused n p
 
--- the rows of the definitions that were read, from the first row of what was lent on, and their codes
+-- the rows of the definitions that were read, and their codes, each from the start of what was lent on
 pub record GroupPut (one : Reader (List Definition)) (s : List ℕ) (at : ℕ) (rows rows′ codes codes′ : List ℕ) (used : ℕ) (r : GroupRead) : Type 0 where
   pub answer : r ≡ groupIs used (one s at)
   pub rowsPut : (ds : List Definition) (next : ℕ) → one s at ≡ got ds next → Puts rows rows′ 0 (map low (rowsOf used (keptAll ds)))
-  pub codesPut : (ds : List Definition) (next : ℕ) → one s at ≡ got ds next → Puts codes codes′ used (codesOf (keptAll ds))
+  pub codesPut : (ds : List Definition) (next : ℕ) → one s at ≡ got ds next → Puts codes codes′ 0 (codesOf (keptAll ds))
   pub rowsKept : length rows′ ≡ length rows
   pub codesKept : length codes′ ≡ length codes

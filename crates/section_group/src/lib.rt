@@ -1,4 +1,5 @@
-// Reading a group into the lent table, of which it is lent only the rest from its first row on.
+// Reading a group into the lent table, of which it is lent only the rest: the rows from its first row on, and the codes from
+// its first code on. `used` codes of the table are before that part.
 use number::Byte;
 use number::Natural;
 use scope::refusals;
@@ -7,14 +8,13 @@ use section_definition::DefinitionRead;
 ghost use Rattle.scope.specs.Sections.{groupAt};
 ghost use Rattle.section_group.specs.Lent.{Lent, GroupPut, entriesAt, severalAt, aloneAt};
 
-// How many definitions were read, the place after them and the codes that are used then; or a refusal.
+// How many definitions were read, the place after them and how many codes of the table are used then; or a refusal.
 pub enum GroupRead {
     Got(u64, usize, u64),
     Refused(u64, usize),
 }
 
-// n definitions of a group that reaches so far and whose first type has the number `first`. `rows` starts at the group's
-// first row.
+// n definitions of a group that reaches so far and whose first type has the number `first`.
 fn entries_at(
     s: &[u8],
     at: usize,
@@ -30,7 +30,7 @@ fn entries_at(
 {
     let mut next = at;
     let mut count: u64 = 0;
-    let mut taken = used;
+    let mut filled: u64 = 0;
     while count < n {
         if sizes::MOST_TYPES <= first + count {
             return GroupRead::Refused(refusals::OVERSIZE, next);
@@ -42,7 +42,8 @@ fn entries_at(
             rows,
             sizes::ROW * count,
             codes,
-            taken,
+            used,
+            filled,
         );
         match read {
             DefinitionRead::Refused(number, place) => {
@@ -50,11 +51,12 @@ fn entries_at(
             }
             DefinitionRead::Got(after, more) => {
                 next = after;
-                taken = more;
+                filled = more;
                 count = count + 1;
             }
         }
     }
+    let taken = used + filled;
     GroupRead::Got(count, next, taken)
 }
 
@@ -92,10 +94,13 @@ fn alone_at(
     if sizes::MOST_TYPES <= first {
         return GroupRead::Refused(refusals::OVERSIZE, at);
     }
-    let read = section_definition::definition_at(s, at, first + 1, rows, 0, codes, used);
+    let read = section_definition::definition_at(s, at, first + 1, rows, 0, codes, used, 0);
     match read {
         DefinitionRead::Refused(number, place) => GroupRead::Refused(number, place),
-        DefinitionRead::Got(next, taken) => GroupRead::Got(1, next, taken),
+        DefinitionRead::Got(next, filled) => {
+            let taken = used + filled;
+            GroupRead::Got(1, next, taken)
+        }
     }
 }
 

@@ -102,7 +102,8 @@ module _ (s : List ℕ) {c : Natural} (a : c ≡ naturalIs (u32 s 0)) where
     counted-lent lent =
         let ends = never-back (unsigned-takes 32) s 0 (natural-got (u32 s 0) a e) in
         record {
-          room = record { behind = omega arith; inside = ends .1; enough = lent .room .enough; small = lent .room .small };
+          room = record { behind = omega arith; inside = ends .1; enough = omega (arith, lent .room .enough); small = lent .room .small };
+          behind = omega arith;
           few = lent .few;
           lines = lent .lines;
         }
@@ -122,6 +123,7 @@ pub section-lent : {s rows codes : List ℕ} → Enough rows codes → length s 
 section-lent enough h =
     record {
       room = record { behind = omega arith; inside = omega arith; enough = omega (arith, enough .codesEnough); small = h };
+      behind = omega arith;
       few = omega arith;
       lines = omega (arith, enough .rowsEnough);
     }

@@ -1,5 +1,5 @@
 -- The groups of a section. The loop and the definition `groupsAt` walk the same bytes; each group is lent the rest of the
--- table from its first row on, so what it puts there follows the rows of the groups before it.
+-- table from its first row and its first code on, so what it puts there follows the rows and codes of the groups before it.
 use Prim.Native.Nat.{ℕ, zero, suc, _+_, _-_, _*_, _^_, _≤_, _<_}
 use mathlib.Core.Path.{_≡_, refl, sym, ap, ap₂, _∙_}
 use mathlib.Core.List.{List, [], _∷_, _++_, map, append-assoc, append-nil, map-append}
@@ -110,6 +110,9 @@ module _ {n : ℕ} {s : List ℕ} {at : ℕ} {rows₀ rows codes₀ codes : List
   pub walked-start : rowSpan * first ≤ length rows
   walked-start = let f = p .few in let l = p .lines in let z = walked-rows-size in omega arith
 
+  pub walked-from : used ≤ length codes
+  walked-from = omega (arith, p .room .inside, p .room .enough)
+
   pub walked-done : left ≤ 0 → GroupPut (flatAt n) s at rows₀ rows codes₀ codes 0 (GroupRead.the-variants.Got first next used)
   walked-done h =
       let all : groupsAt n 0 s at ≡ got (p .done) next = p .same ∙ ap (onto (p .done)) (groups-done left first s next h) ∙ ap (λ gs. got gs next) (append-nil (p .done)) in
@@ -124,25 +127,32 @@ module _ {n : ℕ} {s : List ℕ} {at : ℕ} {rows₀ rows codes₀ codes : List
       }
 
   module _ (more : 0 < left) where
-    pub walked-lent : Lent s (midOf (rowSpan * first) (length rows - rowSpan * first) rows) codes next first used
+    pub walked-lent : Lent s (midOf (rowSpan * first) (length rows - rowSpan * first) rows) (midOf used (length codes - used) codes) next first used
     walked-lent =
         let f = p .few in
         let l = p .lines in
         let z = walked-rows-size in
         let d = length-drop (rowSpan * first) rows in
-        record { room = p .room; few = p .few; lines = rw (rest-is (rowSpan * first) rows) (omega arith) }
+        let rest = length-drop used codes in
+        let enough : 0 + length s ≤ next + length (drop used codes) = omega (arith, p .room .inside, p .room .enough) in
+        record {
+          room = record { behind = omega arith; inside = p .room .inside; enough = rw (rest-is used codes) enough; small = p .room .small };
+          behind = p .room .behind;
+          few = p .few;
+          lines = rw (rest-is (rowSpan * first) rows) (omega arith);
+        }
 
-    module _ {part codes′ : List ℕ} {r : GroupRead} (a : GroupPut (groupAt first) s next (midOf (rowSpan * first) (length rows - rowSpan * first) rows) part codes codes′ used r) where
+    module _ {part piece : List ℕ} {r : GroupRead} (a : GroupPut (groupAt first) s next (midOf (rowSpan * first) (length rows - rowSpan * first) rows) part (midOf used (length codes - used) codes) piece used r) where
       part-size : length part ≡ length (drop (rowSpan * first) rows)
       part-size = a .rowsKept ∙ ap length (rest-is (rowSpan * first) rows)
 
       pub walked-rows-kept : length (putMid (rowSpan * first) (length rows - rowSpan * first) rows part) ≡ length rows₀
       walked-rows-kept = same-len-mid (rowSpan * first) (length rows - rowSpan * first) rows part (a .rowsKept) ∙ walked-rows-size
 
-      pub walked-codes-kept : length codes′ ≡ length codes₀
-      walked-codes-kept = a .codesKept ∙ walked-codes-size
+      pub walked-codes-kept : length (putMid used (length codes - used) codes piece) ≡ length codes₀
+      walked-codes-kept = same-len-mid used (length codes - used) codes piece (a .codesKept) ∙ walked-codes-size
 
-      pub walked-refused : {k place : ℕ} → r ≡ GroupRead.the-variants.Refused k place → GroupPut (flatAt n) s at rows₀ (putMid (rowSpan * first) (length rows - rowSpan * first) rows part) codes₀ codes′ 0 (GroupRead.the-variants.Refused k place)
+      pub walked-refused : {k place : ℕ} → r ≡ GroupRead.the-variants.Refused k place → GroupPut (flatAt n) s at rows₀ (putMid (rowSpan * first) (length rows - rowSpan * first) rows part) codes₀ (putMid used (length codes - used) codes piece) 0 (GroupRead.the-variants.Refused k place)
       walked-refused {k} {place} e =
           let none : groupsAt n 0 s at ≡ refused k place = p .same ∙ ap (onto (p .done)) (groups-refused left first s next more (group-refused-inv used (groupAt first s next) (a .answer) e)) in
           let whole : flatAt n s at ≡ refused k place = rw none in
@@ -167,7 +177,7 @@ module _ {n : ℕ} {s : List ℕ} {at : ℕ} {rows₀ rows codes₀ codes : List
       codes-more : (g : Group) → codesOf (keptAll (joined (p .done ++ g ∷ []))) ≡ codesOf (keptAll (joined (p .done))) ++ codesOf (keptAll g)
       codes-more g = ap codesOf (kept-more g) ∙ codes-append (keptAll (joined (p .done))) (keptAll g)
 
-      grown : {count after taken : ℕ} (g : Group) → groupAt first s next ≡ got g after → count ≡ length g → taken ≡ used + length (codesOf (keptAll g)) → Walked n s at rows₀ (putMid (rowSpan * first) (length rows - rowSpan * first) rows part) codes₀ codes′ after (left - 1) (first + count) taken
+      grown : {count after taken : ℕ} (g : Group) → groupAt first s next ≡ got g after → count ≡ length g → taken ≡ used + length (codesOf (keptAll g)) → Walked n s at rows₀ (putMid (rowSpan * first) (length rows - rowSpan * first) rows part) codes₀ (putMid used (length codes - used) codes piece) after (left - 1) (first + count) taken
       grown {count} {after} {taken} g read many codes-many =
           let ate = group-ate first s next read in
           let ends = never-back (group-takes first) s next read in
@@ -176,8 +186,10 @@ module _ {n : ℕ} {s : List ℕ} {at : ℕ} {rows₀ rows codes₀ codes : List
           let here : Puts (drop (rowSpan * first) rows) part 0 (map low (rowsOf used (keptAll g))) = rw (rest-is (rowSpan * first) rows) at (a .rowsPut g after read) in
           let there : Puts rows (putMid (rowSpan * first) (length rows - rowSpan * first) rows part) (rowSpan * first + 0) (map low (rowsOf used (keptAll g))) = puts-part rows (rowSpan * first) walked-start (rest-put (rowSpan * first) rows part walked-start) here in
           let line : 0 + length (map low (rowsOf 0 (keptAll (joined (p .done))))) ≡ rowSpan * first + 0 = (let l = rows-done 0 (joined (p .done)) in omega arith) in
-          let coded : Puts codes codes′ (0 + length (codesOf (keptAll (joined (p .done))))) (codesOf (keptAll g)) = (let z : 0 + length (codesOf (keptAll (joined (p .done)))) ≡ used = omega arith in rw z (a .codesPut g after read)) in
-          let size = a .codesKept in
+          let near : Puts (drop used codes) piece 0 (codesOf (keptAll g)) = rw (rest-is used codes) at (a .codesPut g after read) in
+          let coded : Puts codes (putMid used (length codes - used) codes piece) (used + 0) (codesOf (keptAll g)) = puts-part codes used walked-from (rest-put used codes piece walked-from) near in
+          let place : 0 + length (codesOf (keptAll (joined (p .done)))) ≡ used + 0 = omega arith in
+          let size : length (putMid used (length codes - used) codes piece) ≡ length codes = same-len-mid used (length codes - used) codes piece (a .codesKept) in
           record {
             done = p .done ++ g ∷ [];
             same =
@@ -189,18 +201,18 @@ module _ {n : ℕ} {s : List ℕ} {at : ℕ} {rows₀ rows codes₀ codes : List
             takes = (let l : length (codesOf (keptAll (joined (p .done ++ g ∷ [])))) ≡ length (codesOf (keptAll (joined (p .done)))) + length (codesOf (keptAll g)) = ap length (codes-more g) ∙ length-append (codesOf (keptAll (joined (p .done)))) (codesOf (keptAll g)) in omega arith);
             few = omega (arith, p .few, ate .few);
             rowsPut = rw (rows-more g) (puts-more (p .rowsPut) (rw line there));
-            codesPut = rw (codes-more g) (puts-more (p .codesPut) coded);
+            codesPut = rw (codes-more g) (puts-more (p .codesPut) (rw place coded));
             room =
                 record {
                   behind = omega (arith, p .room .behind, ate .ahead);
                   inside = ends .1;
-                  enough = omega (arith, p .room .enough);
+                  enough = omega (arith, p .room .enough, ate .ahead);
                   small = p .room .small;
                 };
             lines = p .lines;
           }
 
-      pub walked-turn : {count after taken : ℕ} → r ≡ GroupRead.the-variants.Got count after taken → Walked n s at rows₀ (putMid (rowSpan * first) (length rows - rowSpan * first) rows part) codes₀ codes′ after (left - 1) (first + count) taken
+      pub walked-turn : {count after taken : ℕ} → r ≡ GroupRead.the-variants.Got count after taken → Walked n s at rows₀ (putMid (rowSpan * first) (length rows - rowSpan * first) rows part) codes₀ (putMid used (length codes - used) codes piece) after (left - 1) (first + count) taken
       walked-turn e = let (g, read, many, codes-many) = group-inv used (groupAt first s next) (a .answer) e in grown g read many codes-many
 
       pub walked-count-fits : {count after taken : ℕ} → r ≡ GroupRead.the-variants.Got count after taken → Fits w64 (first + count)
@@ -209,4 +221,4 @@ module _ {n : ℕ} {s : List ℕ} {at : ℕ} {rows₀ rows codes₀ codes : List
           let ate = group-ate first s next read in
           record { fits = omega (arith, p .few, ate .few) }
 
-pub ruleset walk-exits = (walked-first, walked-rows-size, walked-codes-size, walked-start-fits, walked-start, walked-done, walked-lent, walked-rows-kept, walked-codes-kept, walked-refused, walked-turn, walked-count-fits)
+pub ruleset walk-exits = (walked-first, walked-rows-size, walked-codes-size, walked-start-fits, walked-start, walked-from, walked-done, walked-lent, walked-rows-kept, walked-codes-kept, walked-refused, walked-turn, walked-count-fits)

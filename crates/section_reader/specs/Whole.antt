@@ -42,7 +42,7 @@ abbrev pub sectionIs : Read (List Group) → SectionRead
 sectionIs (got gs end) = SectionRead.the-variants.Got (length (joined gs))
 sectionIs (refused n p) = SectionRead.the-variants.Refused n p
 
--- the rows and the codes of a section that was read, from the first row on
+-- the rows and the codes of a section that was read, from the first row and the first code on
 pub record SectionPut (o : Read (List Group)) (rows rows′ codes codes′ : List ℕ) (r : SectionRead) : Type 0 where
   pub answer : r ≡ sectionIs o
   pub rowsPut : (gs : List Group) (end : ℕ) → o ≡ got gs end → Puts rows rows′ 0 (map low (rowsOf 0 (keptAll (joined gs))))

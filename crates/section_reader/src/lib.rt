@@ -1,5 +1,5 @@
 // Reading a whole section into the lent table: its groups one after the other, each lent the rest of the table from its
-// first row on; then nothing is left over.
+// first row and its first code on; then nothing is left over.
 use number::Natural;
 use scope::refusals;
 use scope::sizes;
@@ -8,7 +8,7 @@ ghost use Rattle.section_group.specs.Lent.{Lent, GroupPut};
 ghost use Rattle.scope.specs.Sections.{readSection};
 ghost use Rattle.section_reader.specs.Whole.{flatAt, endedAt, countedAt, Enough, SectionPut};
 
-// n groups, from the table's first row on.
+// n groups, from the table's first row and first code on.
 fn groups_at(s: &[u8], at: usize, n: u64, rows: &mut [u16], codes: &mut [u16]) -> GroupRead
     requires { ⌜ Lent (now s) (now rows) (now codes) at 0 0 ⌝ }
     ensures { λ r. ⌜ GroupPut (flatAt n) (now (s .entry)) at (now (rows .entry)) (now (rows .exit)) (now (codes .entry)) (now (codes .exit)) 0 r ⌝ }
@@ -19,7 +19,15 @@ fn groups_at(s: &[u8], at: usize, n: u64, rows: &mut [u16], codes: &mut [u16]) -
     let mut used: u64 = 0;
     while 0 < left {
         let start = (sizes::ROW * first) as usize;
-        let read = section_group::group_at(s, next, first, &mut rows[start..], codes, used);
+        let from = used as usize;
+        let read = section_group::group_at(
+            s,
+            next,
+            first,
+            &mut rows[start..],
+            &mut codes[from..],
+            used,
+        );
         match read {
             GroupRead::Refused(number, place) => {
                 return GroupRead::Refused(number, place);

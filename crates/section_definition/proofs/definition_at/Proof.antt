@@ -4,6 +4,9 @@ use Rattle.section_definition.proofs.Defining.{definition-exits}
 use Rattle.section_definition.proofs.definition_at.Statement.{statement}
 use Rattle.section_definition.proofs.definition_at.Tie as tie
 
+add-used : tie.Need-add-used
+add-used c = search (definition-exits, needs)
+
 front-at-requires : tie.Need-front-at-requires
 front-at-requires c κs = search needs
 
@@ -32,6 +35,7 @@ pub definition-at-spec : {M : Type 1} → statement M
 definition-at-spec =
     tie.close
     (tie.spec
+    add-used
     front-at-requires
     enum-known-front
     enum-known-front-2

@@ -16,8 +16,8 @@ enum-known-form-2 c = search needs
 put-row-requires : tie.Need-put-row-requires
 put-row-requires c κs = search needs
 
-add-t28 : tie.Need-add-t28
-add-t28 c = search (formed-exits, needs)
+add-full : tie.Need-add-full
+add-full c = search (formed-exits, needs)
 
 enum-known-form-3 : tie.Need-enum-known-form-3
 enum-known-form-3 c = search needs
@@ -25,11 +25,11 @@ enum-known-form-3 c = search needs
 put-row-requires-2 : tie.Need-put-row-requires-2
 put-row-requires-2 c κs = search needs
 
-add-t33 : tie.Need-add-t33
-add-t33 c = search (formed-exits, needs)
+add-parameters : tie.Need-add-parameters
+add-parameters c = search (formed-exits, needs)
 
-add-t34 : tie.Need-add-t34
-add-t34 c = search (formed-exits, needs)
+add-full-2 : tie.Need-add-full-2
+add-full-2 c = search (formed-exits, needs)
 
 same-length : tie.Need-same-length
 same-length c = search needs
@@ -63,11 +63,11 @@ formed-at-spec =
     enum-known-form
     enum-known-form-2
     put-row-requires
-    add-t28
+    add-full
     enum-known-form-3
     put-row-requires-2
-    add-t33
-    add-t34
+    add-parameters
+    add-full-2
     same-length
     returns
     same-length-2

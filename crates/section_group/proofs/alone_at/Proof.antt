@@ -19,6 +19,9 @@ enum-known-read c = search needs
 enum-known-read-2 : tie.Need-enum-known-read-2
 enum-known-read-2 c = search needs
 
+add-taken : tie.Need-add-taken
+add-taken c = search (alone-exits, needs)
+
 same-length : tie.Need-same-length
 same-length c = search needs
 
@@ -46,6 +49,7 @@ alone-at-spec =
     definition-at-requires
     enum-known-read
     enum-known-read-2
+    add-taken
     same-length
     same-length-2
     returns-2

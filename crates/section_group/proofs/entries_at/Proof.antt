@@ -7,10 +7,10 @@ use Rattle.section_group.proofs.entries_at.Statement.{statement}
 use Rattle.section_group.proofs.entries_at.Tie as tie
 
 abbrev Inv-loop : tie.InvT-loop
-Inv-loop s at n reach first rows₀ codes₀ used next₀ count₀ taken₀ rows codes next count taken = Grouped reach first n s at rows₀ rows codes₀ codes used next count taken
+Inv-loop s at n reach first rows₀ codes₀ used next₀ count₀ filled₀ rows codes next count filled = Grouped reach first n s at rows₀ rows codes₀ codes used next count filled
 
 abbrev μ-loop : tie.MeasureT-loop
-μ-loop s at n reach first rows₀ codes₀ used next₀ count₀ taken₀ rows codes next count taken = n - count
+μ-loop s at n reach first rows₀ codes₀ used next₀ count₀ filled₀ rows codes next count filled = n - count
 
 loop-holds : tie.Need-loop-holds Inv-loop μ-loop
 loop-holds c = search (group-exits, needs)
@@ -58,6 +58,9 @@ loop-again : tie.Need-loop-again Inv-loop μ-loop
 loop-again c =
     grouped-turn (c .before .before .before .before .before .before .before .before .before .before .before .before .loop .inv) (c .before .before .before .before .before .before .before .before .before .before .before .loop-test .taken) (c .before .before .before .before .before .before .before .before .before .before .if1 .left) (c .before .before .before .before .before .before .before .definition-at .ensures) (search needs)
 
+add-taken : tie.Need-add-taken Inv-loop μ-loop
+add-taken c = search (group-exits, needs)
+
 same-length-5 : tie.Need-same-length-5 Inv-loop μ-loop
 same-length-5 c = search (group-exits, needs)
 
@@ -88,6 +91,7 @@ entries-at-spec =
     add-count
     loop-less
     loop-again
+    add-taken
     same-length-5
     same-length-6
     returns-3)

@@ -1,6 +1,6 @@
 -- `section_reader::groups_at` meets its contract: each group is lent the rest of the table and fills it behind those before.
 use borrow.Author.Needs.{needs}
-use Rattle.section_reader.proofs.Walking.{walk-exits}
+use Rattle.section_reader.proofs.Walking.{walked-rows-kept, walked-codes-kept, walk-exits}
 use Rattle.section_reader.proofs.Walking.{Walked}
 use Rattle.section_reader.proofs.groups_at.Statement.{statement}
 use Rattle.section_reader.proofs.groups_at.Tie as tie
@@ -29,6 +29,18 @@ part-group-at-start c = search (walk-exits, needs)
 part-group-at-end : tie.Need-part-group-at-end Inv-loop μ-loop
 part-group-at-end c = search (walk-exits, needs)
 
+mul-group-at-2 : tie.Need-mul-group-at-2 Inv-loop μ-loop
+mul-group-at-2 c = search (walk-exits, needs)
+
+sub-group-at-2 : tie.Need-sub-group-at-2 Inv-loop μ-loop
+sub-group-at-2 c = search (walk-exits, needs)
+
+part-group-at-start-2 : tie.Need-part-group-at-start-2 Inv-loop μ-loop
+part-group-at-start-2 c = search (walk-exits, needs)
+
+part-group-at-end-2 : tie.Need-part-group-at-end-2 Inv-loop μ-loop
+part-group-at-end-2 c = search (walk-exits, needs)
+
 group-at-requires : tie.Need-group-at-requires Inv-loop μ-loop
 group-at-requires c κs = search (walk-exits, needs)
 
@@ -36,10 +48,12 @@ enum-known-read : tie.Need-enum-known-read Inv-loop μ-loop
 enum-known-read c = search (walk-exits, needs)
 
 same-length : tie.Need-same-length Inv-loop μ-loop
-same-length c = search (walk-exits, needs)
+same-length c =
+    walked-rows-kept (c .before .before .before .before .before .before .before .before .before .before .before .loop .inv) (c .before .before .before .before .before .before .before .before .before .before .loop-test .taken) (c .before .before .before .before .before .before .before .group-at .ensures)
 
 same-length-2 : tie.Need-same-length-2 Inv-loop μ-loop
-same-length-2 c = search (walk-exits, needs)
+same-length-2 c =
+    walked-codes-kept (c .before .before .before .before .before .before .before .before .before .before .before .loop .inv) (c .before .before .before .before .before .before .before .before .before .before .loop-test .taken) (c .before .before .before .before .before .before .before .group-at .ensures)
 
 returns : tie.Need-returns Inv-loop μ-loop
 returns c = search (walk-exits, needs)
@@ -80,6 +94,10 @@ groups-at-spec =
     sub-group-at
     part-group-at-start
     part-group-at-end
+    mul-group-at-2
+    sub-group-at-2
+    part-group-at-start-2
+    part-group-at-end-2
     group-at-requires
     enum-known-read
     same-length
