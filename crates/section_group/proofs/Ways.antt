@@ -120,12 +120,13 @@ module _ {s : List ℕ} {at first : ℕ} {rows rows′ codes codes′ : List ℕ
   pub alone-got : {next filled : ℕ} → r ≡ DefinitionRead.the-variants.Got next filled → GroupPut (aloneAt first) s at rows rows′ codes codes′ used (GroupRead.the-variants.Got 1 next (used + filled))
   alone-got e = let (d, read, count) = definition-inv 0 (definitionAt (first + 1) s at) (a .answer) e in alone-read d read count
 
-  pub alone-taken-fits : {next filled : ℕ} → r ≡ DefinitionRead.the-variants.Got next filled → Lent s rows codes at first used → Fits w64 (used + filled)
-  alone-taken-fits e lent =
-      let (d, read, count) = definition-inv 0 (definitionAt (first + 1) s at) (a .answer) e in
-      let ahead = definition-ahead (first + 1) s at read in
-      let ends = never-back (definition-takes (first + 1)) s at read in
-      record { fits = omega (arith, lent .behind, lent .room .small, ends .1) }
+-- the codes that are used then fit, since they took bytes of the section
+pub alone-taken-fits : {reach : ℕ} {s : List ℕ} {at : ℕ} {rows rows′ codes codes′ : List ℕ} {first used : ℕ} {r : DefinitionRead} {next filled : ℕ} → DefinitionPut reach s at rows rows′ 0 codes codes′ used 0 r → r ≡ DefinitionRead.the-variants.Got next filled → Lent s rows codes at first used → Fits w64 (used + filled)
+alone-taken-fits {reach} {s} {at} a e lent =
+    let (d, read, count) = definition-inv 0 (definitionAt reach s at) (a .answer) e in
+    let ahead = definition-ahead reach s at read in
+    let ends = never-back (definition-takes reach) s at read in
+    record { fits = omega (arith, lent .behind, lent .room .small, ends .1) }
 
 pub ruleset alone-exits = (alone-over, alone-place, alone-reach-fits, alone-refused, alone-got, alone-taken-fits)
 
