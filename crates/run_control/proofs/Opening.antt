@@ -13,6 +13,7 @@ use Rattle.scope.specs.Instructions.{Instr, block, instrAt}
 use Rattle.scope.specs.Machine.{Value, Machine, Program, goes, withControl, Block, doInstr}
 use Rattle.scope.proofs.Forward.{never-back}
 use Rattle.scope.proofs.ForwardBodies.{instr-takes}
+use Rattle.lent_u16.specs.Words.{wordLimit}
 use Rattle.run_values.specs.Layout.{kindWord, placeWord, belowWord}
 use Rattle.lent_u16.proofs.Stores.{Stored, stored}
 use Rattle.run_stack.specs.Pile.{pile}
@@ -55,7 +56,7 @@ opened-as : {s : List ℕ} {kind at next : ℕ} {i : Instr} → OpensAs kind i �
 opened-as as-block e = a-block refl e
 opened-as as-loop e = a-loop refl e
 
-kind-small : {kind : ℕ} {i : Instr} → OpensAs kind i → kind < 65_536
+kind-small : {kind : ℕ} {i : Instr} → OpensAs kind i → kind < wordLimit
 kind-small as-block = omega arith
 kind-small as-loop = omega arith
 
@@ -74,12 +75,12 @@ record Written (blocks blocks′ : List ℕ) (d kind at below : ℕ) : Type 0 wh
   others : (i : ℕ) → i < blockSpan * d → getD blocks′ i 0 ≡ getD blocks i 0
   size : length blocks′ ≡ length blocks
 
-module _ {blocks blocks₁ blocks₂ blocks₃ : List ℕ} {d kind at below : ℕ} (first : blocks₁ ≡ set blocks (blockSpan * d) (kind % 65_536)) (second : blocks₂ ≡ set blocks₁ (blockSpan * d + placeWord) (at % 65_536)) (third : blocks₃ ≡ set blocks₂ (blockSpan * d + belowWord) (below % 65_536)) where
-  written : blocksSize ≤ length blocks → d < mostBlocks → kind < 65_536 → at < 65_536 → below < 65_536 → Written blocks blocks₃ d kind at below
+module _ {blocks blocks₁ blocks₂ blocks₃ : List ℕ} {d kind at below : ℕ} (first : blocks₁ ≡ set blocks (blockSpan * d) (kind % wordLimit)) (second : blocks₂ ≡ set blocks₁ (blockSpan * d + placeWord) (at % wordLimit)) (third : blocks₃ ≡ set blocks₂ (blockSpan * d + belowWord) (below % wordLimit)) where
+  written : blocksSize ≤ length blocks → d < mostBlocks → kind < wordLimit → at < wordLimit → below < wordLimit → Written blocks blocks₃ d kind at below
   written room deep k a b =
-      let one : Stored blocks blocks₁ (blockSpan * d) kind = stored 65_536 first k (omega arith) in
-      let two : Stored blocks₁ blocks₂ (blockSpan * d + placeWord) at = stored 65_536 second a (omega (arith, one .size)) in
-      let three : Stored blocks₂ blocks₃ (blockSpan * d + belowWord) below = stored 65_536 third b (omega (arith, one .size, two .size)) in
+      let one : Stored blocks blocks₁ (blockSpan * d) kind = stored wordLimit first k (omega arith) in
+      let two : Stored blocks₁ blocks₂ (blockSpan * d + placeWord) at = stored wordLimit second a (omega (arith, one .size)) in
+      let three : Stored blocks₂ blocks₃ (blockSpan * d + belowWord) below = stored wordLimit third b (omega (arith, one .size, two .size)) in
       let here : blockSpan * d + kindWord ≡ blockSpan * d = omega arith in
       record {
         kind-word = rw here (three .others (blockSpan * d) (λ e. omega arith) ∙ two .others (blockSpan * d) (λ e. omega arith) ∙ one .here);
@@ -128,9 +129,9 @@ module _ (s ends operands : List ℕ) {blocks blocks′ : List ℕ} (st : Stage)
 
 pub open-goes :
     {st : Stage} → Low st → st .depth < mostBlocks → {blocks blocks₁ blocks₂ blocks₃ : List ℕ} {next kind : ℕ}
-    → blocks₁ ≡ set blocks (blockSpan * st .depth) (kind % 65_536)
-    → blocks₂ ≡ set blocks₁ (blockSpan * st .depth + placeWord) (st .place % 65_536)
-    → blocks₃ ≡ set blocks₂ (blockSpan * st .depth + belowWord) ((st .base + st .height) % 65_536)
+    → blocks₁ ≡ set blocks (blockSpan * st .depth) (kind % wordLimit)
+    → blocks₂ ≡ set blocks₁ (blockSpan * st .depth + placeWord) (st .place % wordLimit)
+    → blocks₃ ≡ set blocks₂ (blockSpan * st .depth + belowWord) ((st .base + st .height) % wordLimit)
     → Opens blocks blocks₃ st next kind (Stepped.the-variants.Goes (restaged st next (st .base + st .height) 0 (st .depth + 1)))
 open-goes {st} low deep {blocks} {blocks₁} {blocks₂} {blocks₃} {next} {kind} e₁ e₂ e₃ =
     record {

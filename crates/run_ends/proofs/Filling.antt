@@ -19,6 +19,7 @@ use Rattle.scope.proofs.Forward.{never-back}
 use Rattle.scope.proofs.ForwardBodies.{instr-takes}
 use Rattle.scope.proofs.Truths.{decided}
 use Rattle.scope.proofs.Impossible.{contradiction, impossible}
+use Rattle.lent_u16.specs.Words.{wordLimit}
 use Rattle.body_immediates.specs.declared.Instruction.{Instruction}
 use Rattle.body_immediates.specs.declared.InstructionRead.{InstructionRead}
 use Rattle.body_immediates.specs.declared.InstructionRead
@@ -232,15 +233,15 @@ module _ {s ends₀ : List ℕ} {first : ℕ} {ends : List ℕ} {next innermost 
             advance f read (n .outer) (open-later bound kept) (λ at onward r o. pass n at onward o (decided (eqb at p)) (g .passed at onward r o)) (λ b. balanced-end (rw (n .split) at b)) (λ b. rw (n .split) (closing b)) (st .size)
 
     -- what is stored fits a word, at a place that there is
-    stored-open : {ends′ : List ℕ} {j : Instr} → instrAt s next ≡ got j onto → ends′ ≡ set ends next (innermost % 65_536) → Stored ends ends′ next innermost
+    stored-open : {ends′ : List ℕ} {j : Instr} → instrAt s next ≡ got j onto → ends′ ≡ set ends next (innermost % wordLimit) → Stored ends ends′ next innermost
     stored-open read e =
         let (forward, ends-inside) = never-back instr-takes s next read in
-        stored 65_536 e (omega (arith, word-small (g .chain), g .inside, f .short)) (omega (arith, g .size, f .room))
+        stored wordLimit e (omega (arith, word-small (g .chain), g .inside, f .short)) (omega (arith, g .size, f .room))
 
-    stored-close : {ends′ : List ℕ} {p : ℕ} → innermost ≡ suc p → instrAt s next ≡ got end onto → ends′ ≡ set ends p (onto % 65_536) → Stored ends ends′ p onto
+    stored-close : {ends′ : List ℕ} {p : ℕ} → innermost ≡ suc p → instrAt s next ≡ got end onto → ends′ ≡ set ends p (onto % wordLimit) → Stored ends ends′ p onto
     stored-close is read e =
         let (forward, ends-inside) = never-back instr-takes s next read in
-        stored 65_536 e (omega (arith, f .short)) (omega (arith, word-small (g .chain), g .inside, g .size, f .room))
+        stored wordLimit e (omega (arith, f .short)) (omega (arith, word-small (g .chain), g .inside, g .size, f .room))
 
     -- what was noted, by what was read
     turn : {ends′ : List ℕ} {noted : Noted} {word : ℕ} (j : Instr) → instrAt s next ≡ got j onto → NotedAt ends ends′ innermost next onto (kindOf j) noted → noted ≡ Noted.the-variants.Open word → Going s ends₀ first ends′ onto word (left - 1)

@@ -18,7 +18,7 @@ use Rattle.body_immediates.specs.declared.InstructionRead
 use Rattle.body_immediates.specs.Coding.{operationOf, instructionOf, instructionIs}
 use Rattle.body_immediates.proofs.Instruction.{the-type}
 use Rattle.body_immediates.proofs.Laws.{instruction-got, instruction-refused}
-use Rattle.lent_u16.specs.Words.{WordAt}
+use Rattle.lent_u16.specs.Words.{wordLimit, WordAt}
 use Rattle.run_ends.specs.declared.Kind.{Kind}
 use Rattle.run_ends.specs.declared.Kind
 use Rattle.run_ends.specs.declared.Noted.{Noted}
@@ -119,14 +119,14 @@ module _ {ends : List ℕ} {innermost at after : ℕ} {k : Kind} where
   pub note-inside : k ≡ Kind.the-variants.Inside → {ends′ : List ℕ} → ends′ ≡ ends → NotedAt ends ends′ innermost at after k (Noted.the-variants.Open innermost)
   note-inside e q = record { answer = rw e; memory = rw e q }
 
-  pub note-opens : k ≡ Kind.the-variants.Opens → {ends′ : List ℕ} → ends′ ≡ set ends at (innermost % 65_536) → NotedAt ends ends′ innermost at after k (Noted.the-variants.Open (at + 1))
+  pub note-opens : k ≡ Kind.the-variants.Opens → {ends′ : List ℕ} → ends′ ≡ set ends at (innermost % wordLimit) → NotedAt ends ends′ innermost at after k (Noted.the-variants.Open (at + 1))
   note-opens e q = record { answer = rw e; memory = rw e q }
 
   module _ (e : k ≡ Kind.the-variants.Closes) where
     pub note-last : innermost ≡ 0 → {ends′ : List ℕ} → ends′ ≡ ends → NotedAt ends ends′ innermost at after k Noted.the-variants.Last
     note-last z q = record { answer = rw (e, z); memory = rw (e, z) q }
 
-    pub note-closes : (innermost ≡ 0 → ⊥) → {around : ℕ} → WordAt ends (innermost - 1) around → {ends′ : List ℕ} → ends′ ≡ set ends (innermost - 1) (after % 65_536) → NotedAt ends ends′ innermost at after k (Noted.the-variants.Open around)
+    pub note-closes : (innermost ≡ 0 → ⊥) → {around : ℕ} → WordAt ends (innermost - 1) around → {ends′ : List ℕ} → ends′ ≡ set ends (innermost - 1) (after % wordLimit) → NotedAt ends ends′ innermost at after k (Noted.the-variants.Open around)
     note-closes some w q =
         let one-more : innermost ≡ suc (innermost - 1) = omega arith in
         record {

@@ -6,6 +6,7 @@ use mathlib.Core.List.{List}
 use lib.ListN.{getD, set}
 use Rattle.scope.specs.Reading.{Read, got, refused}
 use Rattle.scope.specs.Instructions.{Instr, block, loop, end, op}
+use Rattle.lent_u16.specs.Words.{wordLimit}
 use Rattle.body_immediates.specs.declared.Instruction.{Instruction}
 use Rattle.body_immediates.specs.Coding.{instructionOf}
 use Rattle.run_ends.specs.declared.Kind.{Kind}
@@ -32,9 +33,9 @@ openAfter Kind.the-variants.Inside ends innermost at = Noted.the-variants.Open i
 
 -- an opening one keeps at its place what is open around it; at its end the place after that `end` is kept there
 abbrev pub endsAfter : Kind → List ℕ → ℕ → ℕ → ℕ → List ℕ
-endsAfter Kind.the-variants.Opens ends innermost at after = set ends at (innermost % 65_536)
+endsAfter Kind.the-variants.Opens ends innermost at after = set ends at (innermost % wordLimit)
 endsAfter Kind.the-variants.Closes ends zero at after = ends
-endsAfter Kind.the-variants.Closes ends (suc p) at after = set ends p (after % 65_536)
+endsAfter Kind.the-variants.Closes ends (suc p) at after = set ends p (after % wordLimit)
 endsAfter Kind.the-variants.Inside ends innermost at after = ends
 
 pub record NotedAt (ends ends′ : List ℕ) (innermost at after : ℕ) (k : Kind) (r : Noted) : Type 0 where

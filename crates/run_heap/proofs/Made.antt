@@ -16,6 +16,7 @@ use Rattle.scope.specs.Layout.{valueSpan, objectSpan, objectsSize, cellsSize}
 use Rattle.scope.specs.Sizes.{mostObjects, mostCells}
 use Rattle.scope.specs.Machine.{Value, Object}
 use Rattle.scope.proofs.Truths.{decided}
+use Rattle.lent_u16.specs.Words.{wordLimit}
 use Rattle.run_values.specs.Layout.{typeWord, descriptorWord, firstWord, countWord}
 use Rattle.type_table.specs.View.{linkAt}
 use Rattle.run_values.specs.Values.{valueAt, valuesFrom, AllCanon}
@@ -26,9 +27,9 @@ use Rattle.run_heap.proofs.Packs.{below-next, packed-none, packed-insid
 
 -- one store after the other
 
-pub two-stored : (objects : List ℕ) {objects₁ objects₂ : List ℕ} (at to a b : ℕ) → objects₂ ≡ set objects₁ to (b % 65_536) → objects₁ ≡ set objects at (a % 65_536) → a < 2 ^ 16 → b < 2 ^ 16 → objects₂ ≡ set (set objects at a) to b
+pub two-stored : (objects : List ℕ) {objects₁ objects₂ : List ℕ} (at to a b : ℕ) → objects₂ ≡ set objects₁ to (b % wordLimit) → objects₁ ≡ set objects at (a % wordLimit) → a < 2 ^ 16 → b < 2 ^ 16 → objects₂ ≡ set (set objects at a) to b
 two-stored objects at to a b f e h l =
-    let a′ : a % 65_536 ≡ a = mod-eq-of-lt h in let b′ : b % 65_536 ≡ b = mod-eq-of-lt l in rw (f, e, a′, b′)
+    let a′ : a % wordLimit ≡ a = mod-eq-of-lt h in let b′ : b % wordLimit ≡ b = mod-eq-of-lt l in rw (f, e, a′, b′)
 
 pub row-stored : (objects : List ℕ) {objects₁ objects₂ : List ℕ} (n x d total k : ℕ) → objects₂ ≡ set (set objects₁ (objectSpan * n + firstWord) total) (objectSpan * n + countWord) k → objects₁ ≡ set (set objects (objectSpan * n + typeWord) x) (objectSpan * n + descriptorWord) d → objects₂ ≡ withRow objects n x d total k
 unfolding withRow

@@ -11,6 +11,7 @@ use Rattle.scope.specs.Sizes.{mostObjects, mostCells}
 use Rattle.scope.specs.Syntax.{Val, num, ref}
 use Rattle.scope.specs.BodyRules.{holdsOf}
 use Rattle.scope.specs.Machine.{Value, number, null, Object, Store, hasRoom, withField}
+use Rattle.lent_u16.specs.Words.{wordLimit}
 use Rattle.run_values.specs.Layout.{typeWord, descriptorWord, firstWord, countWord}
 use Rattle.type_table.specs.View.{linkAt, valAtCode, fieldAtCode, codesAt}
 use Rattle.type_table.specs.Answers.{linkIs}
@@ -58,14 +59,14 @@ pub record Kept (objects cells : List ℕ) (n total : ℕ) : Type 0 where
 
 pub record TypeOf (objects : List ℕ) (o r : ℕ) : Type 0 where
   pub is : (cells : List ℕ) → objectAt objects cells o .type ≡ r
-  pub small : r < 65_536
+  pub small : r < wordLimit
 
 pub record DescriptorOf (objects : List ℕ) (o : ℕ) (r : Link) : Type 0 where
   pub is : (cells : List ℕ) → r ≡ linkIs (objectAt objects cells o .descriptor)
 
 pub record FieldCount (objects : List ℕ) (o r : ℕ) : Type 0 where
   pub is : (cells : List ℕ) → length (objectAt objects cells o .fields) ≡ r
-  pub small : r < 65_536
+  pub small : r < wordLimit
 
 abbrev pub heldOption : Held → Option Value
 heldOption Held.the-variants.Absent = none

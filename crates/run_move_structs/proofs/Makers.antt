@@ -15,6 +15,7 @@ use Rattle.scope.specs.Syntax.{Field}
 use Rattle.scope.specs.BodyRules.{fieldsOf, holdsOf}
 use Rattle.scope.specs.Instructions.{Op, struct-new, struct-new-default, struct-new-desc, struct-new-default-desc}
 use Rattle.scope.specs.Machine.{Value, Store, Machine, Program, traps, goes, stuck, hasRoom, make, makeGiven, makeDefault, doOp}
+use Rattle.lent_u16.specs.Words.{wordLimit}
 use Rattle.type_table.specs.View.{view, linkAt, fieldAtCode, codesAt}
 use Rattle.type_table.specs.Answers.{shapeForm}
 use Rattle.type_table.specs.declared.Shape.{Shape}
@@ -190,8 +191,8 @@ module _ {rows codes : List ℕ} {n total height : ℕ} {first : Topmost} {x : �
 -- struct.new_desc and struct.new_default_desc
 
 -- the word of a descriptor that is there says its number
-link-is : {d n : ℕ} → d < n → n ≤ mostObjects → linkAt ((d + 1) % 65_536) ≡ some d
-link-is {d} h few = let small : (d + 1) % 65_536 ≡ d + 1 = mod-eq-of-lt (omega arith) in ap linkAt small ∙ link-more d
+link-is : {d n : ℕ} → d < n → n ≤ mostObjects → linkAt ((d + 1) % wordLimit) ≡ some d
+link-is {d} h few = let small : (d + 1) % wordLimit ≡ d + 1 = mod-eq-of-lt (omega arith) in ap linkAt small ∙ link-more d
 
 module _ {rows codes : List ℕ} {n total height : ℕ} {first : Topmost} (x : ℕ) {to : Reference} (is : to ≡ referenceAt first) where
   pub new-desc-wrong : to ≡ Reference.the-variants.Wrong → MakePlans rows codes n total height first (struct-new-desc x) Move.the-variants.Astray
@@ -223,7 +224,7 @@ module _ {rows codes : List ℕ} {n total height : ℕ} {first : Topmost} (x : �
         }
 
     module _ (h : d < n) {r : Move} where
-      pub new-desc-plan : MakesGiven rows codes n total height 1 x ((d + 1) % 65_536) r → MakePlans rows codes n total height first (struct-new-desc x) r
+      pub new-desc-plan : MakesGiven rows codes n total height 1 x ((d + 1) % wordLimit) r → MakePlans rows codes n total height first (struct-new-desc x) r
       unfolding doOp
       new-desc-plan a =
           record {
@@ -236,7 +237,7 @@ module _ {rows codes : List ℕ} {n total height : ℕ} {first : Topmost} (x : �
                 (a .is p m objects cells types long (omega arith) (knows .heap) (knows .kept));
           }
 
-      pub new-default-desc-plan : MakesDefaults rows codes n total 1 x ((d + 1) % 65_536) r → MakePlans rows codes n total height first (struct-new-default-desc x) r
+      pub new-default-desc-plan : MakesDefaults rows codes n total 1 x ((d + 1) % wordLimit) r → MakePlans rows codes n total height first (struct-new-default-desc x) r
       unfolding doOp
       new-default-desc-plan a =
           record {

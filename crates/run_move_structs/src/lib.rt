@@ -12,6 +12,7 @@ use type_table::Link;
 use type_table::Shape;
 ghost use Prim.Native.Nat.{_<_};
 ghost use Rattle.scope.specs.Instructions.{struct-new, struct-new-default, struct-get, struct-set, struct-new-desc, struct-new-default-desc, ref-get-desc};
+ghost use Rattle.lent_u16.specs.Words.{wordLimit};
 ghost use Rattle.run_state.specs.Planned.{FieldPlans, MakePlans};
 ghost use Rattle.run_move_structs.specs.Makes.{MakesGiven, MakesDefaults};
 
@@ -118,7 +119,7 @@ fn given_move(
     x: u64,
     d: u16,
 ) -> Move
-    requires { ⌜ x < 65536 ⌝ }
+    requires { ⌜ x < wordLimit ⌝ }
     ensures { λ r. ⌜ MakesGiven (now (rows .entry)) (now (codes .entry)) n total height taken x d r ⌝ }
 {
     let shape = type_table::shape_of(rows, codes, x);
@@ -138,7 +139,7 @@ fn given_move(
 
 // The same of the defaults of its fields.
 fn default_move(rows: &[u16], codes: &[u16], n: u32, total: u32, taken: u32, x: u64, d: u16) -> Move
-    requires { ⌜ x < 65536 ⌝ }
+    requires { ⌜ x < wordLimit ⌝ }
     ensures { λ r. ⌜ MakesDefaults (now (rows .entry)) (now (codes .entry)) n total taken x d r ⌝ }
 {
     let shape = type_table::shape_of(rows, codes, x);
@@ -166,7 +167,7 @@ pub fn new_move(
     first: Topmost,
     x: u64,
 ) -> Move
-    requires { ⌜ x < 65536 ⌝ }
+    requires { ⌜ x < wordLimit ⌝ }
     ensures { λ r. ⌜ MakePlans (now (rows .entry)) (now (codes .entry)) n total height first (struct-new x) r ⌝ }
 {
     given_move(rows, codes, n, total, height, 0, x, 0)
@@ -182,7 +183,7 @@ pub fn new_default_move(
     first: Topmost,
     x: u64,
 ) -> Move
-    requires { ⌜ x < 65536 ⌝ }
+    requires { ⌜ x < wordLimit ⌝ }
     ensures { λ r. ⌜ MakePlans (now (rows .entry)) (now (codes .entry)) n total height first (struct-new-default x) r ⌝ }
 {
     default_move(rows, codes, n, total, 0, x, 0)
@@ -198,7 +199,7 @@ pub fn new_desc_move(
     first: Topmost,
     x: u64,
 ) -> Move
-    requires { ⌜ x < 65536 ⌝ }
+    requires { ⌜ x < wordLimit ⌝ }
     ensures { λ r. ⌜ MakePlans (now (rows .entry)) (now (codes .entry)) n total height first (struct-new-desc x) r ⌝ }
 {
     let reference = run_state::reference_of(first);
@@ -233,7 +234,7 @@ pub fn new_default_desc_move(
     first: Topmost,
     x: u64,
 ) -> Move
-    requires { ⌜ x < 65536 ⌝ }
+    requires { ⌜ x < wordLimit ⌝ }
     ensures { λ r. ⌜ MakePlans (now (rows .entry)) (now (codes .entry)) n total height first (struct-new-default-desc x) r ⌝ }
 {
     let reference = run_state::reference_of(first);

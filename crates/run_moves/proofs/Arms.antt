@@ -9,6 +9,7 @@ use Rattle.scope.specs.Refusals.{trapUnreachable, trapCast}
 use Rattle.scope.specs.Instructions.{Op, op}
 use Rattle.scope.specs.Machine.{Value, Machine, Program, doOp}
 use Rattle.scope.proofs.Impossible.{contradiction, impossible}
+use Rattle.lent_u16.specs.Words.{wordLimit}
 use Rattle.run_values.specs.Layout.{i32Kind, nullKind}
 use Rattle.type_table.specs.View.{view}
 use Rattle.body_immediates.specs.declared.Instruction.{Instruction}
@@ -219,7 +220,7 @@ module _ (rows codes objects cells locals operands : List ℕ) (count : ℕ) (st
             tells e refl (λ p m types holds. on-descriptor-fail-is h (knows t holds u) sourceNull source a)
 
 -- the type of which an object is made
-pub by-number : {i j : Instruction} {x : ℕ} → Modest i → i ≡ j → numberOf j ≡ x → x < 65_536
+pub by-number : {i j : Instruction} {x : ℕ} → Modest i → i ≡ j → numberOf j ≡ x → x < wordLimit
 by-number a e f = rw (← f, ← e) (a .small)
 
 pub ruleset arm-exits = (by-number, by-block, by-loop, by-end, by-unreachable, by-nop, by-return, by-branch, by-const, by-null, by-test, by-cast, by-on-cast, by-on-cast-fail, by-descriptor-cast, by-on-descriptor, by-on-descriptor-fail, by-tops, by-locals, by-fields, by-making)
