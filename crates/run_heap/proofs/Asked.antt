@@ -22,7 +22,8 @@ use Rattle.run_heap.specs.declared.Held
 use Rattle.run_heap.specs.Heap.{objectWord, objectAt, TypeOf, DescriptorOf, FieldCount, heldOption, HeldField, FieldSet, RoomFor}
 use Rattle.run_heap.proofs.Packs.{store-length, packed-inside, packed-cells, store-set, set-canon}
 use Rattle.scope.proofs.Impossible.{impossible}
-use Rattle.run_values.specs.Layout.{kindPlace, bitsPlace, typeWord, descriptorWord, firstWord, countWord, numberLimit}
+use Rattle.lent_u32.specs.Scratch.{word32Limit}
+use Rattle.run_values.specs.Layout.{kindPlace, bitsPlace, typeWord, descriptorWord, firstWord, countWord}
 
 module _ {objects : List ℕ} {o : ℕ} where
   pub type-is : {r : ℕ} → WordAt objects (objectSpan * o + typeWord) r → TypeOf objects o r
@@ -88,7 +89,7 @@ module _ {objects cells : List ℕ} {o i : ℕ} {r : Held} (a : HeldField object
 -- a store in a field
 
 module _ {objects : List ℕ} {o first : ℕ} (a : WordAt objects (objectSpan * o + firstWord) first) {cells cells′ : List ℕ} {i k b : ℕ} where
-  pub field-set : cells′ ≡ setValue cells ((first + i) % numberLimit) k b → FieldSet objects cells cells′ o i k b
+  pub field-set : cells′ ≡ setValue cells ((first + i) % word32Limit) k b → FieldSet objects cells cells′ o i k b
   field-set e =
       record {
         store = λ n total p h l.
@@ -110,12 +111,12 @@ module _ {objects : List ℕ} {o first : ℕ} (a : WordAt objects (objectSpan * 
       }
     where
       long : length cells′ ≡ length cells
-      long = rw e (put-long cells ((first + i) % numberLimit) k b)
+      long = rw e (put-long cells ((first + i) % word32Limit) k b)
 
       where-it-is : {total : ℕ} → objectWord objects o firstWord + objectWord objects o countWord ≤ total → total ≤ mostCells → i < objectWord objects o countWord → cells′ ≡ setValue cells (objectWord objects o firstWord + i) k b
       where-it-is low most there =
           let place : first ≡ objectWord objects o firstWord = a .is in
-          let small : (first + i) % numberLimit ≡ first + i = mod-eq-of-lt (omega arith) in
+          let small : (first + i) % word32Limit ≡ first + i = mod-eq-of-lt (omega arith) in
           e ∙ ap (λ (j : ℕ). setValue cells j k b) (small ∙ ap (λ (f : ℕ). f + i) place)
 
 -- room

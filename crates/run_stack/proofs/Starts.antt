@@ -15,6 +15,7 @@ use Rattle.scope.proofs.Truths.{decided}
 use Rattle.run_values.specs.Layout.{bitsPlace, noValue, nullKind}
 use Rattle.type_table.specs.View.{numberAt, valAtCode, heapAtCode, codesAt}
 use Rattle.type_table.proofs.Codes.{val-number, val-ref}
+use Rattle.body_state.specs.Layout.{codeBound}
 use Rattle.lent_u32.specs.Scratch.{Word32At}
 use Rattle.body_state.specs.State.{valAtWord}
 use Rattle.run_values.specs.Values.{numbered, valueAt, heldFrom, setValue, AllHeldCanon, entryIn, heldAt}
@@ -85,7 +86,7 @@ module _ {work locals₀ locals : List ℕ} {count i : ℕ} (f : FirstStarted wo
         size = f .size;
       }
 
-  pub started-turn : i < count → {c : ℕ} → Word32At work i c → {k : ℕ} → StartKind (c % 1_048_576) k → {locals′ : List ℕ} → locals′ ≡ setValue locals i k 0 → FirstStarted work locals₀ locals′ count (i + 1)
+  pub started-turn : i < count → {c : ℕ} → Word32At work i c → {k : ℕ} → StartKind (c % codeBound) k → {locals′ : List ℕ} → locals′ ≡ setValue locals i k 0 → FirstStarted work locals₀ locals′ count (i + 1)
   unfolding valAtWord
   started-turn h {c} w {k} a {locals′} e =
       record {

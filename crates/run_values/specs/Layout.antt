@@ -60,7 +60,3 @@ openedBlock = 1
 
 abbrev pub openedLoop : ℕ
 openedLoop = 2
-
--- the first number that 32 bits cannot hold
-abbrev pub numberLimit : ℕ
-numberLimit = 4_294_967_296
