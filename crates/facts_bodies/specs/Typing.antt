@@ -80,11 +80,11 @@ pub data TypedInstr (c : Context) (st : State) : Instr → Next → Type 0 where
       → Results c st rs
       → Roomy (pastBlock fs rs os dead isSet)
       → TypedInstr c st end (goesOn (pastBlock fs rs os dead isSet))
-  ends-loop : {rs : List Val} {os : List Operand} {dead : Bool} {isSet : List Bool} {fs : List Frame}
-      → st .frames ≡ ofLoop rs os dead isSet ∷ fs
+  ends-loop : {rs : List Val} {os : List Operand} {dead : Bool} {before : List Bool} {fs : List Frame}
+      → st .frames ≡ ofLoop rs os dead before ∷ fs
       → Results c st rs
-      → Roomy (pastBlock fs rs os dead isSet)
-      → TypedInstr c st end (goesOn (pastBlock fs rs os dead isSet))
+      → Roomy (pastBlock fs rs os dead before)
+      → TypedInstr c st end (goesOn (pastBlock fs rs os dead before))
   ends-body : st .frames ≡ [] → Results c st (c .results) → TypedInstr c st end finished
 
 -- instructions up to the last `end`
