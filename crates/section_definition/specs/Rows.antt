@@ -30,7 +30,7 @@ unfoldable pub rowOf : ℕ → ℕ → ℕ → ℕ → ℕ → ℕ → ℕ → �
 rowOf opens first described describing from reach used further f to =
     map low (formWords f ++ opens ∷ first ∷ described ∷ describing ∷ from ∷ to ∷ reach ∷ used ∷ further ∷ [])
 
--- There is room for the row, and in the part of the codes that is filled so far, for codes. `used` codes of the whole are
+-- There is room for the row, and for codes in the lent part behind those that fill it so far. `used` codes of the whole are
 -- before, and each took a byte.
 pub record Place (s rows codes : List ℕ) (at row used filled : ℕ) : Type 0 where
   pub room : Room s codes at filled
