@@ -138,11 +138,11 @@ fn made(random: &mut Random, small: bool) -> Made {
         |body| allocates(body) && write_body(&mut Random::new(0), body).len() < room,
     );
     let way = random.below(100);
-    if (65..87).contains(&way) {
+    if (68..87).contains(&way) {
         let types = draft.types().len();
         spoil_body::spoil_body(random, &mut body, types);
     }
-    if (60..65).contains(&way) {
+    if (60..68).contains(&way) {
         spoil_section::spoil_section(random, &mut draft.groups);
     }
     let section = write_section(random, &draft.groups);

@@ -9,15 +9,17 @@ use crate::syntax::{Heap, Instruction, Reference};
 pub fn spoil_body(random: &mut Random, body: &mut DraftBody, types: usize) {
     let index = random.below(body.code.len());
     let next = (index + 1) % body.code.len();
-    match random.below(15) {
+    match random.below(18) {
         0 => drop(body.code.remove(index)),
         1 => body.code.insert(index, body.code[index]),
         2 => body.code.swap(index, next),
         3 => body.code.insert(index, random_instruction(random, types)),
         4 => body.code[index] = random_instruction(random, types),
         5 => spoil_local(random, body),
-        6 | 7 => read_local(random, body, index),
-        8..=10 => body.code.insert(index, random_field_use(random, types)),
+        6..=8 => read_local(random, body, index),
+        9..=11 => body.code.insert(index, random_field_use(random, types)),
+        12 => leave_to_defaults(random, body),
+        13 => spoil_dead_code(random, body),
         _ => spoil_likely(random, body, types),
     }
 }
@@ -38,6 +40,38 @@ fn random_field_use(random: &mut Random, types: usize) -> Instruction {
         return Instruction::StructGet(number, field);
     }
     Instruction::StructSet(number, field)
+}
+
+/// An allocation's fields become defaults, which its type may not have.
+fn leave_to_defaults(random: &mut Random, body: &mut DraftBody) {
+    let defaulted = |instruction: &Instruction| match *instruction {
+        Instruction::StructNew(number) => Some(Instruction::StructNewDefault(number)),
+        Instruction::StructNewDesc(number) => Some(Instruction::StructNewDefaultDesc(number)),
+        _ => None,
+    };
+    let found: Vec<(usize, Instruction)> = (0..body.code.len())
+        .filter_map(|index| defaulted(&body.code[index]).map(|default| (index, default)))
+        .collect();
+    if let Some((index, default)) = random.pick_from(&found) {
+        body.code[index] = default;
+    }
+}
+
+/// After unreachable, br or return: a number where a reference is wanted, or left over.
+fn spoil_dead_code(random: &mut Random, body: &mut DraftBody) {
+    let ends = |&index: &usize| {
+        matches!(
+            body.code[index],
+            Instruction::Unreachable | Instruction::Br(_) | Instruction::Return
+        )
+    };
+    let found: Vec<usize> = (0..body.code.len()).filter(ends).collect();
+    let Some(index) = random.pick_from(&found) else {
+        return;
+    };
+    let then = [Instruction::RefIsNull, Instruction::RefAsNonNull, Instruction::Nop];
+    let then = random.pick(&then);
+    body.code.splice(index + 1..index + 1, [Instruction::I32Const(1), then]);
 }
 
 fn spoil_local(random: &mut Random, body: &mut DraftBody) {

@@ -14,11 +14,11 @@ pub fn spoil_section(random: &mut Random, groups: &mut Vec<Group>) {
         return spoil_family(random, groups);
     }
     let definition = any_definition(random, groups);
-    match random.below(5) {
-        0 => spoil_clauses(random, definition, count),
-        1 => spoil_values(random, definition),
-        2 => spoil_number(random, definition, count),
-        3 => spoil_supertypes(random, definition, count),
+    match random.below(6) {
+        0 | 1 => spoil_clauses(random, definition, count),
+        2 => spoil_values(random, definition),
+        3 => spoil_number(random, definition, count),
+        4 => spoil_supertypes(random, definition, count),
         _ => spoil_form(random, definition, count),
     }
 }
