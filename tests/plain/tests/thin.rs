@@ -189,20 +189,15 @@ fn rule_5_of_an_earlier_type_before_rule_4() {
 
 #[test]
 fn rule_4_through_two_supertypes() {
-    let chain = |last: &str| {
-        let two = "50 00 4D 01 5F 00 50 00 4C 00 5F 00 50 01 00 4D 03 5F 00 50 01 01 4C 02 5F 00";
-        count_only(&section(&format!("01 4E 06 {two} {last}")))
-    };
-    let refusal = |last: &str| {
-        let two = "50 00 4D 01 5F 00 50 00 4C 00 5F 00 50 01 00 4D 03 5F 00 50 01 01 4C 02 5F 00";
-        section(&format!("01 4E 06 {two} {last}"))
-    };
+    let two = "50 00 4D 01 5F 00 50 00 4C 00 5F 00 50 01 00 4D 03 5F 00 50 01 01 4C 02 5F 00";
+    let judged = |last: &str| section(&format!("01 4E 06 {two} {last}"));
+    let chain = |last: &str| count_only(&judged(last));
     assert_eq!(chain("50 01 02 4D 05 5F 00 50 01 03 4C 04 5F 00"), "yes 6");
     // The last one's descriptor is missing, below the first one's, or below none.
-    assert_eq!(refusal("50 01 02 5F 00 5F 00"), "no 12 4");
-    assert_eq!(refusal("50 01 02 4D 05 5F 00 50 01 01 4C 04 5F 00"), "no 12 4");
-    assert_eq!(refusal("50 01 02 4D 05 5F 00 4C 04 5F 00"), "no 12 4");
+    assert_eq!(judged("50 01 02 5F 00 5F 00"), "no 12 4");
+    assert_eq!(judged("50 01 02 4D 05 5F 00 50 01 01 4C 04 5F 00"), "no 12 4");
+    assert_eq!(judged("50 01 02 4D 05 5F 00 4C 04 5F 00"), "no 12 4");
     // Below the first one: its descriptor stands below the first one's, not the second's.
     assert_eq!(chain("50 01 00 4D 05 5F 00 50 01 01 4C 04 5F 00"), "yes 6");
-    assert_eq!(refusal("50 01 00 4D 05 5F 00 50 01 03 4C 04 5F 00"), "no 12 4");
+    assert_eq!(judged("50 01 00 4D 05 5F 00 50 01 03 4C 04 5F 00"), "no 12 4");
 }
