@@ -1,7 +1,6 @@
 // Runs bodies, a case to a line of standard output. The cases stand in the file stdin, in lines that lines.rt explains; the
 // file stdout has the answers, worked out from document 01 and never copied from a run.
 mod lines;
-mod telling;
 mod trying;
 
 use scope::sizes;

@@ -1,6 +1,6 @@
 // One run in fresh memory that holds rubbish, of which so many elements are lent as the sizes say.
-use crate::telling::tell;
-use crate::telling::tell_name;
+use cases_state::tell;
+use cases_state::tell_name;
 use cases_text::zero;
 use cases_text::zero32;
 use scope::sizes;

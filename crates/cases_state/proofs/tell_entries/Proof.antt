@@ -1,7 +1,7 @@
--- `cases_run::telling::tell_entries` is safe and ends: each turn leaves one entry fewer.
+-- `cases_state::tell_entries` is safe and ends: each turn leaves one entry fewer.
 use borrow.Author.Needs.{needs}
-use Rattle.cases_run.proofs.telling.tell_entries.Statement.{statement}
-use Rattle.cases_run.proofs.telling.tell_entries.Tie as tie
+use Rattle.cases_state.proofs.tell_entries.Statement.{statement}
+use Rattle.cases_state.proofs.tell_entries.Tie as tie
 
 abbrev Inv-loop : tie.InvT-loop
 Inv-loop what m width count step from₀ left₀ times₀ from left times = Unit

@@ -1,9 +1,9 @@
--- `cases_run::telling::zero_from` is safe and ends: each turn leaves one word fewer.
+-- `cases_state::zero_from` is safe and ends: each turn leaves one word fewer.
 use borrow.Author.Needs.{needs}
 use Prim.Native.Nat.{_-_}
 use lib.ListN.{length}
-use Rattle.cases_run.proofs.telling.zero_from.Statement.{statement}
-use Rattle.cases_run.proofs.telling.zero_from.Tie as tie
+use Rattle.cases_state.proofs.zero_from.Statement.{statement}
+use Rattle.cases_state.proofs.zero_from.Tie as tie
 
 abbrev Inv-loop : tie.InvT-loop
 Inv-loop m from i₀ i = Unit

@@ -1,10 +1,10 @@
--- `cases_run::telling::widen` is safe and ends: a store keeps the length, and each turn leaves one word fewer.
+-- `cases_state::widen` is safe and ends: a store keeps the length, and each turn leaves one word fewer.
 use borrow.Author.Needs.{needs}
 use mathlib.Core.Path.{_≡_}
 use Prim.Native.Nat.{_-_}
 use lib.ListN.{length}
-use Rattle.cases_run.proofs.telling.widen.Statement.{statement}
-use Rattle.cases_run.proofs.telling.widen.Tie as tie
+use Rattle.cases_state.proofs.widen.Statement.{statement}
+use Rattle.cases_state.proofs.widen.Tie as tie
 
 abbrev Inv-loop : tie.InvT-loop
 Inv-loop from to₀ i₀ to i = length to ≡ length to₀

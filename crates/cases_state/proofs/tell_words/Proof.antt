@@ -1,9 +1,9 @@
--- `cases_run::telling::tell_words` is safe and ends: each turn leaves one word fewer.
+-- `cases_state::tell_words` is safe and ends: each turn leaves one word fewer.
 use borrow.Author.Needs.{needs}
 use Prim.Native.Nat.{_-_}
 use lib.ListN.{length}
-use Rattle.cases_run.proofs.telling.tell_words.Statement.{statement}
-use Rattle.cases_run.proofs.telling.tell_words.Tie as tie
+use Rattle.cases_state.proofs.tell_words.Statement.{statement}
+use Rattle.cases_state.proofs.tell_words.Tie as tie
 
 abbrev Inv-loop : tie.InvT-loop
 Inv-loop entry i₀ t3 i = Unit

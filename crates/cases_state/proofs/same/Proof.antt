@@ -1,9 +1,9 @@
--- `cases_run::telling::same` is safe and ends: each turn leaves one word fewer.
+-- `cases_state::same` is safe and ends: each turn leaves one word fewer.
 use borrow.Author.Needs.{needs}
 use Prim.Native.Nat.{_-_}
 use lib.ListN.{length}
-use Rattle.cases_run.proofs.telling.same.Statement.{statement}
-use Rattle.cases_run.proofs.telling.same.Tie as tie
+use Rattle.cases_state.proofs.same.Statement.{statement}
+use Rattle.cases_state.proofs.same.Tie as tie
 
 abbrev Inv-loop : tie.InvT-loop
 Inv-loop a b i₀ i = Unit
