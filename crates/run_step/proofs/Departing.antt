@@ -15,7 +15,8 @@ use Rattle.run_state.specs.declared.Stepped.{Stepped}
 use Rattle.run_state.specs.Machines.{Words, words, machineAt, atHeight, Valued}
 use Rattle.run_state.specs.Moved.{moved, Taking, Ready}
 use Rattle.run_state.specs.Controlled.{Piled}
-use Rattle.run_control.specs.Control.{Finishes, Branchable, Branches}
+use Rattle.run_blocks.specs.Blocks.{Finishes}
+use Rattle.run_branches.specs.Branches.{Branchable, Branches}
 use Rattle.run_step.specs.Carried.{Movable, Carried}
 use Rattle.run_step.proofs.Controlling.{machine-controls, controlled-step}
 

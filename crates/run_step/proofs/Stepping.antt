@@ -32,7 +32,7 @@ use Rattle.run_state.specs.Moved.{moved, Astray, MoveIs, outcomeAt, StepIs}
 use Rattle.run_state.specs.Planned.{Holds}
 use Rattle.run_state.specs.Controlled.{Piled, ControlIs}
 use Rattle.run_state.proofs.Open.{innermost, lower-more, framed-op}
-use Rattle.run_control.specs.Control.{Low, OpensAs, as-block, as-loop, Opens, Closable, Closes}
+use Rattle.run_blocks.specs.Blocks.{Low, OpensAs, as-block, as-loop, Opens, Closable, Closes}
 use Rattle.body_decoded.specs.Named.{Modest}
 use Rattle.run_moves.specs.Moving.{MoveOf}
 use Rattle.body_decoded.proofs.Naming.{modest}

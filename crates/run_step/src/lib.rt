@@ -3,7 +3,6 @@ use body_immediates::Instruction;
 use run_state::Move;
 use run_state::Stage;
 use run_state::Stepped;
-use run_values::layout;
 ghost use Rattle.run_state.specs.Machines.{words};
 ghost use Rattle.run_step.specs.Carried.{Movable, Carried, Inside, InsideIs, Steppable, StepOf};
 
@@ -66,9 +65,9 @@ fn carry_out(
         }
         Move::Branches(n, label) => {
             let left = height - n;
-            run_control::branch(s, ends, operands, blocks, stage, left, label, results)
+            run_branches::branch(s, ends, operands, blocks, stage, left, label, results)
         }
-        Move::Returns => run_control::finish(operands, stage, height, results, s.len()),
+        Move::Returns => run_blocks::finish(operands, stage, height, results, s.len()),
     }
 }
 
@@ -145,9 +144,9 @@ pub fn step(
         ⌜ StepOf (now (s .entry)) (now (rows .entry)) (now (codes .entry)) (now (ends .entry)) count before after stage results r ⌝ }
 {
     match i {
-        Instruction::Block(_) => run_control::open(blocks, stage, next, layout::OPENED_BLOCK),
-        Instruction::Loop(_) => run_control::open(blocks, stage, next, layout::OPENED_LOOP),
-        Instruction::End => run_control::close(operands, blocks, stage, next, results, s.len()),
+        Instruction::Block(_) => run_blocks::open_block(blocks, stage, next),
+        Instruction::Loop(_) => run_blocks::open_loop(blocks, stage, next),
+        Instruction::End => run_blocks::close(operands, blocks, stage, next, results, s.len()),
         _ => {
             let onward = Stage {
                 place: next,

@@ -7,14 +7,14 @@ use Rattle.run_step.proofs.step.Tie as tie
 enum-told : tie.Need-enum-told
 enum-told c = search (step-exits, needs)
 
-open-requires : tie.Need-open-requires
-open-requires c κs = search (step-exits, needs)
+open-block-requires : tie.Need-open-block-requires
+open-block-requires c κs = search (step-exits, needs)
 
 enum-told-2 : tie.Need-enum-told-2
 enum-told-2 c = search (step-exits, needs)
 
-open-requires-2 : tie.Need-open-requires-2
-open-requires-2 c κs = search (step-exits, needs)
+open-loop-requires : tie.Need-open-loop-requires
+open-loop-requires c κs = search (step-exits, needs)
 
 enum-told-3 : tie.Need-enum-told-3
 enum-told-3 c = search (step-exits, needs)
@@ -69,9 +69,9 @@ step-spec =
     tie.close
     (tie.spec
     enum-told
-    open-requires
+    open-block-requires
     enum-told-2
-    open-requires-2
+    open-loop-requires
     enum-told-3
     close-requires
     step-inside-requires

@@ -1,0 +1,4 @@
+pub mod Jumping
+pub mod Outward
+pub mod Labels
+pub mod Branching

@@ -1,7 +1,0 @@
-pub mod Answers
-pub mod Opening
-pub mod Ending
-pub mod Jumping
-pub mod Outward
-pub mod Labels
-pub mod Branching
