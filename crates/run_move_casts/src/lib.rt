@@ -1,78 +1,32 @@
-// The moves of the casts, ref.test and the branching casts among them: one move where the value passes, another where it
+// The moves of the casts, ref.test and the branching casts among them: the move where the value passes, and the one where it
 // does not.
 use run_stack::Topmost;
 use run_state::Move;
-use run_state::Reference;
+use run_values::layout::I32;
 use scope::traps;
-use type_table::Link;
-ghost use mathlib.Core.Path.{_≡_};
-ghost use Rattle.run_move_casts.specs.Passes.{PassesAs, PassesDescriptorAs, chosenOf, CastChosen, DescriptorChosen};
+ghost use Rattle.scope.specs.Instructions.{ref-test, ref-cast, br-on-cast, br-on-cast-fail, ref-cast-desc-eq, br-on-cast-desc-eq, br-on-cast-desc-eq-fail};
+ghost use Rattle.type_table.specs.View.{heapAtCode};
+ghost use Rattle.body_decoded.specs.Decoded.{castOf};
+ghost use Rattle.run_move_casts.specs.Casts.{CastPlans, DescriptorPlans};
 
-// Whether a value passes a cast; or it is missing or no reference.
-pub enum Passing {
-    Wrong,
-    Is(bool),
-}
-
-// Null passes where the target may be null, an object by the type it was made as.
-fn passes_cast(
+// ref.test
+pub fn test_move(
     rows: &[u16],
     codes: &[u16],
     objects: &[u16],
     n: u32,
-    top: Topmost,
+    first: Topmost,
     null: bool,
     h: u64,
-) -> Passing
-    ensures { λ r. ⌜ PassesAs (now (rows .entry)) (now (codes .entry)) (now (objects .entry)) n top null h r ⌝ }
+) -> Move
+    ensures { λ r. ⌜ CastPlans (now (rows .entry)) (now (codes .entry)) (now (objects .entry)) n first (ref-test null (heapAtCode h)) r ⌝ }
 {
-    let reference = run_state::reference_of(top);
-    match reference {
-        Reference::Wrong => Passing::Wrong,
-        Reference::Null => Passing::Is(null),
-        Reference::To(o) => {
-            if n as u64 <= o {
-                return Passing::Wrong;
-            }
-            let made = run_heap::type_of(objects, o as u32);
-            let below = type_order::heap_below(rows, codes, 11 + 2 * made, h);
-            Passing::Is(below)
-        }
-    }
+    let one = Move::Gives(1, I32, 1);
+    let zero = Move::Gives(1, I32, 0);
+    run_passing::move_by_type(rows, codes, objects, n, first, null, h, one, zero)
 }
 
-// "ref.cast_desc_eq passes when the object's descriptor is the very object given, or on null with a nullable target."
-fn passes_descriptor(objects: &[u16], n: u32, top: Topmost, null: bool, d: u64) -> Passing
-    ensures { λ r. ⌜ PassesDescriptorAs (now (objects .entry)) n top null d r ⌝ }
-{
-    let reference = run_state::reference_of(top);
-    match reference {
-        Reference::Wrong => Passing::Wrong,
-        Reference::Null => Passing::Is(null),
-        Reference::To(o) => {
-            if n as u64 <= o {
-                return Passing::Wrong;
-            }
-            let link = run_heap::descriptor_of(objects, o as u32);
-            match link {
-                Link::Nothing => Passing::Is(false),
-                Link::To(e) => Passing::Is(e == d),
-            }
-        }
-    }
-}
-
-// The move by whether the value passes.
-fn chosen(passes: Passing, yes: Move, no: Move) -> Move
-    ensures { λ r. ⌜ r ≡ chosenOf passes yes no ⌝ }
-{
-    match passes {
-        Passing::Wrong => Move::Astray,
-        Passing::Is(so) => { if so { yes } else { no } }
-    }
-}
-
-// A cast of the topmost operand to the heap type with the code h, nullable or not.
+// ref.cast
 pub fn cast_move(
     rows: &[u16],
     codes: &[u16],
@@ -81,34 +35,104 @@ pub fn cast_move(
     first: Topmost,
     null: bool,
     h: u64,
-    yes: Move,
-    no: Move,
 ) -> Move
-    ensures { λ r. ⌜ CastChosen (now (rows .entry)) (now (codes .entry)) (now (objects .entry)) n first null h yes no r ⌝ }
+    ensures { λ r. ⌜ CastPlans (now (rows .entry)) (now (codes .entry)) (now (objects .entry)) n first (ref-cast null (heapAtCode h)) r ⌝ }
 {
-    let passes = passes_cast(rows, codes, objects, n, first, null, h);
-    chosen(passes, yes, no)
+    let onward = Move::Leaves(0);
+    let trap = Move::Traps(traps::CAST);
+    run_passing::move_by_type(rows, codes, objects, n, first, null, h, onward, trap)
 }
 
-// A cast of the operand under the topmost, which is the descriptor: that is looked at first.
+// br_on_cast: the target is asked for, not the source
+pub fn on_cast_move(
+    rows: &[u16],
+    codes: &[u16],
+    objects: &[u16],
+    n: u32,
+    first: Topmost,
+    l: u64,
+    source_null: bool,
+    source: u64,
+    null: bool,
+    h: u64,
+) -> Move
+    ensures { λ r. ⌜ CastPlans (now (rows .entry)) (now (codes .entry)) (now (objects .entry)) n first (br-on-cast (castOf l «source_null» source null h)) r ⌝ }
+{
+    let branch = Move::Branches(0, l);
+    let onward = Move::Leaves(0);
+    run_passing::move_by_type(rows, codes, objects, n, first, null, h, branch, onward)
+}
+
+// br_on_cast_fail
+pub fn on_cast_fail_move(
+    rows: &[u16],
+    codes: &[u16],
+    objects: &[u16],
+    n: u32,
+    first: Topmost,
+    l: u64,
+    source_null: bool,
+    source: u64,
+    null: bool,
+    h: u64,
+) -> Move
+    ensures { λ r. ⌜ CastPlans (now (rows .entry)) (now (codes .entry)) (now (objects .entry)) n first (br-on-cast-fail (castOf l «source_null» source null h)) r ⌝ }
+{
+    let onward = Move::Leaves(0);
+    let branch = Move::Branches(0, l);
+    run_passing::move_by_type(rows, codes, objects, n, first, null, h, onward, branch)
+}
+
+// ref.cast_desc_eq
 pub fn descriptor_cast_move(
     objects: &[u16],
     n: u32,
     first: Topmost,
     second: Topmost,
     null: bool,
-    yes: Move,
-    no: Move,
+    h: u64,
 ) -> Move
-    ensures { λ r. ⌜ DescriptorChosen (now (objects .entry)) n first second null yes no r ⌝ }
+    ensures { λ r. ⌜ DescriptorPlans (now (objects .entry)) n first second (ref-cast-desc-eq null (heapAtCode h)) r ⌝ }
 {
-    let descriptor = run_state::reference_of(first);
-    match descriptor {
-        Reference::Wrong => Move::Astray,
-        Reference::Null => Move::Traps(traps::NULL_DESCRIPTOR),
-        Reference::To(d) => {
-            let passes = passes_descriptor(objects, n, second, null, d);
-            chosen(passes, yes, no)
-        }
-    }
+    let onward = Move::Leaves(1);
+    let trap = Move::Traps(traps::CAST);
+    run_passing::move_by_descriptor(objects, n, first, second, null, onward, trap)
+}
+
+// br_on_cast_desc_eq
+pub fn on_descriptor_move(
+    objects: &[u16],
+    n: u32,
+    first: Topmost,
+    second: Topmost,
+    l: u64,
+    source_null: bool,
+    source: u64,
+    null: bool,
+    h: u64,
+) -> Move
+    ensures { λ r. ⌜ DescriptorPlans (now (objects .entry)) n first second (br-on-cast-desc-eq (castOf l «source_null» source null h)) r ⌝ }
+{
+    let branch = Move::Branches(1, l);
+    let onward = Move::Leaves(1);
+    run_passing::move_by_descriptor(objects, n, first, second, null, branch, onward)
+}
+
+// br_on_cast_desc_eq_fail
+pub fn on_descriptor_fail_move(
+    objects: &[u16],
+    n: u32,
+    first: Topmost,
+    second: Topmost,
+    l: u64,
+    source_null: bool,
+    source: u64,
+    null: bool,
+    h: u64,
+) -> Move
+    ensures { λ r. ⌜ DescriptorPlans (now (objects .entry)) n first second (br-on-cast-desc-eq-fail (castOf l «source_null» source null h)) r ⌝ }
+{
+    let onward = Move::Leaves(1);
+    let branch = Move::Branches(1, l);
+    run_passing::move_by_descriptor(objects, n, first, second, null, onward, branch)
 }

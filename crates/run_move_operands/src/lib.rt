@@ -8,6 +8,17 @@ use run_values::layout::OBJECT;
 use scope::traps;
 ghost use Rattle.scope.specs.Instructions.{drop-value, br-if, local-get, local-set, local-tee, ref-is-null, ref-eq, ref-as-non-null};
 ghost use Rattle.run_state.specs.Planned.{TopPlans, LocalPlans};
+ghost use Rattle.run_move_operands.specs.Seconds.{SecondIs};
+
+// The operand under the topmost.
+pub fn second_of(operands: &[u64], base: u32, height: u32) -> Topmost
+    ensures { λ r. ⌜ SecondIs (now (operands .entry)) base height r ⌝ }
+{
+    if height == 0 {
+        return Topmost::Nothing;
+    }
+    run_stack::top(operands, base, height - 1)
+}
 
 // drop
 pub fn drop_move(first: Topmost, second: Topmost) -> Move

@@ -1,24 +1,16 @@
 -- What it is to tell the move of an instruction from the words of a run's memory.
-use Prim.Native.Nat.{ℕ, _+_}
+use Prim.Native.Nat.{ℕ}
 use mathlib.Core.Path.{_≡_}
 use mathlib.Core.List.{List}
-use lib.ListN.{drop}
 use Rattle.scope.specs.Instructions.{Op, op}
 use Rattle.scope.specs.Machine.{Machine, Program, doOp}
 use Rattle.type_table.specs.View.{view}
 use Rattle.body_immediates.specs.declared.Instruction.{Instruction}
 use Rattle.body_decoded.specs.Decoded.{instrOf}
-use Rattle.run_values.specs.Values.{AllCanon}
-use Rattle.run_stack.specs.declared.Topmost.{Topmost}
-use Rattle.run_stack.specs.Pile.{pile}
 use Rattle.run_state.specs.declared.Stage.{Stage}
 use Rattle.run_state.specs.declared.Move.{Move}
 use Rattle.run_state.specs.Moved.{MoveIs}
-use Rattle.run_state.specs.Planned.{Seen, Holds}
-
--- the operand under the topmost
-pub record SecondIs (operands : List ℕ) (base height : ℕ) (r : Topmost) : Type 0 where
-  pub seen : AllCanon operands (base + height) → Seen (drop 1 (pile operands base height)) r
+use Rattle.run_state.specs.Planned.{Holds}
 
 -- the move of an instruction that neither opens nor closes a block; of those two nothing is said
 pub record MoveOf (rows codes objects cells locals operands : List ℕ) (count : ℕ) (st : Stage) (i : Instruction) (r : Move) : Type 0 where

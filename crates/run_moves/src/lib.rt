@@ -1,24 +1,13 @@
 // The move of each instruction, from the words of a run's memory. Nothing is written here. The moves are told in the
-// crates run_move_operands, run_move_structs and run_move_casts; the casts' two ways stand here.
+// crates run_move_operands, run_move_fields, run_move_new and run_move_casts.
 use body_immediates::Instruction;
-use run_stack::Topmost;
 use run_state::Move;
 use run_state::Stage;
 use run_values::layout::I32;
 use run_values::layout::NULL;
 use scope::traps;
 ghost use Rattle.body_decoded.specs.Named.{Modest};
-ghost use Rattle.run_moves.specs.Moving.{SecondIs, MoveOf};
-
-// The operand under the topmost.
-fn second_of(operands: &[u64], base: u32, height: u32) -> Topmost
-    ensures { λ r. ⌜ SecondIs (now (operands .entry)) base height r ⌝ }
-{
-    if height == 0 {
-        return Topmost::Nothing;
-    }
-    run_stack::top(operands, base, height - 1)
-}
+ghost use Rattle.run_moves.specs.Moving.{MoveOf};
 
 // What an instruction inside its block comes to; one that opens or closes a block has no move.
 pub fn move_of(
@@ -44,7 +33,7 @@ pub fn move_of(
     let base = stage.base;
     let height = stage.height;
     let first = run_stack::top(operands, base, height);
-    let second = second_of(operands, base, height);
+    let second = run_move_operands::second_of(operands, base, height);
     match i {
         Instruction::Unreachable => Move::Traps(traps::UNREACHABLE),
         Instruction::Nop => Move::Leaves(0),
@@ -63,7 +52,7 @@ pub fn move_of(
         Instruction::RefIsNull => run_move_operands::is_null_move(first, second),
         Instruction::RefEq => run_move_operands::eq_move(first, second),
         Instruction::RefAsNonNull => run_move_operands::as_non_null_move(first, second),
-        Instruction::StructNew(x) => run_move_structs::new_move(
+        Instruction::StructNew(x) => run_move_new::new_move(
             rows,
             codes,
             n,
@@ -73,93 +62,83 @@ pub fn move_of(
             x,
         ),
         Instruction::StructNewDefault(x) => {
-            run_move_structs::new_default_move(rows, codes, n, total, height, first, x)
+            run_move_new::new_default_move(rows, codes, n, total, height, first, x)
         }
         Instruction::StructGet(x, f) => {
-            run_move_structs::get_field_move(objects, cells, n, first, second, x, f)
+            run_move_fields::get_field_move(objects, cells, n, first, second, x, f)
         }
         Instruction::StructSet(x, f) => {
-            run_move_structs::set_field_move(objects, cells, n, first, second, x, f)
+            run_move_fields::set_field_move(objects, cells, n, first, second, x, f)
         }
-        Instruction::RefTest(null, h) => run_move_casts::cast_move(
+        Instruction::RefTest(null, h) => {
+            run_move_casts::test_move(rows, codes, objects, n, first, null, h)
+        }
+        Instruction::RefCast(null, h) => {
+            run_move_casts::cast_move(rows, codes, objects, n, first, null, h)
+        }
+        Instruction::BrOnCast(l, source_null, source, null, h) => run_move_casts::on_cast_move(
             rows,
             codes,
             objects,
             n,
             first,
+            l,
+            source_null,
+            source,
             null,
             h,
-            Move::Gives(1, I32, 1),
-            Move::Gives(1, I32, 0),
         ),
-        Instruction::RefCast(null, h) => run_move_casts::cast_move(
-            rows,
-            codes,
-            objects,
-            n,
-            first,
-            null,
-            h,
-            Move::Leaves(0),
-            Move::Traps(traps::CAST),
-        ),
-        Instruction::BrOnCast(l, _, _, null, h) => run_move_casts::cast_move(
-            rows,
-            codes,
-            objects,
-            n,
-            first,
-            null,
-            h,
-            Move::Branches(0, l),
-            Move::Leaves(0),
-        ),
-        Instruction::BrOnCastFail(l, _, _, null, h) => run_move_casts::cast_move(
-            rows,
-            codes,
-            objects,
-            n,
-            first,
-            null,
-            h,
-            Move::Leaves(0),
-            Move::Branches(0, l),
-        ),
+        Instruction::BrOnCastFail(l, source_null, source, null, h) => {
+            run_move_casts::on_cast_fail_move(
+                rows,
+                codes,
+                objects,
+                n,
+                first,
+                l,
+                source_null,
+                source,
+                null,
+                h,
+            )
+        }
         Instruction::StructNewDesc(x) => {
-            run_move_structs::new_desc_move(rows, codes, n, total, height, first, x)
+            run_move_new::new_desc_move(rows, codes, n, total, height, first, x)
         }
         Instruction::StructNewDefaultDesc(x) => {
-            run_move_structs::new_default_desc_move(rows, codes, n, total, height, first, x)
+            run_move_new::new_default_desc_move(rows, codes, n, total, height, first, x)
         }
         Instruction::RefGetDesc(x) => {
-            run_move_structs::get_descriptor_move(objects, cells, n, first, second, x)
+            run_move_fields::get_descriptor_move(objects, cells, n, first, second, x)
         }
-        Instruction::RefCastDescEq(null, _) => run_move_casts::descriptor_cast_move(
-            objects,
-            n,
-            first,
-            second,
-            null,
-            Move::Leaves(1),
-            Move::Traps(traps::CAST),
-        ),
-        Instruction::BrOnCastDescEq(l, _, _, null, _) => run_move_casts::descriptor_cast_move(
-            objects,
-            n,
-            first,
-            second,
-            null,
-            Move::Branches(1, l),
-            Move::Leaves(1),
-        ),
-        Instruction::BrOnCastDescEqFail(l, _, _, null, _) => run_move_casts::descriptor_cast_move(
-            objects,
-            n,
-            first,
-            second,
-            null,
-            Move::Leaves(1),
-            Move::Branches(1, l),
-        ),
+        Instruction::RefCastDescEq(null, h) => {
+            run_move_casts::descriptor_cast_move(objects, n, first, second, null, h)
+        }
+        Instruction::BrOnCastDescEq(l, source_null, source, null, h) => {
+            run_move_casts::on_descriptor_move(
+                objects,
+                n,
+                first,
+                second,
+                l,
+                source_null,
+                source,
+                null,
+                h,
+            )
+        }
+        Instruction::BrOnCastDescEqFail(l, source_null, source, null, h) => {
+            run_move_casts::on_descriptor_fail_move(
+                objects,
+                n,
+                first,
+                second,
+                l,
+                source_null,
+                source,
+                null,
+                h,
+            )
+        }
     }
 }

@@ -1,46 +1,14 @@
 -- `run_move_casts::descriptor_cast_move` meets its contract.
 use borrow.Author.Needs.{needs}
-use Rattle.run_move_casts.proofs.Choices.{chosen-exits}
+use Rattle.run_move_casts.proofs.CastWays.{cast-exits}
 use Rattle.run_move_casts.proofs.descriptor_cast_move.Statement.{statement}
 use Rattle.run_move_casts.proofs.descriptor_cast_move.Tie as tie
 
-reference-of-requires : tie.Need-reference-of-requires
-reference-of-requires c κs = search (chosen-exits, needs)
-
-enum-told : tie.Need-enum-told
-enum-told c = search (chosen-exits, needs)
-
-enum-told-2 : tie.Need-enum-told-2
-enum-told-2 c = search (chosen-exits, needs)
-
-enum-known-descriptor : tie.Need-enum-known-descriptor
-enum-known-descriptor c = search (chosen-exits, needs)
-
-passes-descriptor-requires : tie.Need-passes-descriptor-requires
-passes-descriptor-requires c κs = search (chosen-exits, needs)
-
-chosen-requires : tie.Need-chosen-requires
-chosen-requires c κs = search (chosen-exits, needs)
+move-by-descriptor-requires : tie.Need-move-by-descriptor-requires
+move-by-descriptor-requires c κs = search (cast-exits, needs)
 
 returns : tie.Need-returns
-returns c = search (chosen-exits, needs)
-
-returns-2 : tie.Need-returns-2
-returns-2 c = search (chosen-exits, needs)
-
-returns-3 : tie.Need-returns-3
-returns-3 c = search (chosen-exits, needs)
+returns c = search (cast-exits, needs)
 
 pub descriptor-cast-move-spec : {M : Type 1} → statement M
-descriptor-cast-move-spec =
-    tie.close
-    (tie.spec
-    reference-of-requires
-    enum-told
-    enum-told-2
-    enum-known-descriptor
-    passes-descriptor-requires
-    chosen-requires
-    returns
-    returns-2
-    returns-3)
+descriptor-cast-move-spec = tie.close (tie.spec move-by-descriptor-requires returns)

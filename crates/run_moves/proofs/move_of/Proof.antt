@@ -116,26 +116,26 @@ set-field-move-requires c κs = search (arm-exits, needs)
 enum-known-i-11 : tie.Need-enum-known-i-11
 enum-known-i-11 c = search (arm-exits, needs)
 
-cast-move-requires : tie.Need-cast-move-requires
-cast-move-requires c κs = search (arm-exits, needs)
+test-move-requires : tie.Need-test-move-requires
+test-move-requires c κs = search (arm-exits, needs)
 
 enum-known-i-12 : tie.Need-enum-known-i-12
 enum-known-i-12 c = search (arm-exits, needs)
 
-cast-move-requires-2 : tie.Need-cast-move-requires-2
-cast-move-requires-2 c κs = search (arm-exits, needs)
+cast-move-requires : tie.Need-cast-move-requires
+cast-move-requires c κs = search (arm-exits, needs)
 
 enum-known-i-13 : tie.Need-enum-known-i-13
 enum-known-i-13 c = search (arm-exits, needs)
 
-cast-move-requires-3 : tie.Need-cast-move-requires-3
-cast-move-requires-3 c κs = search (arm-exits, needs)
+on-cast-move-requires : tie.Need-on-cast-move-requires
+on-cast-move-requires c κs = search (arm-exits, needs)
 
 enum-known-i-14 : tie.Need-enum-known-i-14
 enum-known-i-14 c = search (arm-exits, needs)
 
-cast-move-requires-4 : tie.Need-cast-move-requires-4
-cast-move-requires-4 c κs = search (arm-exits, needs)
+on-cast-fail-move-requires : tie.Need-on-cast-fail-move-requires
+on-cast-fail-move-requires c κs = search (arm-exits, needs)
 
 enum-known-i-15 : tie.Need-enum-known-i-15
 enum-known-i-15 c = search (arm-exits, needs)
@@ -166,14 +166,14 @@ descriptor-cast-move-requires c κs = search (arm-exits, needs)
 enum-known-i-19 : tie.Need-enum-known-i-19
 enum-known-i-19 c = search (arm-exits, needs)
 
-descriptor-cast-move-requires-2 : tie.Need-descriptor-cast-move-requires-2
-descriptor-cast-move-requires-2 c κs = search (arm-exits, needs)
+on-descriptor-move-requires : tie.Need-on-descriptor-move-requires
+on-descriptor-move-requires c κs = search (arm-exits, needs)
 
 enum-known-i-20 : tie.Need-enum-known-i-20
 enum-known-i-20 c = search (arm-exits, needs)
 
-descriptor-cast-move-requires-3 : tie.Need-descriptor-cast-move-requires-3
-descriptor-cast-move-requires-3 c κs = search (arm-exits, needs)
+on-descriptor-fail-move-requires : tie.Need-on-descriptor-fail-move-requires
+on-descriptor-fail-move-requires c κs = search (arm-exits, needs)
 
 returns : tie.Need-returns
 unfolding instrOf
@@ -339,13 +339,13 @@ move-of-spec =
     enum-known-i-10
     set-field-move-requires
     enum-known-i-11
-    cast-move-requires
+    test-move-requires
     enum-known-i-12
-    cast-move-requires-2
+    cast-move-requires
     enum-known-i-13
-    cast-move-requires-3
+    on-cast-move-requires
     enum-known-i-14
-    cast-move-requires-4
+    on-cast-fail-move-requires
     enum-known-i-15
     new-desc-move-requires
     enum-known-i-16
@@ -355,9 +355,9 @@ move-of-spec =
     enum-known-i-18
     descriptor-cast-move-requires
     enum-known-i-19
-    descriptor-cast-move-requires-2
+    on-descriptor-move-requires
     enum-known-i-20
-    descriptor-cast-move-requires-3
+    on-descriptor-fail-move-requires
     returns
     returns-2
     returns-3
