@@ -17,8 +17,9 @@ use Rattle.run_state.specs.Machines.{words, machineAt, Valued}
 use Rattle.run_state.specs.Written.{StateTold}
 use Rattle.run_buffers.specs.States.{stateOf, Settling, Settled}
 use Rattle.run_buffers.proofs.Settles.{settled-told}
-use Rattle.run_loop.specs.declared.Ending.{Ending}
-use Rattle.run_loop.specs.Runs.{stageOf, RanFrom}
+use Rattle.run_turn.specs.declared.Ending.{Ending}
+use Rattle.run_turn.specs.Endings.{stageOf}
+use Rattle.run_loop.specs.Runs.{RanFrom}
 use Rattle.run_ending.specs.Telling.{tellOf}
 use Rattle.run_ending.proofs.Endings.{told-ending, told-machine}
 use Rattle.run_prepare.specs.declared.Prepared.{Prepared}

@@ -9,9 +9,9 @@ use Rattle.scope.specs.Answers.{machineOf, ranAs}
 use Rattle.run_stack.proofs.Laws.{pile-length}
 use Rattle.run_state.specs.Machines.{Words, machineAt}
 use Rattle.run_state.specs.Written.{StateTold}
-use Rattle.run_loop.specs.declared.Ending.{Ending}
-use Rattle.run_loop.specs.declared.Ending
-use Rattle.run_loop.specs.Runs.{stageOf, endingAt}
+use Rattle.run_turn.specs.declared.Ending.{Ending}
+use Rattle.run_turn.specs.declared.Ending
+use Rattle.run_turn.specs.Endings.{stageOf, endingAt}
 use Rattle.run_ending.specs.Telling.{tellOf}
 
 head-same : {a b : ℕ} {more others : List ℕ} → a ∷ more ≡ b ∷ others → a ≡ b

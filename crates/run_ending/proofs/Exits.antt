@@ -5,9 +5,9 @@ use Rattle.scope.specs.declared.Ran.{Ran}
 use Rattle.scope.specs.declared.Ran
 use Rattle.run_state.specs.declared.Stage.{Stage}
 use Rattle.run_state.specs.Machines.{startStage}
-use Rattle.run_loop.specs.declared.Ending.{Ending}
-use Rattle.run_loop.specs.declared.Ending
-use Rattle.run_loop.specs.Runs.{stageOf}
+use Rattle.run_turn.specs.declared.Ending.{Ending}
+use Rattle.run_turn.specs.declared.Ending
+use Rattle.run_turn.specs.Endings.{stageOf}
 use Rattle.run_ending.specs.Telling.{tellOf}
 
 module _ (first : ℕ) {ended : Ending} where

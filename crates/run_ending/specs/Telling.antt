@@ -2,8 +2,8 @@
 use Prim.Native.Nat.{ℕ}
 use Rattle.scope.specs.declared.Ran.{Ran}
 use Rattle.scope.specs.declared.Ran
-use Rattle.run_loop.specs.declared.Ending.{Ending}
-use Rattle.run_loop.specs.declared.Ending
+use Rattle.run_turn.specs.declared.Ending.{Ending}
+use Rattle.run_turn.specs.declared.Ending
 
 abbrev pub tellOf : ℕ → Ending → Ran
 tellOf first (Ending.the-variants.Done st steps) = Ran.the-variants.Done steps (st .height)

@@ -1,9 +1,9 @@
 // What a trial run leaves: where it stands at its end, how it ended in the words of the answer, and scratch that is zero.
-use run_loop::Ending;
 use run_state::Stage;
+use run_turn::Ending;
 use scope::Ran;
 ghost use mathlib.Core.Path.{_≡_};
-ghost use Rattle.run_loop.specs.Runs.{stageOf};
+ghost use Rattle.run_turn.specs.Endings.{stageOf};
 ghost use Rattle.run_ending.specs.Telling.{tellOf};
 ghost use Rattle.run_ending.specs.Wiping.{ScratchCleared};
 

@@ -6,8 +6,7 @@ use lib.ListN.{length}
 use Rattle.scope.specs.Layout.{blockSpan}
 use Rattle.scope.specs.Reading.{got}
 use Rattle.scope.specs.Instructions.{Instr, instrAt}
-use Rattle.scope.specs.Running as running
-use Rattle.scope.specs.Running.{done, trapped, spent, wrong, run}
+use Rattle.scope.specs.Running.{run}
 use Rattle.scope.specs.Memory.{stateWords}
 use Rattle.body_immediates.specs.Coding.{instructionOf}
 use Rattle.body_decoded.specs.Decoded.{instrOf}
@@ -16,8 +15,8 @@ use Rattle.run_state.specs.declared.Stage.{Stage}
 use Rattle.run_state.specs.Machines.{Words, machineAt, programAt, startStage, Valued, Orderly}
 use Rattle.run_state.specs.Written.{StateTold}
 use Rattle.run_sound.specs.Sound.{Sound}
-use Rattle.run_loop.specs.declared.Ending.{Ending}
-use Rattle.run_loop.specs.declared.Ending
+use Rattle.run_turn.specs.declared.Ending.{Ending}
+use Rattle.run_turn.specs.Endings.{stageOf, endingAt}
 
 -- an instruction can be read at the stage's place, and what is kept of it is it
 pub record Readable (s ends : List ℕ) (count : ℕ) (w : Words) (st : Stage) : Type 0 where
@@ -29,18 +28,6 @@ pub record Readable (s ends : List ℕ) (count : ℕ) (w : Words) (st : Stage) :
 pub record Runnable (s rows codes ends : List ℕ) (count : ℕ) (w : Words) (results first : ℕ) : Type 0 where
   pub orderly : Orderly s ends count w (startStage first)
   pub sound : Sound s (programAt rows codes results) (machineAt s count w (startStage first))
-
-abbrev pub stageOf : ℕ → Ending → Stage
-stageOf first (Ending.the-variants.Done st steps) = st
-stageOf first (Ending.the-variants.Trapped number st steps) = st
-stageOf first (Ending.the-variants.Spent st steps) = st
-stageOf first Ending.the-variants.Astray = startStage first
-
-unfoldable pub endingAt : List ℕ → ℕ → Words → ℕ → Ending → running.Ending
-endingAt s count w first (Ending.the-variants.Done st steps) = done steps (machineAt s count w st)
-endingAt s count w first (Ending.the-variants.Trapped number st steps) = trapped number steps (machineAt s count w st)
-endingAt s count w first (Ending.the-variants.Spent st steps) = spent steps (machineAt s count w st)
-endingAt s count w first Ending.the-variants.Astray = wrong 0 (machineAt s count w (startStage first))
 
 pub record RanFrom (s rows codes : List ℕ) (count : ℕ) (w w′ : Words) (results first budget : ℕ) (r : Ending) : Type 0 where
   pub is : endingAt s count w′ first r ≡ run (programAt rows codes results) budget 0 (machineAt s count w (startStage first))

@@ -2,17 +2,11 @@
 use body_immediates::InstructionRead;
 use run_state::Stage;
 use run_state::Stepped;
+use run_turn::Ending;
+use run_turn::Turn;
 ghost use Rattle.run_state.specs.Machines.{words};
 ghost use Rattle.run_step.specs.Carried.{StepOf};
 ghost use Rattle.run_loop.specs.Runs.{Readable, Runnable, RanFrom};
-
-// How it ended, where it then stands, and after how many steps. A trap has its number. Astray: no accepted body comes to it.
-pub enum Ending {
-    Done(Stage, u64),
-    Trapped(u64, Stage, u64),
-    Spent(Stage, u64),
-    Astray,
-}
 
 // The next step: of the instruction at the stage's place.
 fn step_next(
@@ -83,7 +77,6 @@ pub fn run_from(
     let mut stage = run_state::start(first);
     let mut steps: u64 = 0;
     while steps < budget {
-        let after = steps + 1;
         let stepped = step_next(
             s,
             rows,
@@ -98,17 +91,12 @@ pub fn run_from(
             results,
             stage,
         );
-        match stepped {
-            Stepped::Astray => {
-                return Ending::Astray;
+        let turn = run_turn::turn_of(stepped, stage, steps);
+        match turn {
+            Turn::Over(ended) => {
+                return ended;
             }
-            Stepped::Traps(number) => {
-                return Ending::Trapped(number, stage, after);
-            }
-            Stepped::Ends(later) => {
-                return Ending::Done(later, after);
-            }
-            Stepped::Goes(later) => {
+            Turn::On(later, after) => {
                 stage = later;
                 steps = after;
             }

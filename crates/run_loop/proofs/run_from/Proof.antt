@@ -2,7 +2,7 @@
 use Prim.Native.Nat.{_-_}
 use borrow.Author.Needs.{needs}
 use Rattle.run_state.specs.Machines.{words}
-use Rattle.run_loop.proofs.Looping.{Going, going-trapped, run-exits}
+use Rattle.run_loop.proofs.Looping.{Going, steps-fit, run-exits}
 use Rattle.run_loop.proofs.run_from.Statement.{statement}
 use Rattle.run_loop.proofs.run_from.Tie as tie
 
@@ -20,14 +20,17 @@ start-requires c κs = search (run-exits, needs)
 loop-holds : tie.Need-loop-holds Inv-loop μ-loop
 loop-holds c = search (run-exits, needs)
 
-add-after : tie.Need-add-after Inv-loop μ-loop
-add-after c = search (run-exits, needs)
-
 step-next-requires : tie.Need-step-next-requires Inv-loop μ-loop
 step-next-requires c κs = search (run-exits, needs)
 
-enum-told : tie.Need-enum-told Inv-loop μ-loop
-enum-told c = search (run-exits, needs)
+turn-of-requires : tie.Need-turn-of-requires Inv-loop μ-loop
+turn-of-requires c κs =
+    let called = c .before .before .before .before .before .before .before .before .before .before in
+    let tested = called .before .before .before .before .before .before in
+    steps-fit (tested .before .loop .inv) (tested .loop-test .taken)
+
+enum-known-turn : tie.Need-enum-known-turn Inv-loop μ-loop
+enum-known-turn c = search (run-exits, needs)
 
 same-length : tie.Need-same-length Inv-loop μ-loop
 same-length c = search (run-exits, needs)
@@ -47,8 +50,14 @@ same-length-5 c = search (run-exits, needs)
 returns : tie.Need-returns Inv-loop μ-loop
 returns c = search (run-exits, needs)
 
-enum-known-stepped : tie.Need-enum-known-stepped Inv-loop μ-loop
-enum-known-stepped c = search (run-exits, needs)
+enum-known-turn-2 : tie.Need-enum-known-turn-2 Inv-loop μ-loop
+enum-known-turn-2 c = search (run-exits, needs)
+
+loop-less : tie.Need-loop-less Inv-loop μ-loop
+loop-less c = search (run-exits, needs)
+
+loop-again : tie.Need-loop-again Inv-loop μ-loop
+loop-again c = search (run-exits, needs)
 
 same-length-6 : tie.Need-same-length-6 Inv-loop μ-loop
 same-length-6 c = search (run-exits, needs)
@@ -66,58 +75,7 @@ same-length-10 : tie.Need-same-length-10 Inv-loop μ-loop
 same-length-10 c = search (run-exits, needs)
 
 returns-2 : tie.Need-returns-2 Inv-loop μ-loop
-returns-2 c =
-    let called = c .before .before .before .before .before .before .before .before .before .before .before .before .before in
-    let tested = called .before .before .before .before .before .before in
-    going-trapped (tested .before .loop .inv) (called .step-next .ensures) (tested .loop-test .taken) (search needs)
-
-enum-known-stepped-2 : tie.Need-enum-known-stepped-2 Inv-loop μ-loop
-enum-known-stepped-2 c = search (run-exits, needs)
-
-same-length-11 : tie.Need-same-length-11 Inv-loop μ-loop
-same-length-11 c = search (run-exits, needs)
-
-same-length-12 : tie.Need-same-length-12 Inv-loop μ-loop
-same-length-12 c = search (run-exits, needs)
-
-same-length-13 : tie.Need-same-length-13 Inv-loop μ-loop
-same-length-13 c = search (run-exits, needs)
-
-same-length-14 : tie.Need-same-length-14 Inv-loop μ-loop
-same-length-14 c = search (run-exits, needs)
-
-same-length-15 : tie.Need-same-length-15 Inv-loop μ-loop
-same-length-15 c = search (run-exits, needs)
-
-returns-3 : tie.Need-returns-3 Inv-loop μ-loop
-returns-3 c = search (run-exits, needs)
-
-enum-known-stepped-3 : tie.Need-enum-known-stepped-3 Inv-loop μ-loop
-enum-known-stepped-3 c = search (run-exits, needs)
-
-loop-less : tie.Need-loop-less Inv-loop μ-loop
-loop-less c = search (run-exits, needs)
-
-loop-again : tie.Need-loop-again Inv-loop μ-loop
-loop-again c = search (run-exits, needs)
-
-same-length-16 : tie.Need-same-length-16 Inv-loop μ-loop
-same-length-16 c = search (run-exits, needs)
-
-same-length-17 : tie.Need-same-length-17 Inv-loop μ-loop
-same-length-17 c = search (run-exits, needs)
-
-same-length-18 : tie.Need-same-length-18 Inv-loop μ-loop
-same-length-18 c = search (run-exits, needs)
-
-same-length-19 : tie.Need-same-length-19 Inv-loop μ-loop
-same-length-19 c = search (run-exits, needs)
-
-same-length-20 : tie.Need-same-length-20 Inv-loop μ-loop
-same-length-20 c = search (run-exits, needs)
-
-returns-4 : tie.Need-returns-4 Inv-loop μ-loop
-returns-4 c = search (run-exits, needs)
+returns-2 c = search (run-exits, needs)
 
 pub run-from-spec : {M : Type 1} → statement M
 run-from-spec =
@@ -127,35 +85,21 @@ run-from-spec =
     μ-loop
     start-requires
     loop-holds
-    add-after
     step-next-requires
-    enum-told
+    turn-of-requires
+    enum-known-turn
     same-length
     same-length-2
     same-length-3
     same-length-4
     same-length-5
     returns
-    enum-known-stepped
+    enum-known-turn-2
+    loop-less
+    loop-again
     same-length-6
     same-length-7
     same-length-8
     same-length-9
     same-length-10
-    returns-2
-    enum-known-stepped-2
-    same-length-11
-    same-length-12
-    same-length-13
-    same-length-14
-    same-length-15
-    returns-3
-    enum-known-stepped-3
-    loop-less
-    loop-again
-    same-length-16
-    same-length-17
-    same-length-18
-    same-length-19
-    same-length-20
-    returns-4)
+    returns-2)
