@@ -1,70 +1,37 @@
 -- Each way out: the counts put, and zero beyond what they count; and what is then in the buffers is the state that is told.
-use Prim.Native.Nat.{ℕ, _+_, _-_, _*_, _≤_}
-use mathlib.Core.Path.{_≡_, refl, sym, ap, _∙_}
-use mathlib.Core.List.{List, [], _∷_, _++_}
-use native.Mathlib.Omega.{arith}
-use lib.ListN.{length, set, take, replicate}
-use Rattle.scope.specs.Layout.{valueSpan, objectSpan, blockSpan, countsSize}
+use Prim.Native.Nat.{ℕ, _*_, _≤_}
+use mathlib.Core.Path.{_≡_, sym, ap, _∙_}
+use mathlib.Core.List.{List}
+use lib.ListN.{length, take}
+use Rattle.scope.specs.Layout.{blockSpan}
 use Rattle.scope.specs.Memory.{StateWords, filled}
-use Rattle.run_values.proofs.Laws.{wiped-filled}
 use Rattle.run_state.specs.declared.Stage.{Stage}
 use Rattle.run_state.specs.Machines.{words}
 use Rattle.run_state.specs.Written.{StateTold}
-use Rattle.run_buffers.specs.States.{stateOf, countsOf, CountRoom, Settling, Settled, Written}
-
--- the counts
-
-pub three-put :
-    (m : List ℕ) {m₁ m₂ m₃ : List ℕ} (at a b c : ℕ) → m₁ ≡ set m at a → m₂ ≡ set m₁ (at + 1) b → m₃ ≡ set m₂ (at + 2) c
-    → m₃ ≡ set (set (set m at a) (at + 1) b) (at + 2) c
-three-put m at a b c e f g = rw (g, f, e)
-
-abbrev six : List ℕ → ℕ → ℕ → ℕ → ℕ → ℕ → ℕ → List ℕ
-six m a b c d e f = set (set (set (set (set (set m 0 a) 1 b) 2 c) 3 d) 4 e) 5 f
-
-six-filled : (m : List ℕ) (a b c d e f : ℕ) → countsSize ≤ length m → take countsSize (six m a b c d e f) ++ replicate (length (six m a b c d e f) - countsSize) 0 ≡ filled m (a ∷ b ∷ c ∷ d ∷ e ∷ f ∷ [])
-six-filled (t ∷ u ∷ v ∷ w ∷ x ∷ y ∷ m) a b c d e f h = refl
-six-filled (t ∷ u ∷ v ∷ w ∷ x ∷ []) a b c d e f h = absurd (omega arith)
-six-filled (t ∷ u ∷ v ∷ w ∷ []) a b c d e f h = absurd (omega arith)
-six-filled (t ∷ u ∷ v ∷ []) a b c d e f h = absurd (omega arith)
-six-filled (t ∷ u ∷ []) a b c d e f h = absurd (omega arith)
-six-filled (t ∷ []) a b c d e f h = absurd (omega arith)
-six-filled [] a b c d e f h = absurd (omega arith)
-
-module _ {st : Stage} {m : List ℕ} (room : CountRoom st m) (count : ℕ) where
-  pub counts-put :
-      {m₁ m₂ m′ : List ℕ} → m₁ ≡ set (set (set m 0 (st .place)) 1 (st .objects)) 2 (st .cells) → m₂ ≡ set (set (set m₁ 3 count) 4 (st .base + st .height)) 5 (st .depth)
-      → m′ ≡ take countsSize m₂ ++ replicate (length m₂ - countsSize) 0 → m′ ≡ filled m (countsOf count st)
-  counts-put a b c =
-      rw (c, b, a) (six-filled m (st .place) (st .objects) (st .cells) count (st .base + st .height) (st .depth) (room .room))
-
-pub ruleset count-exits = (three-put, counts-put)
-
--- zero beyond what is counted
+use Rattle.run_settle.specs.Counts.{countsOf, CountRoom}
+use Rattle.run_settle.specs.Beyond.{HeapRoom, HeapSettled, ValueRoom, ValuesSettled}
+use Rattle.run_buffers.specs.States.{stateOf, Settling, Settled, Written}
 
 module _ {count : ℕ} {st : Stage} {c o e l p b : List ℕ} (s : Settling count st (stateOf c o e l p b)) where
   pub may-count : CountRoom st c
   may-count = record { room = s .counts; high = s .high }
 
-  pub settled :
-      {c′ o′ e′ l′ p′ b′ : List ℕ} → c′ ≡ filled c (countsOf count st)
-      → o′ ≡ take (objectSpan * st .objects) o ++ replicate (length o - objectSpan * st .objects) 0
-      → e′ ≡ take (valueSpan * st .cells) e ++ replicate (length e - valueSpan * st .cells) 0
-      → l′ ≡ take (valueSpan * count) l ++ replicate (length l - valueSpan * count) 0
-      → p′ ≡ take (valueSpan * (st .base + st .height)) p ++ replicate (length p - valueSpan * (st .base + st .height)) 0
-      → b′ ≡ take (blockSpan * st .depth) b ++ replicate (length b - blockSpan * st .depth) 0
-      → Settled count st (stateOf c o e l p b) (stateOf c′ o′ e′ l′ p′ b′)
-  settled cs os es ls ps bs =
-      record {
-        counts = cs;
-        objects = os ∙ wiped-filled o (s .objects) refl;
-        cells = es ∙ wiped-filled e (s .cells) refl;
-        locals = ls ∙ wiped-filled l (s .locals) refl;
-        operands = ps ∙ wiped-filled p (s .operands) refl;
-        blocks = bs ∙ wiped-filled b (s .blocks) refl;
-      }
+  pub may-heap : HeapRoom st o e
+  may-heap = record { objects = s .objects; cells = s .cells }
 
-pub ruleset settle-exits = (may-count, settled)
+  pub may-values : ValueRoom count st l p
+  may-values = record { locals = s .locals; operands = s .operands; high = s .high }
+
+  pub may-blocks : blockSpan * st .depth ≤ length b
+  may-blocks = s .blocks
+
+  pub settled :
+      {c′ o′ e′ l′ p′ b′ : List ℕ} → c′ ≡ filled c (countsOf count st) → HeapSettled st o e o′ e′ → ValuesSettled count st l p l′ p′
+      → b′ ≡ filled b (take (blockSpan * st .depth) b) → Settled count st (stateOf c o e l p b) (stateOf c′ o′ e′ l′ p′ b′)
+  settled cs h v bs =
+      record { counts = cs; objects = h .objects; cells = h .cells; locals = v .locals; operands = v .operands; blocks = bs }
+
+pub ruleset settle-exits = (may-count, may-heap, may-values, may-blocks, settled)
 
 -- the buffers then hold the state that is told
 

@@ -2,13 +2,14 @@
 -- scope's Memory.antt writes it.
 use Prim.Native.Nat.{ℕ, _+_, _*_, _≤_}
 use mathlib.Core.Path.{_≡_}
-use mathlib.Core.List.{List, [], _∷_}
+use mathlib.Core.List.{List}
 use lib.ListN.{length, take}
 use Rattle.scope.specs.Sizes.{mostOperands}
 use Rattle.scope.specs.Layout.{valueSpan, objectSpan, blockSpan, countsSize}
 use Rattle.scope.specs.Memory.{StateWords, filled, wiped}
 use Rattle.scope.specs.Answers.{RunMemory}
 use Rattle.run_state.specs.declared.Stage.{Stage}
+use Rattle.run_settle.specs.Counts.{countsOf}
 
 abbrev pub stateOf : List ℕ → List ℕ → List ℕ → List ℕ → List ℕ → List ℕ → StateWords
 stateOf counts objects cells locals operands blocks =
@@ -25,14 +26,6 @@ pub record Cleared (state state′ : StateWords) : Type 0 where
   pub locals : state′ .locals ≡ wiped (state .locals)
   pub operands : state′ .operands ≡ wiped (state .operands)
   pub blocks : state′ .blocks ≡ wiped (state .blocks)
-
--- the place, and how many objects, cells, locals, operands and open blocks there are
-abbrev pub countsOf : ℕ → Stage → List ℕ
-countsOf count st = st .place ∷ st .objects ∷ st .cells ∷ count ∷ (st .base + st .height) ∷ st .depth ∷ []
-
-pub record CountRoom (st : Stage) (counts : List ℕ) : Type 0 where
-  pub room : countsSize ≤ length counts
-  pub high : st .base + st .height ≤ mostOperands
 
 -- what is counted lies within the buffers
 pub record Settling (count : ℕ) (st : Stage) (state : StateWords) : Type 0 where

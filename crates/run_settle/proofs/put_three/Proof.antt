@@ -1,8 +1,8 @@
--- `run_buffers::put_three` meets its contract.
+-- `run_settle::put_three` meets its contract.
 use borrow.Author.Needs.{needs}
-use Rattle.run_buffers.proofs.Settles.{count-exits}
-use Rattle.run_buffers.proofs.put_three.Statement.{statement}
-use Rattle.run_buffers.proofs.put_three.Tie as tie
+use Rattle.run_settle.proofs.Counting.{count-exits}
+use Rattle.run_settle.proofs.put_three.Statement.{statement}
+use Rattle.run_settle.proofs.put_three.Tie as tie
 
 put64-requires : tie.Need-put64-requires
 put64-requires c κs = search (count-exits, needs)

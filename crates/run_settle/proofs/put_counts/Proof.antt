@@ -1,8 +1,8 @@
--- `run_buffers::put_counts` meets its contract.
+-- `run_settle::put_counts` meets its contract.
 use borrow.Author.Needs.{needs}
-use Rattle.run_buffers.proofs.Settles.{count-exits}
-use Rattle.run_buffers.proofs.put_counts.Statement.{statement}
-use Rattle.run_buffers.proofs.put_counts.Tie as tie
+use Rattle.run_settle.proofs.Counting.{count-exits}
+use Rattle.run_settle.proofs.put_counts.Statement.{statement}
+use Rattle.run_settle.proofs.put_counts.Tie as tie
 
 add-operands : tie.Need-add-operands
 add-operands c = search (count-exits, needs)
