@@ -1,6 +1,6 @@
 -- Each way out: the two ways of a cast, where the value passes and where it does not, as moves; and so the move of the cast.
 use Prim.Native.Nat.{ℕ}
-use mathlib.Core.Path.{_≡_, refl, ap}
+use mathlib.Core.Path.{refl, ap}
 use mathlib.Core.Bool.{Bool, cond}
 use mathlib.Core.List.{List, _∷_}
 use native.Mathlib.Omega.{arith}
