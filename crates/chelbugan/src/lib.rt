@@ -3,7 +3,7 @@
 // and buffers may be handed in.
 ghost use mathlib.Core.Path.{_≡_};
 ghost use Rattle.run_buffers.specs.States.{stateOf, memory};
-ghost use Rattle.chelbugan.specs.Told.{SectionTold, TypeTold, BodyTold, RunTold};
+ghost use Rattle.chelbugan_told.specs.Told.{SectionTold, TypeTold, BodyTold, RunTold};
 ghost use Rattle.chelbugan.specs.Version.{version};
 
 // 1.0.0
@@ -32,8 +32,7 @@ pub extern "C" fn chelbugan_judge_section(
     ensures { λ r. let answer′ = now (answer .exit) in
         ⌜ SectionTold (now (section .entry)) (now (rows .entry)) (now (codes .entry)) (now (rows .exit)) (now (codes .exit)) r answer′ ⌝ }
 {
-    let verdict = section_call::judge_section(section, rows, codes);
-    chelbugan_told::tell_verdict(verdict, answer)
+    chelbugan_section::judge_section(section, rows, codes, answer)
 }
 
 // Asks a section for a type by number.
@@ -48,8 +47,7 @@ pub extern "C" fn chelbugan_ask_type(
     ensures { λ r. let answer′ = now (answer .exit) in
         ⌜ TypeTold (now (section .entry)) number (now (rows .entry)) (now (codes .entry)) (now (rows .exit)) (now (codes .exit)) r answer′ ⌝ }
 {
-    let asked = section_call::ask_type(section, number, rows, codes);
-    chelbugan_told::tell_asked(asked, answer)
+    chelbugan_section::ask_type(section, number, rows, codes, answer)
 }
 
 // Judges a body against a function type's number.
@@ -68,8 +66,7 @@ pub extern "C" fn chelbugan_judge_body(
         (now (rows .entry)) (now (codes .entry)) (now (work .entry))
         (now (rows .exit)) (now (codes .exit)) (now (work .exit)) r answer′ ⌝ }
 {
-    let verdict = body_call::judge_body(section, body, number, rows, codes, work);
-    chelbugan_told::tell_verdict(verdict, answer)
+    chelbugan_body::judge_body(section, body, number, rows, codes, work, answer)
 }
 
 // Makes a trial run of a body, of at most so many steps.

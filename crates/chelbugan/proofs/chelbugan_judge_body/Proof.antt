@@ -1,14 +1,10 @@
 -- `chelbugan::chelbugan_judge_body` meets its contract: the checker's verdict is told.
 use borrow.Author.Needs.{needs}
-use Rattle.chelbugan.proofs.Telling.{call-exits}
 use Rattle.chelbugan.proofs.chelbugan_judge_body.Statement.{statement}
 use Rattle.chelbugan.proofs.chelbugan_judge_body.Tie as tie
 
 judge-body-requires : tie.Need-judge-body-requires
 judge-body-requires c κs = search needs
-
-tell-verdict-requires : tie.Need-tell-verdict-requires
-tell-verdict-requires c κs = search needs
 
 same-length : tie.Need-same-length
 same-length c = search needs
@@ -20,9 +16,9 @@ same-length-3 : tie.Need-same-length-3
 same-length-3 c = search needs
 
 returns : tie.Need-returns
-returns c = search (call-exits, needs)
+returns c = search needs
 
 pub chelbugan-judge-body-spec : {M : Type 1} → statement M
 chelbugan-judge-body-spec =
     tie.close
-    (tie.spec judge-body-requires tell-verdict-requires same-length same-length-2 same-length-3 returns)
+    (tie.spec judge-body-requires same-length same-length-2 same-length-3 returns)

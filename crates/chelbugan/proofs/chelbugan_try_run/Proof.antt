@@ -1,6 +1,6 @@
 -- `chelbugan::chelbugan_try_run` meets its contract: how the run ended is told.
 use borrow.Author.Needs.{needs}
-use Rattle.chelbugan.proofs.Telling.{call-exits}
+use Rattle.chelbugan_told.proofs.Telling.{run-told}
 use Rattle.chelbugan.proofs.chelbugan_try_run.Statement.{statement}
 use Rattle.chelbugan.proofs.chelbugan_try_run.Tie as tie
 
@@ -41,7 +41,7 @@ same-length-10 : tie.Need-same-length-10
 same-length-10 c = search needs
 
 returns : tie.Need-returns
-returns c = search (call-exits, needs)
+returns c = run-told (c .before .before .before .before .before .before .before .before .before .before .before .before .before .before .before .before .before .before .before .before .before .before .try-run .ensures) (c .tell-ran .ensures)
 
 pub chelbugan-try-run-spec : {M : Type 1} → statement M
 chelbugan-try-run-spec =

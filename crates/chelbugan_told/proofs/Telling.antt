@@ -6,8 +6,8 @@ use Rattle.scope.specs.Answers.{SectionJudged, TypeAsked, BodyJudged, RunMemory
 use Rattle.scope.specs.declared.Verdict.{Verdict}
 use Rattle.scope.specs.declared.Asked.{Asked}
 use Rattle.scope.specs.declared.Ran.{Ran}
 use Rattle.chelbugan_told.specs.Values.{verdictKind, verdictValues, VerdictTold, askedKind, askedValues, AskedTold, RanTold}
-use Rattle.chelbugan.specs.Told.{SectionTold, TypeTold, BodyTold, RunTold}
+use Rattle.chelbugan_told.specs.Told.{SectionTold, TypeTold, BodyTold, RunTold}
 
 pub section-told : {s rows codes rows′ codes′ : List ℕ} {v : Verdict} {r : ℕ} {answer′ : List ℕ} → SectionJudged s rows codes rows′ codes′ v → VerdictTold v r answer′ → SectionTold s rows codes rows′ codes′ r answer′
 section-told a t =
@@ -39,5 +39,3 @@ body-told a t =
 
 pub run-told : {section s : List ℕ} {x budget : ℕ} {m m′ : RunMemory} {a : Ran} {r : ℕ} {answer′ : List ℕ} → RunTried section s x budget m m′ a → RanTold a r answer′ → RunTold section s x budget m m′ r answer′
 run-told {a = a} tried t = record { ran = a; tried = tried; told = t }
-
-pub ruleset call-exits = (section-told, type-told, body-told, run-told)

@@ -5,8 +5,8 @@ use mathlib.Core.Path.{_≡_, sym, ap, _∙_}
 use mathlib.Core.List.{List}
 use Rattle.scope.specs.Answers.{RunMemory}
 use Rattle.scope.proofs.OneAnswer.{one-run}
 use Rattle.chelbugan_told.specs.Values.{ranKind, ranValues}
-use Rattle.chelbugan.specs.Told.{SectionTold, TypeTold, BodyTold, RunTold}
+use Rattle.chelbugan_told.specs.Told.{SectionTold, TypeTold, BodyTold, RunTold}
 
 pub one-section-told : {s rows codes rows₁ codes₁ rows₂ codes₂ answer₁ answer₂ : List ℕ} {r q : ℕ} → SectionTold s rows codes rows₁ codes₁ r answer₁ → SectionTold s rows codes rows₂ codes₂ q answer₂ → (r ≡ q) × (answer₁ ≡ answer₂) × (rows₁ ≡ rows₂) × (codes₁ ≡ codes₂)
 one-section-told a b = (a .kind ∙ sym (b .kind), a .values ∙ sym (b .values), a .rowsAfter ∙ sym (b .rowsAfter), a .codesAfter ∙ sym (b .codesAfter))

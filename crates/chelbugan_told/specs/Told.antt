@@ -1,4 +1,4 @@
--- What a host is told by each call: the answer of document 01 as a kind and four words (chelbugan_told says which), and the lent
+-- What a host is told by each call: the answer of document 01 as a kind and four words (Values.antt says which), and the lent
 -- memory as it then stands.
 use Prim.Native.Nat.{ℕ}
 use mathlib.Core.Path.{_≡_}

@@ -1,0 +1,24 @@
+-- `chelbugan_section::ask_type` meets its contract: the loader's answer is told.
+use borrow.Author.Needs.{needs}
+use Rattle.chelbugan_told.proofs.Telling.{type-told}
+use Rattle.chelbugan_section.proofs.ask_type.Statement.{statement}
+use Rattle.chelbugan_section.proofs.ask_type.Tie as tie
+
+ask-type-requires : tie.Need-ask-type-requires
+ask-type-requires c κs = search needs
+
+tell-asked-requires : tie.Need-tell-asked-requires
+tell-asked-requires c κs = search needs
+
+same-length : tie.Need-same-length
+same-length c = search needs
+
+same-length-2 : tie.Need-same-length-2
+same-length-2 c = search needs
+
+returns : tie.Need-returns
+returns c = search type-told
+
+pub ask-type-spec : {M : Type 1} → statement M
+ask-type-spec =
+    tie.close (tie.spec ask-type-requires tell-asked-requires same-length same-length-2 returns)
