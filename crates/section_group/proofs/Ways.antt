@@ -93,9 +93,6 @@ alone-over {first} s at rows codes used h = no-put (aloneAt first) s at used ref
 pub alone-place : {s rows codes : List ℕ} {at first used : ℕ} → first < mostTypes → Lent s rows codes at first used → Place s rows codes at 0 (used + 0) 0
 alone-place h lent = let l = lent .lines in record { room = lent .room; behind = omega (arith, lent .behind); line = omega arith }
 
-pub alone-reach-fits : (first : ℕ) → first < mostTypes → Fits w64 (first + 1)
-alone-reach-fits first h = record { fits = omega arith }
-
 module _ {s : List ℕ} {at first : ℕ} {rows rows′ codes codes′ : List ℕ} {used : ℕ} {r : DefinitionRead} (h : first < mostTypes) (a : DefinitionPut (first + 1) s at rows rows′ 0 codes codes′ used 0 r) where
   alone-is : {o : Read Definition} → definitionAt (first + 1) s at ≡ o → aloneAt first s at ≡ then o (λ d next. got (d ∷ []) next)
   alone-is e = rw (lt-ltb first mostTypes h, e)
@@ -127,8 +124,6 @@ alone-taken-fits {reach} {s} {at} a e lent =
     let ahead = definition-ahead reach s at read in
     let ends = never-back (definition-takes reach) s at read in
     record { fits = omega (arith, lent .behind, lent .room .small, ends .1) }
-
-pub ruleset alone-exits = (alone-over, alone-place, alone-reach-fits, alone-refused, alone-got, alone-taken-fits)
 
 -- group_at
 

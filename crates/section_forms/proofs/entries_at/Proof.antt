@@ -1,6 +1,6 @@
 -- `section_forms::entries_at` meets its contract: the loop puts a code for each entry that the definition reads.
 use borrow.Author.Needs.{needs}
-use Rattle.section_forms.proofs.Lists.{list-exits}
+use Rattle.section_forms.proofs.Lists.{list-exits, count-fits, listed-refused, listed-turn, place-fits}
 use Prim.Native.Nat.{_-_}
 use Rattle.section_forms.proofs.Lists.{Listed}
 use Rattle.section_forms.proofs.entries_at.Statement.{statement}
@@ -31,25 +31,25 @@ same-length-2 : tie.Need-same-length-2 Inv-loop μ-loop
 same-length-2 c = search (list-exits, needs)
 
 returns-2 : tie.Need-returns-2 Inv-loop μ-loop
-returns-2 c = search (list-exits, needs)
+returns-2 c = search listed-refused
 
 enum-known-read-2 : tie.Need-enum-known-read-2 Inv-loop μ-loop
 enum-known-read-2 c = search (list-exits, needs)
 
 add-put : tie.Need-add-put Inv-loop μ-loop
-add-put c = search (list-exits, needs)
+add-put c = search place-fits
 
 put-requires : tie.Need-put-requires Inv-loop μ-loop
 put-requires c κs = search (list-exits, needs)
 
 add-count : tie.Need-add-count Inv-loop μ-loop
-add-count c = search (list-exits, needs)
+add-count c = search count-fits
 
 loop-less : tie.Need-loop-less Inv-loop μ-loop
 loop-less c = search (list-exits, needs)
 
 loop-again : tie.Need-loop-again Inv-loop μ-loop
-loop-again c = search (list-exits, needs)
+loop-again c = search listed-turn
 
 same-length-3 : tie.Need-same-length-3 Inv-loop μ-loop
 same-length-3 c = search (list-exits, needs)
