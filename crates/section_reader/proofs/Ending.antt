@@ -131,5 +131,3 @@ section-lent enough h =
 pub section-sized : (s : List ℕ) {rows rows′ codes codes′ : List ℕ} {r : SectionRead} → length s ≤ mostBytes → SectionPut (countedAt s) rows rows′ codes codes′ r → SectionPut (readSection s) rows rows′ codes codes′ r
 unfolding readSection
 section-sized s h p = same-section (rw (le-ltb mostBytes (length s) h)) p
-
-pub ruleset section-exits = (section-over, section-lent, section-sized)

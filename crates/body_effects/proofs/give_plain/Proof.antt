@@ -1,6 +1,6 @@
 -- `body_effects::give_plain` meets its contract.
 use borrow.Author.Needs.{needs}
-use Rattle.body_effects.proofs.Giving.{give-exits}
+use Rattle.body_effects.proofs.Giving.{give-exits, give-stops}
 use Rattle.body_effects.proofs.give_plain.Statement.{statement}
 use Rattle.body_effects.proofs.give_plain.Tie as tie
 
@@ -17,7 +17,7 @@ same-length : tie.Need-same-length
 same-length c = search (give-exits, needs)
 
 returns : tie.Need-returns
-returns c = search (give-exits, needs)
+returns c = search give-stops
 
 give-requires : tie.Need-give-requires
 give-requires c κs = search (give-exits, needs)

@@ -1,6 +1,6 @@
 -- `body_end::close` meets its contract.
 use borrow.Author.Needs.{needs}
-use Rattle.body_end.proofs.Ending.{end-exits}
+use Rattle.body_end.proofs.Ending.{end-exits, block-fault, block-left}
 use Rattle.body_end.proofs.close.Statement.{statement}
 use Rattle.body_end.proofs.close.Tie as tie
 
@@ -50,13 +50,13 @@ same-length-3 : tie.Need-same-length-3
 same-length-3 c = search (end-exits, needs)
 
 returns-3 : tie.Need-returns-3
-returns-3 c = search (end-exits, needs)
+returns-3 c = search (block-fault, block-left)
 
 same-length-4 : tie.Need-same-length-4
 same-length-4 c = search (end-exits, needs)
 
 returns-4 : tie.Need-returns-4
-returns-4 c = search (end-exits, needs)
+returns-4 c = search (block-fault, block-left)
 
 pub close-spec : {M : Type 1} → statement M
 close-spec =

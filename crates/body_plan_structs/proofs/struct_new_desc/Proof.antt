@@ -1,6 +1,6 @@
 -- `body_plan_structs::struct_new_desc` meets its contract.
 use borrow.Author.Needs.{needs}
-use Rattle.body_plan_structs.proofs.Making.{making-exits}
+use Rattle.body_plan_structs.proofs.Making.{making-exits, desc-planned, desc-refused}
 use Rattle.body_plan_structs.proofs.struct_new_desc.Statement.{statement}
 use Rattle.body_plan_structs.proofs.struct_new_desc.Tie as tie
 
@@ -29,10 +29,10 @@ takes-requires : tie.Need-takes-requires
 takes-requires c κs = search (making-exits, needs)
 
 returns : tie.Need-returns
-returns c = search (making-exits, needs)
+returns c = search (desc-refused, desc-planned)
 
 returns-2 : tie.Need-returns-2
-returns-2 c = search (making-exits, needs)
+returns-2 c = search (desc-refused, desc-planned)
 
 pub struct-new-desc-spec : {M : Type 1} → statement M
 struct-new-desc-spec =

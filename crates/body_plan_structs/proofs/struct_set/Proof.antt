@@ -1,6 +1,6 @@
 -- `body_plan_structs::struct_set` meets its contract.
 use borrow.Author.Needs.{needs}
-use Rattle.body_plan_structs.proofs.Finding.{field-exits}
+use Rattle.body_plan_structs.proofs.Finding.{field-exits, set-fixed, set-planned, set-refused}
 use Rattle.body_plan_structs.proofs.struct_set.Statement.{statement}
 use Rattle.body_plan_structs.proofs.struct_set.Tie as tie
 
@@ -26,13 +26,13 @@ takes-requires : tie.Need-takes-requires
 takes-requires c κs = search (field-exits, needs)
 
 returns : tie.Need-returns
-returns c = search (field-exits, needs)
+returns c = search (set-refused, set-planned, set-fixed)
 
 returns-2 : tie.Need-returns-2
-returns-2 c = search (field-exits, needs)
+returns-2 c = search (set-refused, set-planned, set-fixed)
 
 returns-3 : tie.Need-returns-3
-returns-3 c = search (field-exits, needs)
+returns-3 c = search (set-refused, set-planned, set-fixed)
 
 pub struct-set-spec : {M : Type 1} → statement M
 struct-set-spec =

@@ -1,6 +1,6 @@
 -- `body_plan_structs::undescribed` meets its contract.
 use borrow.Author.Needs.{needs}
-use Rattle.body_plan_structs.proofs.Making.{describing-exits}
+use Rattle.body_plan_structs.proofs.Making.{describing-exits, undescribed-is, undescribed-not, undescribed-refused}
 use Rattle.body_plan_structs.proofs.undescribed.Statement.{statement}
 use Rattle.body_plan_structs.proofs.undescribed.Tie as tie
 
@@ -23,13 +23,13 @@ enum-told-2 : tie.Need-enum-told-2
 enum-told-2 c = search (describing-exits, needs)
 
 returns : tie.Need-returns
-returns c = search (describing-exits, needs)
+returns c = search (undescribed-refused, undescribed-is, undescribed-not)
 
 returns-2 : tie.Need-returns-2
-returns-2 c = search (describing-exits, needs)
+returns-2 c = search (undescribed-refused, undescribed-is, undescribed-not)
 
 returns-3 : tie.Need-returns-3
-returns-3 c = search (describing-exits, needs)
+returns-3 c = search (undescribed-refused, undescribed-is, undescribed-not)
 
 pub undescribed-spec : {M : Type 1} → statement M
 undescribed-spec =

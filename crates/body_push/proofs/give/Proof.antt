@@ -1,6 +1,6 @@
 -- `body_push::give` meets its contract.
 use borrow.Author.Needs.{needs}
-use Rattle.body_push.proofs.Exits.{give-exits}
+use Rattle.body_push.proofs.Exits.{give-exits, give-all, space-back, space-gives}
 use Rattle.body_push.proofs.give.Statement.{statement}
 use Rattle.body_push.proofs.give.Tie as tie
 
@@ -29,13 +29,13 @@ returns : tie.Need-returns
 returns c = search (give-exits, needs)
 
 push-back-requires : tie.Need-push-back-requires
-push-back-requires c κs = search (give-exits, needs)
+push-back-requires c κs = search space-back
 
 cast-push-gives : tie.Need-cast-push-gives
 cast-push-gives c = search (give-exits, needs)
 
 push-gives-requires : tie.Need-push-gives-requires
-push-gives-requires c κs = search (give-exits, needs)
+push-gives-requires c κs = search space-gives
 
 cast-t20 : tie.Need-cast-t20
 cast-t20 c = search (give-exits, needs)
@@ -44,7 +44,7 @@ same-length : tie.Need-same-length
 same-length c = search (give-exits, needs)
 
 returns-2 : tie.Need-returns-2
-returns-2 c = search (give-exits, needs)
+returns-2 c = search give-all
 
 pub give-spec : {M : Type 1} → statement M
 give-spec =

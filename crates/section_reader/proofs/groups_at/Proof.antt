@@ -1,6 +1,6 @@
 -- `section_reader::groups_at` meets its contract: each group is lent the rest of the table and fills it behind those before.
 use borrow.Author.Needs.{needs}
-use Rattle.section_reader.proofs.Walking.{walked-rows-kept, walked-codes-kept, walk-exits}
+use Rattle.section_reader.proofs.Walking.{walked-rows-kept, walked-codes-kept, walk-exits, walked-count-fits, walked-lent, walked-refused, walked-turn}
 use Rattle.section_reader.proofs.Walking.{Walked}
 use Rattle.section_reader.proofs.groups_at.Statement.{statement}
 use Rattle.section_reader.proofs.groups_at.Tie as tie
@@ -42,7 +42,7 @@ part-group-at-end-2 : tie.Need-part-group-at-end-2 Inv-loop μ-loop
 part-group-at-end-2 c = search (walk-exits, needs)
 
 group-at-requires : tie.Need-group-at-requires Inv-loop μ-loop
-group-at-requires c κs = search (walk-exits, needs)
+group-at-requires c κs = search walked-lent
 
 enum-known-read : tie.Need-enum-known-read Inv-loop μ-loop
 enum-known-read c = search (walk-exits, needs)
@@ -56,13 +56,13 @@ same-length-2 c =
     walked-codes-kept (c .before .before .before .before .before .before .before .before .before .before .before .loop .inv) (c .before .before .before .before .before .before .before .before .before .before .loop-test .taken) (c .before .before .before .before .before .before .before .group-at .ensures)
 
 returns : tie.Need-returns Inv-loop μ-loop
-returns c = search (walk-exits, needs)
+returns c = search walked-refused
 
 enum-known-read-2 : tie.Need-enum-known-read-2 Inv-loop μ-loop
 enum-known-read-2 c = search (walk-exits, needs)
 
 add-first : tie.Need-add-first Inv-loop μ-loop
-add-first c = search (walk-exits, needs)
+add-first c = search walked-count-fits
 
 sub-left : tie.Need-sub-left Inv-loop μ-loop
 sub-left c = search (walk-exits, needs)
@@ -71,7 +71,7 @@ loop-less : tie.Need-loop-less Inv-loop μ-loop
 loop-less c = search (walk-exits, needs)
 
 loop-again : tie.Need-loop-again Inv-loop μ-loop
-loop-again c = search (walk-exits, needs)
+loop-again c = search walked-turn
 
 same-length-3 : tie.Need-same-length-3 Inv-loop μ-loop
 same-length-3 c = search (walk-exits, needs)
