@@ -1,4 +1,3 @@
 pub mod Words
 pub mod Cases
 pub mod Pinned
-pub mod Codes
