@@ -107,5 +107,3 @@ non-null codes c s i e = does codes c s i e refl Planned.the-variants.NonNull re
 pub stops-return : (rows codes work : List ℕ) (k : Scene) (s : State) (i : Instruction) {p : Planned} → i ≡ Instruction.the-variants.Return → Stops (Values.the-variants.Types (k .first) (k .results)) p → actOf codes (contextAt rows codes work k) s (Act.the-variants.Does p) ≡ judgeInstr (contextAt rows codes work k) s (instrOf i)
 unfolding instrOf planOf valuesOf contextAt
 stops-return rows codes work k s i {p} e a = does codes _ s i e refl p (a .is codes)
-
-pub ruleset arm-exits = (opens-block, opens-loop, closes, follows, goes, branches, uses, sets, anywhere, tests, stops-unreachable, takes-nop, takes-drop, takes-const, takes-is-null, takes-eq, non-null, stops-return)

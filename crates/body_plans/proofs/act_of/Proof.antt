@@ -2,322 +2,310 @@
 use borrow.Author.Needs.{needs}
 use Rattle.body_plan_branches.specs.Branches.{castOp, descOp}
 use Rattle.body_decoded.specs.Decoded.{instrOf}
-use Rattle.body_plans.proofs.Arms.{arm-exits}
+use Rattle.body_plans.proofs.Arms.{stops-unreachable, takes-nop, opens-block, opens-loop, closes, goes, stops-return, takes-drop, uses, sets, takes-const, anywhere, takes-is-null, takes-eq, non-null, follows, tests, branches}
 use Rattle.body_plans.proofs.act_of.Statement.{statement}
 use Rattle.body_plans.proofs.act_of.Tie as tie
 
 enum-told : tie.Need-enum-told
-enum-told c = search (arm-exits, needs)
+enum-told c = search needs
 
 stops-requires : tie.Need-stops-requires
-stops-requires c κs = search (arm-exits, needs)
+stops-requires c κs = search needs
 
 enum-told-2 : tie.Need-enum-told-2
-enum-told-2 c = search (arm-exits, needs)
+enum-told-2 c = search needs
 
 takes-requires : tie.Need-takes-requires
-takes-requires c κs = search (arm-exits, needs)
+takes-requires c κs = search needs
 
 enum-known-i : tie.Need-enum-known-i
-enum-known-i c = search (arm-exits, needs)
+enum-known-i c = search needs
 
 enum-known-i-2 : tie.Need-enum-known-i-2
-enum-known-i-2 c = search (arm-exits, needs)
+enum-known-i-2 c = search needs
 
 enum-told-3 : tie.Need-enum-told-3
-enum-told-3 c = search (arm-exits, needs)
+enum-told-3 c = search needs
 
 enum-known-i-3 : tie.Need-enum-known-i-3
-enum-known-i-3 c = search (arm-exits, needs)
+enum-known-i-3 c = search needs
 
 br-requires : tie.Need-br-requires
-br-requires c κs = search (arm-exits, needs)
+br-requires c κs = search needs
 
 enum-known-i-4 : tie.Need-enum-known-i-4
-enum-known-i-4 c = search (arm-exits, needs)
+enum-known-i-4 c = search needs
 
 br-if-requires : tie.Need-br-if-requires
-br-if-requires c κs = search (arm-exits, needs)
+br-if-requires c κs = search needs
 
 enum-told-4 : tie.Need-enum-told-4
-enum-told-4 c = search (arm-exits, needs)
+enum-told-4 c = search needs
 
 stops-requires-2 : tie.Need-stops-requires-2
-stops-requires-2 c κs = search (arm-exits, needs)
+stops-requires-2 c κs = search needs
 
 enum-told-5 : tie.Need-enum-told-5
-enum-told-5 c = search (arm-exits, needs)
+enum-told-5 c = search needs
 
 takes-requires-2 : tie.Need-takes-requires-2
-takes-requires-2 c κs = search (arm-exits, needs)
+takes-requires-2 c κs = search needs
 
 enum-known-i-5 : tie.Need-enum-known-i-5
-enum-known-i-5 c = search (arm-exits, needs)
+enum-known-i-5 c = search needs
 
 local-get-requires : tie.Need-local-get-requires
-local-get-requires c κs = search (arm-exits, needs)
+local-get-requires c κs = search needs
 
 enum-known-i-6 : tie.Need-enum-known-i-6
-enum-known-i-6 c = search (arm-exits, needs)
+enum-known-i-6 c = search needs
 
 local-set-requires : tie.Need-local-set-requires
-local-set-requires c κs = search (arm-exits, needs)
+local-set-requires c κs = search needs
 
 enum-known-i-7 : tie.Need-enum-known-i-7
-enum-known-i-7 c = search (arm-exits, needs)
+enum-known-i-7 c = search needs
 
 local-tee-requires : tie.Need-local-tee-requires
-local-tee-requires c κs = search (arm-exits, needs)
+local-tee-requires c κs = search needs
 
 enum-told-6 : tie.Need-enum-told-6
-enum-told-6 c = search (arm-exits, needs)
+enum-told-6 c = search needs
 
 add-takes : tie.Need-add-takes
-add-takes c = search (arm-exits, needs)
+add-takes c = search needs
 
 takes-requires-3 : tie.Need-takes-requires-3
-takes-requires-3 c κs = search (arm-exits, needs)
+takes-requires-3 c κs = search needs
 
 enum-known-i-8 : tie.Need-enum-known-i-8
-enum-known-i-8 c = search (arm-exits, needs)
+enum-known-i-8 c = search needs
 
 ref-null-requires : tie.Need-ref-null-requires
-ref-null-requires c κs = search (arm-exits, needs)
+ref-null-requires c κs = search needs
 
 enum-told-7 : tie.Need-enum-told-7
-enum-told-7 c = search (arm-exits, needs)
+enum-told-7 c = search needs
 
 add-takes-2 : tie.Need-add-takes-2
-add-takes-2 c = search (arm-exits, needs)
+add-takes-2 c = search needs
 
 takes-requires-4 : tie.Need-takes-requires-4
-takes-requires-4 c κs = search (arm-exits, needs)
+takes-requires-4 c κs = search needs
 
 enum-told-8 : tie.Need-enum-told-8
-enum-told-8 c = search (arm-exits, needs)
+enum-told-8 c = search needs
 
 add-takes-3 : tie.Need-add-takes-3
-add-takes-3 c = search (arm-exits, needs)
+add-takes-3 c = search needs
 
 add-takes-4 : tie.Need-add-takes-4
-add-takes-4 c = search (arm-exits, needs)
+add-takes-4 c = search needs
 
 add-takes-5 : tie.Need-add-takes-5
-add-takes-5 c = search (arm-exits, needs)
+add-takes-5 c = search needs
 
 takes-requires-5 : tie.Need-takes-requires-5
-takes-requires-5 c κs = search (arm-exits, needs)
+takes-requires-5 c κs = search needs
 
 enum-told-9 : tie.Need-enum-told-9
-enum-told-9 c = search (arm-exits, needs)
+enum-told-9 c = search needs
 
 enum-known-i-9 : tie.Need-enum-known-i-9
-enum-known-i-9 c = search (arm-exits, needs)
+enum-known-i-9 c = search needs
 
 struct-new-requires : tie.Need-struct-new-requires
-struct-new-requires c κs = search (arm-exits, needs)
+struct-new-requires c κs = search needs
 
 enum-known-i-10 : tie.Need-enum-known-i-10
-enum-known-i-10 c = search (arm-exits, needs)
+enum-known-i-10 c = search needs
 
 struct-new-default-requires : tie.Need-struct-new-default-requires
-struct-new-default-requires c κs = search (arm-exits, needs)
+struct-new-default-requires c κs = search needs
 
 enum-known-i-11 : tie.Need-enum-known-i-11
-enum-known-i-11 c = search (arm-exits, needs)
+enum-known-i-11 c = search needs
 
 struct-get-requires : tie.Need-struct-get-requires
-struct-get-requires c κs = search (arm-exits, needs)
+struct-get-requires c κs = search needs
 
 enum-known-i-12 : tie.Need-enum-known-i-12
-enum-known-i-12 c = search (arm-exits, needs)
+enum-known-i-12 c = search needs
 
 struct-set-requires : tie.Need-struct-set-requires
-struct-set-requires c κs = search (arm-exits, needs)
+struct-set-requires c κs = search needs
 
 enum-known-i-13 : tie.Need-enum-known-i-13
-enum-known-i-13 c = search (arm-exits, needs)
+enum-known-i-13 c = search needs
 
 ref-test-requires : tie.Need-ref-test-requires
-ref-test-requires c κs = search (arm-exits, needs)
+ref-test-requires c κs = search needs
 
 enum-known-i-14 : tie.Need-enum-known-i-14
-enum-known-i-14 c = search (arm-exits, needs)
+enum-known-i-14 c = search needs
 
 ref-cast-requires : tie.Need-ref-cast-requires
-ref-cast-requires c κs = search (arm-exits, needs)
+ref-cast-requires c κs = search needs
 
 enum-known-i-15 : tie.Need-enum-known-i-15
-enum-known-i-15 c = search (arm-exits, needs)
+enum-known-i-15 c = search needs
 
 br-on-cast-requires : tie.Need-br-on-cast-requires
-br-on-cast-requires c κs = search (arm-exits, needs)
+br-on-cast-requires c κs = search needs
 
 enum-known-i-16 : tie.Need-enum-known-i-16
-enum-known-i-16 c = search (arm-exits, needs)
+enum-known-i-16 c = search needs
 
 br-on-cast-requires-2 : tie.Need-br-on-cast-requires-2
-br-on-cast-requires-2 c κs = search (arm-exits, needs)
+br-on-cast-requires-2 c κs = search needs
 
 enum-known-i-17 : tie.Need-enum-known-i-17
-enum-known-i-17 c = search (arm-exits, needs)
+enum-known-i-17 c = search needs
 
 struct-new-desc-requires : tie.Need-struct-new-desc-requires
-struct-new-desc-requires c κs = search (arm-exits, needs)
+struct-new-desc-requires c κs = search needs
 
 enum-known-i-18 : tie.Need-enum-known-i-18
-enum-known-i-18 c = search (arm-exits, needs)
+enum-known-i-18 c = search needs
 
 struct-new-default-desc-requires : tie.Need-struct-new-default-desc-requires
-struct-new-default-desc-requires c κs = search (arm-exits, needs)
+struct-new-default-desc-requires c κs = search needs
 
 enum-known-i-19 : tie.Need-enum-known-i-19
-enum-known-i-19 c = search (arm-exits, needs)
+enum-known-i-19 c = search needs
 
 get-desc-requires : tie.Need-get-desc-requires
-get-desc-requires c κs = search (arm-exits, needs)
+get-desc-requires c κs = search needs
 
 enum-known-i-20 : tie.Need-enum-known-i-20
-enum-known-i-20 c = search (arm-exits, needs)
+enum-known-i-20 c = search needs
 
 cast-desc-eq-requires : tie.Need-cast-desc-eq-requires
-cast-desc-eq-requires c κs = search (arm-exits, needs)
+cast-desc-eq-requires c κs = search needs
 
 enum-known-i-21 : tie.Need-enum-known-i-21
-enum-known-i-21 c = search (arm-exits, needs)
+enum-known-i-21 c = search needs
 
 br-on-cast-desc-requires : tie.Need-br-on-cast-desc-requires
-br-on-cast-desc-requires c κs = search (arm-exits, needs)
+br-on-cast-desc-requires c κs = search needs
 
 enum-known-i-22 : tie.Need-enum-known-i-22
-enum-known-i-22 c = search (arm-exits, needs)
+enum-known-i-22 c = search needs
 
 br-on-cast-desc-requires-2 : tie.Need-br-on-cast-desc-requires-2
-br-on-cast-desc-requires-2 c κs = search (arm-exits, needs)
+br-on-cast-desc-requires-2 c κs = search needs
 
 returns : tie.Need-returns
-unfolding instrOf castOp descOp
-returns c = search (arm-exits, needs)
+returns c = search stops-unreachable
 
 returns-2 : tie.Need-returns-2
-unfolding instrOf castOp descOp
-returns-2 c = search (arm-exits, needs)
+returns-2 c = search takes-nop
 
 returns-3 : tie.Need-returns-3
-unfolding instrOf castOp descOp
-returns-3 c = search (arm-exits, needs)
+returns-3 c = search opens-block
 
 returns-4 : tie.Need-returns-4
-unfolding instrOf castOp descOp
-returns-4 c = search (arm-exits, needs)
+returns-4 c = search opens-loop
 
 returns-5 : tie.Need-returns-5
-unfolding instrOf castOp descOp
-returns-5 c = search (arm-exits, needs)
+returns-5 c = search closes
 
 returns-6 : tie.Need-returns-6
-unfolding instrOf castOp descOp
-returns-6 c = search (arm-exits, needs)
+unfolding instrOf
+returns-6 c = search goes
 
 returns-7 : tie.Need-returns-7
-unfolding instrOf castOp descOp
-returns-7 c = search (arm-exits, needs)
+unfolding instrOf
+returns-7 c = search goes
 
 returns-8 : tie.Need-returns-8
-unfolding instrOf castOp descOp
-returns-8 c = search (arm-exits, needs)
+returns-8 c = search stops-return
 
 returns-9 : tie.Need-returns-9
-unfolding instrOf castOp descOp
-returns-9 c = search (arm-exits, needs)
+returns-9 c = search takes-drop
 
 returns-10 : tie.Need-returns-10
-unfolding instrOf castOp descOp
-returns-10 c = search (arm-exits, needs)
+unfolding instrOf
+returns-10 c = search uses
 
 returns-11 : tie.Need-returns-11
-unfolding instrOf castOp descOp
-returns-11 c = search (arm-exits, needs)
+unfolding instrOf
+returns-11 c = search sets
 
 returns-12 : tie.Need-returns-12
-unfolding instrOf castOp descOp
-returns-12 c = search (arm-exits, needs)
+unfolding instrOf
+returns-12 c = search sets
 
 returns-13 : tie.Need-returns-13
-unfolding instrOf castOp descOp
-returns-13 c = search (arm-exits, needs)
+returns-13 c = search takes-const
 
 returns-14 : tie.Need-returns-14
-unfolding instrOf castOp descOp
-returns-14 c = search (arm-exits, needs)
+unfolding instrOf
+returns-14 c = search anywhere
 
 returns-15 : tie.Need-returns-15
-unfolding instrOf castOp descOp
-returns-15 c = search (arm-exits, needs)
+returns-15 c = search takes-is-null
 
 returns-16 : tie.Need-returns-16
-unfolding instrOf castOp descOp
-returns-16 c = search (arm-exits, needs)
+returns-16 c = search takes-eq
 
 returns-17 : tie.Need-returns-17
-unfolding instrOf castOp descOp
-returns-17 c = search (arm-exits, needs)
+returns-17 c = search non-null
 
 returns-18 : tie.Need-returns-18
-unfolding instrOf castOp descOp
-returns-18 c = search (arm-exits, needs)
+unfolding instrOf
+returns-18 c = search follows
 
 returns-19 : tie.Need-returns-19
-unfolding instrOf castOp descOp
-returns-19 c = search (arm-exits, needs)
+unfolding instrOf
+returns-19 c = search follows
 
 returns-20 : tie.Need-returns-20
-unfolding instrOf castOp descOp
-returns-20 c = search (arm-exits, needs)
+unfolding instrOf
+returns-20 c = search follows
 
 returns-21 : tie.Need-returns-21
-unfolding instrOf castOp descOp
-returns-21 c = search (arm-exits, needs)
+unfolding instrOf
+returns-21 c = search follows
 
 returns-22 : tie.Need-returns-22
-unfolding instrOf castOp descOp
-returns-22 c = search (arm-exits, needs)
+returns-22 c = search tests
 
 returns-23 : tie.Need-returns-23
-unfolding instrOf castOp descOp
-returns-23 c = search (arm-exits, needs)
+unfolding instrOf
+returns-23 c = search follows
 
 returns-24 : tie.Need-returns-24
-unfolding instrOf castOp descOp
-returns-24 c = search (arm-exits, needs)
+unfolding instrOf castOp
+returns-24 c = search branches
 
 returns-25 : tie.Need-returns-25
-unfolding instrOf castOp descOp
-returns-25 c = search (arm-exits, needs)
+unfolding instrOf castOp
+returns-25 c = search branches
 
 returns-26 : tie.Need-returns-26
-unfolding instrOf castOp descOp
-returns-26 c = search (arm-exits, needs)
+unfolding instrOf
+returns-26 c = search follows
 
 returns-27 : tie.Need-returns-27
-unfolding instrOf castOp descOp
-returns-27 c = search (arm-exits, needs)
+unfolding instrOf
+returns-27 c = search follows
 
 returns-28 : tie.Need-returns-28
-unfolding instrOf castOp descOp
-returns-28 c = search (arm-exits, needs)
+unfolding instrOf
+returns-28 c = search follows
 
 returns-29 : tie.Need-returns-29
-unfolding instrOf castOp descOp
-returns-29 c = search (arm-exits, needs)
+unfolding instrOf
+returns-29 c = search follows
 
 returns-30 : tie.Need-returns-30
-unfolding instrOf castOp descOp
-returns-30 c = search (arm-exits, needs)
+unfolding instrOf descOp
+returns-30 c = search branches
 
 returns-31 : tie.Need-returns-31
-unfolding instrOf castOp descOp
-returns-31 c = search (arm-exits, needs)
+unfolding instrOf descOp
+returns-31 c = search branches
 
 pub act-of-spec : {M : Type 1} → statement M
 act-of-spec =
