@@ -1,6 +1,6 @@
 -- `body_loop::judge_from` meets its contract: each turn takes one instruction from what the definition still has to judge.
 use borrow.Author.Needs.{needs}
-use Rattle.body_loop.proofs.Looping.{Going, loop-exits}
+use Rattle.body_loop.proofs.Looping.{Going, loop-exits, going-finished}
 use Rattle.body_loop.proofs.judge_from.Statement.{statement}
 use Rattle.body_loop.proofs.judge_from.Tie as tie
 
@@ -50,7 +50,7 @@ same-length-3 : tie.Need-same-length-3 Inv-loop μ-loop
 same-length-3 c = search (loop-exits, needs)
 
 returns-3 : tie.Need-returns-3 Inv-loop μ-loop
-returns-3 c = search (loop-exits, needs)
+returns-3 c = search going-finished
 
 enum-known-stepped-2 : tie.Need-enum-known-stepped-2 Inv-loop μ-loop
 enum-known-stepped-2 c = search (loop-exits, needs)
