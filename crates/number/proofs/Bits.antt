@@ -44,7 +44,7 @@ above-under v w k b long = refl
 
 -- the definition at a byte that is there
 
-bits-last : (room : ℕ) (s : List ℕ) (at : ℕ) {b : ℕ} → getElem? s at ≡ some b → b < 128 → bitsAt (suc room) s at ≡ bits b 1 (at + 1)
+pub bits-last : (room : ℕ) (s : List ℕ) (at : ℕ) {b : ℕ} → getElem? s at ≡ some b → b < 128 → bitsAt (suc room) s at ≡ bits b 1 (at + 1)
 unfolding bitsAt
 bits-last room s at {b} e h = rw (e, lt-ltb b 128 h)
 
@@ -52,7 +52,7 @@ bits-more : (room : ℕ) (s : List ℕ) (at : ℕ) {b : ℕ} → getElem? s at �
 unfolding bitsAt
 bits-more room s at {b} e h = rw (e, le-ltb b 128 h)
 
-bits-cut : (room : ℕ) (s : List ℕ) (at : ℕ) → getElem? s at ≡ none → bitsAt (suc room) s at ≡ cut
+pub bits-cut : (room : ℕ) (s : List ℕ) (at : ℕ) → getElem? s at ≡ none → bitsAt (suc room) s at ≡ cut
 unfolding bitsAt
 bits-cut room s at e = rw e
 

@@ -1,4 +1,5 @@
 pub mod Exits
 pub mod Bits
+pub mod OneByte
 pub mod Ranges
 pub mod Laws

@@ -5,6 +5,9 @@ ghost use mathlib.Core.Path.{_≡_};
 ghost use Rattle.scope.specs.Numbers.{u32, s32, s33};
 ghost use Rattle.number.specs.Answers.{ByteAt, Few, BitsRead, naturalIs, SignWeight, rangeOf, SignedRead, integerIs};
 
+// The first number that is more than one byte.
+const TWO_BYTES: u64 = 128;
+
 // The first number that is no u32.
 const U32_LIMIT: u64 = 4294967296;
 
@@ -37,7 +40,7 @@ pub enum Leb {
 }
 
 // Seven bits a byte, lowest first; `weight` is that of the next seven.
-fn leb_at(s: &[u8], at: usize) -> Leb
+fn leb_loop(s: &[u8], at: usize) -> Leb
     ensures { λ r. ⌜ BitsRead (now (s .entry)) at r ⌝ }
 {
     let mut value: u64 = 0;
@@ -58,6 +61,20 @@ fn leb_at(s: &[u8], at: usize) -> Leb
         left = left - 1;
     }
     Leb::Long
+}
+
+// Most numbers are one byte: that case first, the loop for all others.
+fn leb_at(s: &[u8], at: usize) -> Leb
+    ensures { λ r. ⌜ BitsRead (now (s .entry)) at r ⌝ }
+{
+    let read = byte_at(s, at);
+    let Byte::Is(b) = read else {
+        return Leb::Cut;
+    };
+    if b < TWO_BYTES {
+        return Leb::Bits(b, 1, at + 1);
+    }
+    leb_loop(s, at)
 }
 
 // A natural number and the place after it; or a refusal's number and place.
