@@ -1,9 +1,12 @@
 //! Times the proved library and the plain checker on the same inputs, side by side. Writes docs/BENCH.md and
 //! its plots.
 //!
-//! `bench library` times the library alone and writes no file: a line for each input with the least time of many, to compare
-//! archives (CHELBUGAN_LIB_DIR). `bench once` calls it once on each input, for bench/count-instructions.
+//! `bench library` times the library alone and writes no file: a line for each input with the least time of many and their
+//! median. `bench once` calls it once on each input, for bench/count-instructions. `bench compare`, for
+//! bench/compare-archives, asks both of two programs that are linked with different archives. A TEXT after these takes the
+//! inputs that have it in their names.
 
+mod compare;
 mod inputs;
 mod machine;
 mod measure;
@@ -19,28 +22,42 @@ fn main() -> io::Result<()> {
     let arguments: Vec<String> = std::env::args().skip(1).collect();
     match &arguments.iter().map(String::as_str).collect::<Vec<_>>()[..] {
         [] => write_the_page(),
-        ["library"] => {
-            all_inputs().for_each(|input| println!("{}", measure::library_alone(&input)));
+        ["library", text @ ..] if text.len() <= 1 => {
+            named(text).for_each(|input| println!("{}", measure::library_alone(&input)));
             Ok(())
         }
-        ["once"] => {
-            all_inputs().for_each(|input| println!("{}", measure::call_once(&input)));
+        ["once", text @ ..] if text.len() <= 1 => {
+            named(text).for_each(|input| println!("{}", measure::call_once(&input)));
             Ok(())
         }
-        _ => Err(io::Error::other("use: bench, bench library, or bench once")),
+        ["compare", before, after, text @ ..] if text.len() <= 1 => {
+            let inputs: Vec<Input> = named(text).collect();
+            print!("{}", compare::compared([before, after], text, &inputs)?);
+            Ok(())
+        }
+        _ => Err(io::Error::other(USE)),
     }
 }
 
-fn all_inputs() -> impl Iterator<Item = Input> {
-    inputs::of_sections().into_iter().chain(inputs::of_bodies()).chain(inputs::of_runs())
+const USE: &str =
+    "use: bench, bench library [TEXT], bench once [TEXT], or bench compare BEFORE AFTER [TEXT]";
+
+/// With this text in their names; all inputs where there is none.
+fn named(text: &[&str]) -> impl Iterator<Item = Input> {
+    let text = text.concat();
+    let bodies = inputs::of_bodies().into_iter();
+    let all = inputs::of_sections().into_iter().chain(bodies);
+    let all = all.chain(inputs::of_numbers()).chain(inputs::of_runs());
+    all.filter(move |input| input.to_string().contains(&text))
 }
 
 fn write_the_page() -> io::Result<()> {
     let docs = Path::new(env!("CARGO_MANIFEST_DIR")).join("../docs");
     let sections = measured(inputs::of_sections());
     let bodies = measured(inputs::of_bodies());
+    let numbers = measured(inputs::of_numbers());
     let runs = measured(inputs::of_runs());
-    let page = page::page(&machine::kind(), &sections, &bodies, &runs);
+    let page = page::page(&machine::kind(), &sections, &bodies, &numbers, &runs);
     std::fs::write(docs.join("BENCH.md"), &page)?;
     let plots = [
         ("bench-sections.svg", plot::plot(&plot::SECTIONS, &inputs::sections::KINDS, &sections)),
@@ -51,7 +68,7 @@ fn write_the_page() -> io::Result<()> {
         std::fs::write(docs.join(name), plot)?;
     }
     println!("{}\n{}", page::table("Section", &sections), page::table("Body", &bodies));
-    print!("{}", page::run_table(&runs));
+    print!("{}\n{}", page::number_table(&numbers), page::run_table(&runs));
     Ok(())
 }
 

@@ -1,6 +1,6 @@
 //! The least of many samples, the library's and the plain checker's in turn: other work on the machine only adds to a time.
 
-use crate::inputs::{Input, Size};
+use crate::inputs::{Input, Numbers, Size};
 use chelbugan::calls::{self, Ended};
 use plain::refusal::Refusal;
 use std::hint::black_box;
@@ -14,9 +14,11 @@ const SAMPLE_TIME: Duration = Duration::from_millis(3);
 
 /// An input with the nanoseconds that each takes for it.
 pub struct Row {
+    pub what: &'static str,
     pub kind: &'static str,
     pub size: Size,
     pub amount: usize,
+    pub numbers: Option<Numbers>,
     pub library: f64,
     pub plain: f64,
 }
@@ -141,29 +143,33 @@ pub fn measure(input: &Input) -> Row {
         samples.1.push(sample(&mut plain, calls.1));
     }
     Row {
+        what: input.what(),
         kind: input.kind,
         size: input.size,
         amount: input.amount(),
+        numbers: input.numbers,
         library: least(samples.0),
         plain: least(samples.1),
     }
 }
 
-/// `shape, size<tab>microseconds`, of the library alone: the least of the samples, which other work disturbs least.
+/// `input<tab>microseconds<tab>microseconds`, of the library alone: the least of the samples, which other work disturbs least,
+/// and their median.
 pub fn library_alone(input: &Input) -> String {
     let mut lent = Lent::new();
+    same_answer(input, &mut lent);
     let mut library = || {
         let _ = black_box(lent.judge(black_box(input)));
     };
     let calls = calls_for(&mut library);
-    let least = least((0..SAMPLES).map(|_| sample(&mut library, calls)).collect());
-    format!("{}, {}\t{:.2}", input.kind, input.size, least / 1000.0)
+    let samples: Vec<f64> = (0..SAMPLES).map(|_| sample(&mut library, calls) / 1000.0).collect();
+    format!("{input}\t{:.2}\t{:.2}", least(samples.clone()), median(samples))
 }
 
-/// `shape, size`, after one call that is a function of its own.
+/// The input, after one call that is a function of its own.
 pub fn call_once(input: &Input) -> String {
     chelbugan_bench_one_call(&mut Lent::new(), input);
-    format!("{}, {}", input.kind, input.size)
+    input.to_string()
 }
 
 /// A counter of instructions finds it by its name.
@@ -179,8 +185,8 @@ fn same_answer(input: &Input, lent: &mut Lent) {
     let library = library.map_err(|no| (no.number as usize, no.place as usize));
     let plain = judge_plainly(input).map_err(|no| (no.number as usize, no.place));
     let wanted = input.answer.map_err(|no| (no.number as usize, no.place));
-    assert_eq!(library, wanted, "the library on {} of {}", input.kind, input.size);
-    assert_eq!(plain, wanted, "the plain checker on {} of {}", input.kind, input.size);
+    assert_eq!(library, wanted, "the library on: {input}");
+    assert_eq!(plain, wanted, "the plain checker on: {input}");
 }
 
 /// How many calls fill a sample; it warms up as well.
@@ -203,6 +209,12 @@ fn sample(call: &mut impl FnMut(), calls: usize) -> f64 {
     started.elapsed().as_nanos() as f64 / calls as f64
 }
 
-fn least(samples: Vec<f64>) -> f64 {
+pub fn least(samples: Vec<f64>) -> f64 {
     samples.into_iter().fold(f64::INFINITY, f64::min)
+}
+
+/// The upper one where two lie in the middle.
+pub fn median(mut samples: Vec<f64>) -> f64 {
+    samples.sort_by(f64::total_cmp);
+    samples[samples.len() / 2]
 }

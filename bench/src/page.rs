@@ -2,7 +2,13 @@
 
 use crate::measure::Row;
 
-pub fn page(machine: &str, sections: &[Row], bodies: &[Row], runs: &[Row]) -> String {
+pub fn page(
+    machine: &str,
+    sections: &[Row],
+    bodies: &[Row],
+    numbers: &[Row],
+    runs: &[Row],
+) -> String {
     format!(
         "# Times
 
@@ -36,6 +42,16 @@ All are accepted, so that every byte is looked at. The body's section is judged 
 {}
 ![Nanoseconds for each byte of a body](bench-bodies.svg)
 
+## Numbers
+
+Sections and bodies of 32 KB whose LEB numbers are written in three ways. All are accepted. The sections are of one shape: structs with a supertype and 64 fields, functions with 64 parameters and 64 results, all of them references to a few types. So are the bodies: constants, locals, fields, br_if, casts, nulls and new objects; they have one section, and bytes and numbers are the body's alone.
+
+- *one-byte numbers*: types, locals and constants have low numbers.
+- *two-byte numbers*: types, locals and constants are numbered from 128 on. Lists, labels, fields and what stands after FB never need two bytes, and have one.
+- *padded numbers*: as the first, with every number padded to five bytes, so that fewer definitions and instructions fit.
+
+{}
+{}
 ## Runs
 
 Each is a loop that goes on until its budget is spent, but for the last, which ends when the heap is full. A step is one instruction. Section and body are judged in the same call, and that is in the time: what a call costs besides its steps shows in the runs of 1,000.
@@ -56,6 +72,8 @@ Each is a loop that goes on until its budget is spent, but for the last, which e
 {}",
         table("Section", sections),
         table("Body", bodies),
+        number_table(numbers),
+        include_str!("../numbers.md"),
         run_table(runs),
         include_str!("../tried.md")
     )
@@ -74,6 +92,30 @@ pub fn table(what: &str, rows: &[Row]) -> String {
             row.plain / 1000.0,
             row.for_each(row.library),
             row.for_each(row.plain),
+            row.ratio()
+        );
+    }
+    text
+}
+
+pub fn number_table(rows: &[Row]) -> String {
+    let mut text = String::from("| Input | Bytes | Numbers | Of one byte | Library, µs | Plain, µs | Library, ns a byte | Plain, ns a byte | Library, ns a number | Plain, ns a number | Ratio |\n");
+    text += "|---|---|---|---|---|---|---|---|---|---|---|\n";
+    for row in rows {
+        let numbers = row.numbers.unwrap_or_default();
+        text += &format!(
+            "| {}, {} | {} | {} | {} | {:.1} | {:.1} | {:.2} | {:.2} | {:.2} | {:.2} | {:.2} |\n",
+            row.what,
+            row.kind,
+            row.amount,
+            numbers.all,
+            numbers.of_one_byte,
+            row.library / 1000.0,
+            row.plain / 1000.0,
+            row.for_each(row.library),
+            row.for_each(row.plain),
+            row.library / numbers.all as f64,
+            row.plain / numbers.all as f64,
             row.ratio()
         );
     }

@@ -18,7 +18,8 @@ pub fn input(kind: &'static str, kilobytes: usize) -> Input {
     let (section, function) = section(kind);
     let (body, answer) = of_size(kind, kilobytes, |room| body(kind, room));
     let size = Size::Kilobytes(kilobytes);
-    Input { kind, size, section, body: Some((function, body)), budget: None, answer }
+    let body = Some((function, body));
+    Input { kind, size, section, body, budget: None, answer, numbers: None }
 }
 
 /// The section, and the number of the function type.

@@ -1,6 +1,8 @@
-//! The inputs: sections and bodies of 1, 5, 20 and 32 KB, ordinary ones and hostile ones; and runs of up to 1,000,000 steps.
+//! The inputs: sections and bodies of 1, 5, 20 and 32 KB, ordinary ones and hostile ones; some of 32 KB that differ in how
+//! their LEB numbers are written; and runs of up to 1,000,000 steps.
 
 pub mod bodies;
+pub mod numbers;
 pub mod runs;
 pub mod sections;
 
@@ -18,6 +20,15 @@ pub struct Input {
     pub budget: Option<u64>,
     /// The answer that document 01 gives: the count of types or of instructions, the steps, or the refusal.
     pub answer: Result<usize, Refusal>,
+    /// Of the section or the body; counted where the input is about them.
+    pub numbers: Option<Numbers>,
+}
+
+/// LEB numbers, and those of them that have one byte.
+#[derive(Clone, Copy, Default)]
+pub struct Numbers {
+    pub all: usize,
+    pub of_one_byte: usize,
 }
 
 /// What a table calls an input's size.
@@ -28,6 +39,14 @@ pub enum Size {
 }
 
 impl Input {
+    pub fn what(&self) -> &'static str {
+        match (&self.body, self.budget) {
+            (None, _) => "section",
+            (Some(_), None) => "body",
+            (Some(_), Some(_)) => "run",
+        }
+    }
+
     /// The bytes or steps that a time is divided by.
     pub fn amount(&self) -> usize {
         match (self.size, &self.body) {
@@ -35,6 +54,13 @@ impl Input {
             (_, None) => self.section.len(),
             (_, Some((_, body))) => body.len(),
         }
+    }
+}
+
+/// As `section, ordinary, 32 KB`.
+impl fmt::Display for Input {
+    fn fmt(&self, to: &mut fmt::Formatter) -> fmt::Result {
+        write!(to, "{}, {}, {}", self.what(), self.kind, self.size)
     }
 }
 
@@ -68,6 +94,10 @@ pub fn of_bodies() -> Vec<Input> {
     of_kinds(&bodies::KINDS, bodies::input)
 }
 
+pub fn of_numbers() -> Vec<Input> {
+    numbers::inputs()
+}
+
 pub fn of_runs() -> Vec<Input> {
     let kinds = runs::KINDS.iter();
     kinds.flat_map(|kind| runs::steps(kind).map(|steps| runs::input(kind, steps))).collect()
@@ -84,9 +114,12 @@ type Judged = (Vec<u8>, Result<usize, Refusal>);
 fn of_size(kind: &str, kilobytes: usize, make: impl Fn(usize) -> Judged) -> Judged {
     let room = kilobytes * MOST_BYTES / 32;
     let (bytes, answer) = make(room);
-    let length = bytes.len();
-    assert!(length <= room && length > room * 3 / 4, "{kind}: {length} of {room}");
+    assert_filled(kind, bytes.len(), room);
     (bytes, answer)
+}
+
+fn assert_filled(kind: &str, length: usize, room: usize) {
+    assert!(length <= room && length > room * 3 / 4, "{kind}: {length} of {room}");
 }
 
 fn leb(number: usize) -> Vec<u8> {

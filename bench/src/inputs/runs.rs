@@ -37,6 +37,7 @@ pub fn input(kind: &'static str, steps: usize) -> Input {
         body: Some((function, body(kind))),
         budget: Some(budget(kind, steps)),
         answer: Ok(steps),
+        numbers: None,
     }
 }
 

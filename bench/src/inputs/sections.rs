@@ -12,7 +12,7 @@ pub fn input(kind: &'static str, kilobytes: usize) -> Input {
         _ => hostile(room),
     });
     let size = Size::Kilobytes(kilobytes);
-    Input { kind, size, section, body: None, budget: None, answer }
+    Input { kind, size, section, body: None, budget: None, answer, numbers: None }
 }
 
 /// Types of a kind that follow one another, as many as fit.
