@@ -2,9 +2,8 @@
 //! its plots.
 //!
 //! `bench library` times the library alone and writes no file: a line for each input with the least time of many and their
-//! median. `bench once` calls it once on each input, for bench/count-instructions. `bench compare`, for
-//! bench/compare-archives, asks both of two programs that are linked with different archives. A TEXT after these takes the
-//! inputs that have it in their names.
+//! median. `bench once` calls it once on each input, for bench/count-instructions. `bench compare` asks two programs, each
+//! linked with another archive, for both, for bench/compare-archives. TEXT takes the inputs that have it in their names.
 
 mod compare;
 mod inputs;
