@@ -19,7 +19,7 @@ use Rattle.number.specs.declared.Byte.{Byte}
 use Rattle.number.specs.declared.Byte
 use Rattle.number.specs.declared.Leb.{Leb}
 use Rattle.number.specs.declared.Leb
-use Rattle.number.specs.Answers.{byteIs, byteLimit, lebIs, ByteAt, Few, BitsRead}
+use Rattle.number.specs.Answers.{byteIs, byteLimit, lebIs, ByteAt, GoesOn, Few, BitsRead}
 
 -- v of weight w, from k bytes, put below what follows
 abbrev pub above : ℕ → ℕ → ℕ → Bits → Bits
@@ -162,6 +162,21 @@ pub part-long : {s : List ℕ} {at value weight next left : ℕ} → Part s at v
 part-long {s} {at} {value} {weight} {next} {left} p h =
     record { is = rw (p .same, bits-long s next left h); small = λ v k n q. impossible cc }
 
+-- where the loop starts: after a first byte that goes on
+module _ {s : List ℕ} {at b : ℕ} (g : GoesOn s at b) where
+  pub part-second : Part s at (b - 128) 128 (at + 1) 4
+  part-second =
+      let first : Part s at (0 + 1 * (b - 128)) (1 * 128) (at + 1) (5 - 1) =
+      part-turn (part-first s at) (lit< tt) (record { is = rw (g .byte); small = λ c e. let same : b ≡ c = cc in rw (← same) (g .small, g .inside) }) refl (g .more) in
+      let value : 0 + 1 * (b - 128) ≡ b - 128 = omega arith in
+      rw value at first
+
+  pub second-fits : length s < 2 ^ 64 → Fits w64 (at + 1)
+  second-fits l = let h : at < length s = g .inside in record { fits = omega arith }
+
+  pub first-goes : 128 ≤ b
+  first-goes = g .more
+
 -- no sum and no product of the loop wraps
 
 module _ {s : List ℕ} {at value weight next left : ℕ} (p : Part s at value weight next left) (more : 0 < left) where
@@ -188,4 +203,4 @@ module _ {s : List ℕ} {at value weight next left : ℕ} (p : Part s at value w
 pub next-fits : {s : List ℕ} {next : ℕ} {r : Byte} {b : ℕ} → length s < 2 ^ 64 → ByteAt s next r → r ≡ Byte.the-variants.Is b → Fits w64 (next + 1)
 next-fits {s} {next} {b = b} l a e = let h : next < length s = a .small b e .1 in record { fits = omega arith }
 
-pub ruleset leb-exits = (part-first, part-turn, part-last, part-cut, part-long, product-fits, sum-fits, turn-product-fits, turn-sum-fits, weight-fits, next-fits)
+pub ruleset leb-exits = (part-second, second-fits, first-goes, part-turn, part-last, part-cut, part-long, product-fits, sum-fits, turn-product-fits, turn-sum-fits, weight-fits, next-fits)

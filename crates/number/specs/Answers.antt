@@ -29,6 +29,13 @@ pub record ByteAt (s : List ℕ) (at : ℕ) (r : Byte) : Type 0 where
   pub is : r ≡ byteIs (getElem? s at)
   pub small : (b : ℕ) → r ≡ Byte.the-variants.Is b → (b < byteLimit) × (at < length s)
 
+-- the byte at a place is b, and its number goes on after it
+pub record GoesOn (s : List ℕ) (at b : ℕ) : Type 0 where
+  pub byte : getElem? s at ≡ some b
+  pub small : b < byteLimit
+  pub inside : at < length s
+  pub more : 128 ≤ b
+
 abbrev pub lebIs : Bits → Leb
 lebIs (bits v k next) = Leb.the-variants.Bits v k next
 lebIs cut = Leb.the-variants.Cut

@@ -3,7 +3,7 @@
 use scope::refusals;
 ghost use mathlib.Core.Path.{_≡_};
 ghost use Rattle.scope.specs.Numbers.{u32, s32, s33};
-ghost use Rattle.number.specs.Answers.{ByteAt, Few, BitsRead, naturalIs, SignWeight, rangeOf, SignedRead, integerIs};
+ghost use Rattle.number.specs.Answers.{ByteAt, GoesOn, Few, BitsRead, naturalIs, SignWeight, rangeOf, SignedRead, integerIs};
 
 // The first number that is more than one byte.
 const TWO_BYTES: u64 = 128;
@@ -39,14 +39,15 @@ pub enum Leb {
     Long,
 }
 
-// Seven bits a byte, lowest first; `weight` is that of the next seven.
-fn leb_loop(s: &[u8], at: usize) -> Leb
+// Seven bits a byte, lowest first, after a first byte that goes on; `weight` is that of the next seven.
+fn leb_loop(s: &[u8], at: usize, first: u64) -> Leb
+    requires { ⌜ GoesOn (now s) at first ⌝ }
     ensures { λ r. ⌜ BitsRead (now (s .entry)) at r ⌝ }
 {
-    let mut value: u64 = 0;
-    let mut weight: u64 = 1;
-    let mut next = at;
-    let mut left: u64 = 5;
+    let mut value: u64 = first - 128;
+    let mut weight: u64 = 128;
+    let mut next = at + 1;
+    let mut left: u64 = 4;
     while 0 < left {
         let read = byte_at(s, next);
         let Byte::Is(b) = read else {
@@ -74,7 +75,7 @@ fn leb_at(s: &[u8], at: usize) -> Leb
     if b < TWO_BYTES {
         return Leb::Bits(b, 1, at + 1);
     }
-    leb_loop(s, at)
+    leb_loop(s, at, b)
 }
 
 // A natural number and the place after it; or a refusal's number and place.

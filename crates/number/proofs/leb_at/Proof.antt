@@ -23,7 +23,7 @@ returns-2 : tie.Need-returns-2
 returns-2 c = search (one-byte-exits, needs)
 
 leb-loop-requires : tie.Need-leb-loop-requires
-leb-loop-requires c κs = search needs
+leb-loop-requires c κs = search (one-byte-exits, needs)
 
 returns-3 : tie.Need-returns-3
 returns-3 c = search needs
