@@ -14,12 +14,12 @@ use Rattle.scope.specs.Syntax.{typesOf}
 use Rattle.scope.specs.Order.{valBelow}
 use Rattle.scope.specs.TypeRules.{heapNames}
 use Rattle.scope.specs.Instructions.{Op, unreachable, nop, return, drop-value, br, br-if, local-get, local-set, local-tee, i32-const, ref-null, ref-is-null, ref-eq, ref-as-non-null, struct-new, struct-new-default, struct-get, struct-set, ref-test, ref-cast, br-on-cast, br-on-cast-fail, struct-new-desc, struct-new-default-desc, ref-get-desc, ref-cast-desc-eq, br-on-cast-desc-eq, br-on-cast-desc-eq-fail}
-use Rattle.scope.specs.BodyRules.{Plan, planOf, fieldsOf, holdsOf, hasDefault, descriptorFor, lastOf, sourceOf, targetOf, restOf}
+use Rattle.scope.specs.BodyRules.{Plan, planOf, fieldsOf, holdsOf, hasDefault, oneHierarchy, descriptorFor, lastOf, targetOf, restOf}
 use Rattle.scope.specs.Bodies.{Operand, State, scopeOf, afterPlan, put, Body, startState}
 use Rattle.scope.specs.Machine.{Value, Machine, doOp}
 use Rattle.scope.proofs.Truths.{from-both}
 use Rattle.scope.proofs.Accepted.{Kept}
-use Rattle.scope.proofs.Telling.{Allows, this, after-test, after-need}
+use Rattle.scope.proofs.Telling.{Allows, this, after-test, past-test, after-need}
 use Rattle.scope.proofs.Standing.{Accepts}
 use Rattle.scope.proofs.Plain.{Does, On, labelsOf, skips, returns, drops, gets, sets-local, tees-local, numbers, nulls, asks-null, compares, refuses-null, branches-always, branches-if}
 use Rattle.scope.proofs.Structs.{news, news-default, news-desc, news-default-desc, reads, writes, describes}
@@ -95,14 +95,14 @@ module _ {b : Body} (kept : Kept (typesOf (b .types))) (accepts : Accepts (conte
   acting (br-on-cast k) =
       after-test (inReach b (heapNames (k .source) ++ heapNames (k .target))) outOfReach (λ reach.
       after-need (getElem? (labelsOf b st) (k .label)) absent (λ rs label.
-      after-test (valBelow (typesOf (b .types)) (targetOf k) (sourceOf k)) badBranch (λ matches.
+      past-test (oneHierarchy (typesOf (b .types)) (k .source) (k .target)) badBranch (
       after-need (lastOf rs) badBranch (λ split is.
       after-test (valBelow (typesOf (b .types)) (targetOf k) (split .1)) badBranch (λ carried.
       this (record { acts = branches-cast m typed alive kept accepts k rs label is carried }))))))
   acting (br-on-cast-fail k) =
       after-test (inReach b (heapNames (k .source) ++ heapNames (k .target))) outOfReach (λ reach.
       after-need (getElem? (labelsOf b st) (k .label)) absent (λ rs label.
-      after-test (valBelow (typesOf (b .types)) (targetOf k) (sourceOf k)) badBranch (λ matches.
+      past-test (oneHierarchy (typesOf (b .types)) (k .source) (k .target)) badBranch (
       after-need (lastOf rs) badBranch (λ split is.
       after-test (valBelow (typesOf (b .types)) (restOf k) (split .1)) badBranch (λ carried.
       this (record { acts = branches-cast-fail m typed alive kept accepts k rs label is carried }))))))
@@ -129,7 +129,7 @@ module _ {b : Body} (kept : Kept (typesOf (b .types))) (accepts : Accepts (conte
       after-test (inReach b (heapNames (k .source) ++ heapNames (k .target))) outOfReach (λ reach.
       after-need (getElem? (labelsOf b st) (k .label)) absent (λ rs label.
       after-need (descriptorFor (typesOf (b .types)) (k .target)) badStruct (λ d asked.
-      after-test (valBelow (typesOf (b .types)) (targetOf k) (sourceOf k)) badBranch (λ matches.
+      past-test (oneHierarchy (typesOf (b .types)) (k .source) (k .target)) badBranch (
       after-need (lastOf rs) badBranch (λ split is.
       after-test (valBelow (typesOf (b .types)) (targetOf k) (split .1)) badBranch (λ carried.
       this (record { acts = branches-desc m typed alive kept accepts k rs label is asked carried })))))))
@@ -137,7 +137,7 @@ module _ {b : Body} (kept : Kept (typesOf (b .types))) (accepts : Accepts (conte
       after-test (inReach b (heapNames (k .source) ++ heapNames (k .target))) outOfReach (λ reach.
       after-need (getElem? (labelsOf b st) (k .label)) absent (λ rs label.
       after-need (descriptorFor (typesOf (b .types)) (k .target)) badStruct (λ d asked.
-      after-test (valBelow (typesOf (b .types)) (targetOf k) (sourceOf k)) badBranch (λ matches.
+      past-test (oneHierarchy (typesOf (b .types)) (k .source) (k .target)) badBranch (
       after-need (lastOf rs) badBranch (λ split is.
       after-test (valBelow (typesOf (b .types)) (restOf k) (split .1)) badBranch (λ carried.
       this (record { acts = branches-desc-fail m typed alive kept accepts k rs label is asked carried })))))))

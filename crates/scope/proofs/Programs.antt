@@ -1,6 +1,7 @@
 -- Soundness is not vacuous: accepted programs whose runs are computed, and reach done, each of the five traps and spent.
 -- Among them are descriptors, descriptors of descriptors, supertypes of both, casts that pass and that fail, the four
--- branching casts, a field that is set, and loops. One list and one claim about it.
+-- branching casts, between types of which neither is below the other too, a field that is set, and loops. One list and one
+-- claim about it.
 use Prim.Native.Nat.{ℕ}
 use mathlib.Core.Path.{_≡_, refl}
 use mathlib.Core.Bool.{Bool, true}
@@ -216,10 +217,22 @@ throughBranches =
     }
     ∷ []
 
+-- Request 4 of document 02: neither type is below the other, or the target is above the source.
+abbrev acrossTypes : List Sample
+acrossTypes =
+    -- to (ref struct), by a block of (ref null struct): an object of type 0 is one
+    record { body = joined (noLocals ∷ (0x02 ∷ 0x6B ∷ []) ∷ upper ∷ br-on-cast 0 0x6B ∷ unreachable ∷ end ∷ drop-value ∷ i32-const 5 ∷ end ∷ []); budget = 100; ends = done-after 8 5 }
+    -- from (ref 7) to (ref 3), which no object passes
+    ∷ record { body = joined (noLocals ∷ block-of 3 ∷ new-default 7 ∷ br-on-cast 7 3 ∷ struct-get 7 0 ∷ return ∷ end ∷ struct-get 3 1 ∷ end ∷ []); budget = 100; ends = done-after 5 0 }
+    ∷ record { body = joined (noLocals ∷ block-of 7 ∷ new-default 7 ∷ br-on-cast-fail 7 3 ∷ unreachable ∷ end ∷ struct-get 7 0 ∷ end ∷ []); budget = 100; ends = done-after 5 0 }
+    ∷ record { body = joined (noLocals ∷ block-of 3 ∷ new-default 7 ∷ lowerDescriptor ∷ br-on-cast-desc-eq 7 3 ∷ struct-get 7 0 ∷ return ∷ end ∷ struct-get 3 1 ∷ end ∷ []); budget = 100; ends = done-after 7 0 }
+    ∷ record { body = joined (noLocals ∷ block-of 7 ∷ new-default 7 ∷ lowerDescriptor ∷ br-on-cast-desc-eq-fail 7 3 ∷ unreachable ∷ end ∷ struct-get 7 0 ∷ end ∷ []); budget = 100; ends = done-after 7 0 }
+    ∷ []
+
 -- the body, of type 6, is accepted, and its run ends so
 abbrev agrees : Sample → Bool
 agrees p = pairwise eqb (trialWords (trialRun types (p .body) 6 (p .budget))) (p .ends)
 
-pub programs-run : every agrees (throughCasts ++ toTraps ++ throughBranches) ≡ true
+pub programs-run : every agrees (throughCasts ++ toTraps ++ throughBranches ++ acrossTypes) ≡ true
 unfolding computes
 programs-run = refl

@@ -33,6 +33,10 @@ module _ {A : Type 0} {P : A → Type 0} where
   after-test true n k = k refl
   after-test false n k = nothing
 
+  -- a test that nothing afterwards rests on
+  pub past-test : (b : Bool) (n : ℕ) {more : Ruled A} → Allows P more → Allows P (test b n more)
+  past-test b n more = after-test b n (λ e. more)
+
   pub after-need : {B : Type 0} (o : Option B) (n : ℕ) {f : B → Ruled A} → ((y : B) → o ≡ some y → Allows P (f y)) → Allows P (need o n f)
   after-need none n k = nothing
   after-need (some y) n k = k y refl

@@ -1,5 +1,5 @@
--- What an instruction asks and gives: the body rules of document 01, instruction by instruction. The tests of one
--- instruction stand in document 01's order: 6, 21, 23, 24, 25, 29, 22; operands come in specs/Bodies.antt.
+-- What an instruction asks and gives: the body rules of document 01, as document 02 amends them, instruction by instruction. The
+-- tests of one instruction stand in document 01's order: 6, 21, 23, 24, 25, 29, 22; operands come in specs/Bodies.antt.
 use Prim.Native.Nat.{ℕ, zero, suc}
 use mathlib.Core.Bool.{Bool, true, false, not, cond, _&&_}
 use mathlib.Core.Option.{Option, none, some}
@@ -9,7 +9,7 @@ use lib.Dec.{ltb}
 use Rattle.scope.specs.Refusals.{outOfReach, absent, notSet, badStruct, fieldFixed, badBranch, noDefault}
 use Rattle.scope.specs.Reading.{given}
 use Rattle.scope.specs.Lists.{every, isNone}
-use Rattle.scope.specs.Abstract.{Abstract, ANY, EQ, row}
+use Rattle.scope.specs.Abstract.{Abstract, ANY, EQ, row, sameAbstract}
 use Rattle.scope.specs.Syntax.{Heap, abstract, defined, exact, i32, Val, num, ref, nullable, nonNull, Field, Form, struct, func, Types}
 use Rattle.scope.specs.Order.{kindOf, valBelow}
 use Rattle.scope.specs.TypeRules.{heapNames}
@@ -99,6 +99,10 @@ topOf ts (abstract a) = row a .top
 topOf ts (defined x) = row (kindOf (ts x .form)) .top
 topOf ts (exact x) = row (kindOf (ts x .form)) .top
 
+-- "one hierarchy": the same top
+abbrev pub oneHierarchy : Types → Heap → Heap → Bool
+oneHierarchy ts h k = sameAbstract (topOf ts h) (topOf ts k)
+
 -- the type of the descriptor that a descriptor cast to this target takes: exact y when the target is exact. "The target
 -- is a defined type with a descriptor."
 abbrev pub descriptorFor : Types → Heap → Option Heap
@@ -156,12 +160,13 @@ castDescriptor c h f = need (descriptorFor (c .types) h) badStruct f
 abbrev pub changeable : {A : Type 0} → Field → Ruled A → Ruled A
 changeable f more = test (f .mutable) fieldFixed more
 
--- 25: branching cast's rule, label without types. "The target matches the source. .. The label's last type takes what is
--- carried. Values below, .. are read as the label's types afterwards." `carried` goes to the label, `falls` falls through;
--- `first` is taken before the object.
+-- 25: branching cast's rule, label without types. Of source and target request 4 of document 02 says: "003 asks only that both
+-- share a valid supertype, so one hierarchy, in all four forms. For the types, 25 then means different hierarchies." Of the
+-- label document 01 says: "The label's last type takes what is carried. Values below, .. are read as the label's types
+-- afterwards." `carried` goes to the label, `falls` falls through; `first` is taken before the object.
 abbrev pub branches : Context → List Wanted → Cast → Val → Val → List Val → Ruled Plan
 branches c first k carried falls label =
-    test (valBelow (c .types) (targetOf k) (sourceOf k)) badBranch
+    test (oneHierarchy (c .types) (k .source) (k .target)) badBranch
     (need (lastOf label) badBranch (λ split.
     test (valBelow (c .types) carried (split .1)) badBranch
     (takes (first ++ value (sourceOf k) ∷ fromTop (split .0)) (values (split .0 ++ falls ∷ [])))))
