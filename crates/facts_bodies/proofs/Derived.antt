@@ -10,6 +10,7 @@ use Rattle.scope.specs.BodyRules.{Context, Scope, Wanted, values, Plan, allowed
 use Rattle.facts_bodies.specs.Rules.{Branching, Rule, rule-unreachable, rule-nop, rule-return, rule-drop, rule-br, rule-br-if, rule-local-get, rule-local-set, rule-local-tee, rule-i32-const, rule-ref-null, rule-ref-is-null, rule-ref-eq, rule-ref-as-non-null, rule-struct-new, rule-struct-new-default, rule-struct-get, rule-struct-set, rule-ref-test, rule-ref-cast, rule-br-on-cast, rule-br-on-cast-fail, rule-struct-new-desc, rule-struct-new-default-desc, rule-ref-get-desc, rule-ref-cast-desc-eq, rule-br-on-cast-desc-eq, rule-br-on-cast-desc-eq-fail}
 use Rattle.facts_bodies.proofs.Premises.{allBelow, append-every, number-reached-tested, heap-reached-tested, defaults-tested, set-tested, cast-takes-tested, last-found, Ordered}
 use Rattle.facts_bodies.proofs.Apart.{only-top, only-rest}
+use Rattle.facts_bodies.proofs.Hierarchies.{shares-tested}
 
 module _ (c : Context) (here : Scope) (ordered : Ordered (c .types)) where
   names-reached : {k : Cast} {carried : Val} {vs : List Val}
@@ -23,7 +24,7 @@ module _ (c : Context) (here : Scope) (ordered : Ordered (c .types)) where
   branch-allowed : (k : Cast) (carried falls : Val) (first : List Wanted) {vs : List Val} (b : Branching c here k carried vs)
       → branches c first k carried falls (vs ++ b .last ∷ []) ≡ takes (first ++ value (sourceOf k) ∷ fromTop vs) (values (vs ++ falls ∷ []))
   branch-allowed k carried falls first {vs} b =
-      rw (ordered .tested (targetOf k) (sourceOf k) (b .matches), last-found vs (b .last), ordered .tested carried (b .last) (b .takesCarried))
+      rw (shares-tested ordered (b .shared), last-found vs (b .last), ordered .tested carried (b .last) (b .takesCarried))
 
   pub derived-plan : {o : Op} {p : Plan} → Rule c here o p → planOf c here o ≡ allowed p
   unfolding planOf

@@ -1,6 +1,7 @@
 pub mod Ruled
 pub mod Premises
 pub mod Apart
+pub mod Hierarchies
 pub mod Planned
 pub mod Derived
 pub mod Stack

@@ -16,6 +16,7 @@ use Rattle.facts_bodies.specs.Rules.{StructType, FieldOf, Branching, Rul
 use Rattle.facts_bodies.proofs.Ruled.{same-allowed, test-passed, need-met}
 use Rattle.facts_bodies.proofs.Premises.{every-append, tested-number-reached, tested-heap-reached, tested-defaults, tested-set, has-fields, has-none, tested-cast-takes, found-last}
 use Rattle.facts_bodies.proofs.Apart.{top-stands, rest-stands}
+use Rattle.facts_bodies.proofs.Hierarchies.{tested-shares}
 
 module _ (c : Context) (here : Scope) where
   -- the plan of an instruction is the one that its rule states
@@ -75,7 +76,7 @@ module _ (c : Context) (here : Scope) where
       → branches c first k carried falls label ≡ allowed p
       → (vs : List Val) × Branching c here k carried vs × (takes (first ++ value (sourceOf k) ∷ fromTop vs) (values (vs ++ falls ∷ [])) ≡ allowed p)
   branch-found k carried falls first {label} named e =
-      let (matched, more) = test-passed _ _ _ e in
+      let (related, more) = test-passed _ _ _ e in
       let (split, found, last) = need-met (lastOf label) _ _ more in
       let (taken, plan) = test-passed _ _ _ last in
       let branching : Branching c here k carried (split .0) =
@@ -84,7 +85,7 @@ module _ (c : Context) (here : Scope) where
         targetReached = named .targetReached;
         last = split .1;
         label = named .labelled ∙ ap some (found-last label found);
-        matches = tested-value-order (c .types) _ _ matched;
+        shared = tested-shares (k .sourceNull) (k .targetNull) (k .source) (k .target) related;
         takesCarried = tested-value-order (c .types) _ _ taken;
       } in
       (split .0, branching, plan)

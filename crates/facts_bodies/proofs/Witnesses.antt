@@ -1,16 +1,24 @@
 -- The rules at the samples of specs/Samples.antt: where the verdict is yes the theorem gives the derivation, where it is no it says
 -- that there is none. The verdicts are computed; numbers and places were worked out from document 01.
 use Prim.Native.Nat.{ℕ}
-use mathlib.Core.Path.{_≡_, refl}
+use mathlib.Core.Path.{_≡_, refl, sym, _∙_}
 use mathlib.Core.Bool.{Bool, true, false, false≢true}
 use mathlib.Core.List.{List, []}
-use Rattle.scope.specs.Syntax.{Definition}
+use lib.ListN.{length}
+use borrow.Author.Tests.{ltb-true}
+use Rattle.scope.specs.Abstract.{NOEXTERN, NONE, FUNC, ANY, EQ, I31, STRUCT}
+use Rattle.scope.specs.Syntax.{Heap, abstract, defined, exact, Val, ref, nullable, nonNull, Definition, typesOf}
+use Rattle.scope.specs.Order.{listed, supertype, heaps, nulls, chained}
 use Rattle.scope.specs.Judging.{Judged, accepted, rejected, judgeSection}
+use Rattle.scope.specs.BodyRules.{oneHierarchy}
 use Rattle.scope.specs.Bodies.{Body, instructions, judgeBody}
 use Rattle.scope.proofs.Computes.{computes}
 use Rattle.scope.proofs.Impossible.{contradiction}
+use Rattle.facts_bodies.specs.Premises.{abstract-reached, defined-reached}
+use Rattle.facts_bodies.specs.Apart.{ShareSupertype, OneHierarchy}
 use Rattle.facts_bodies.specs.Typing.{AllowedBody}
-use Rattle.facts_bodies.specs.Samples.{W, everyKind, forgotten, remembered, unwantedDescriptor, missingDescriptor, fixedField, targetAbove, labelWithoutTypes, valuesLeft, noDefault, numberAsReference, unknownAsNumber, blockStartsEmpty, labelAbsent}
+use Rattle.facts_bodies.specs.Samples.{W, everyKind, forgotten, remembered, unwantedDescriptor, missingDescriptor, fixedField, targetAbove, targetBeside, otherHierarchy, labelWithoutTypes, valuesLeft, noDefault, numberAsReference, unknownAsNumber, blockStartsEmpty, labelAbsent}
+use Rattle.facts_bodies.proofs.Hierarchies.{tested-shares, matching-shares, shared-exactly-in-one-hierarchy, one-hierarchy-exactly-tested}
 use Rattle.facts_bodies.proofs.Main.{accepted-exactly-when-allowed}
 
 abbrev definitionsOf : Judged (List Definition) → List Definition
@@ -44,7 +52,8 @@ underivable s e a =
     let (b, yes′) = accepted-exactly-when-allowed W s 6 W-accepted .1 a in
     contradiction cc
 
--- a yes: 87 instructions of every kind; a local that is set around a block
+-- a yes: 87 instructions of every kind; a local that is set around a block; branching casts to a type above the source, and to one
+-- beside it that may be null
 
 pub every-kind-allowed : AllowedBody types 6 everyKind
 unfolding computes
@@ -57,6 +66,14 @@ every-kind-counted = refl
 pub remembered-allowed : AllowedBody types 6 remembered
 unfolding computes
 remembered-allowed = derived remembered refl
+
+pub target-above-allowed : AllowedBody types 6 targetAbove
+unfolding computes
+target-above-allowed = derived targetAbove refl
+
+pub target-beside-allowed : AllowedBody types 6 targetBeside
+unfolding computes
+target-beside-allowed = derived targetBeside refl
 
 -- a no
 
@@ -76,9 +93,9 @@ pub fixed-field-not-allowed : ¬ AllowedBody types 6 fixedField
 unfolding computes
 fixed-field-not-allowed = underivable fixedField {n = 24} {p = 5} refl
 
-pub target-above-not-allowed : ¬ AllowedBody types 6 targetAbove
+pub other-hierarchy-not-allowed : ¬ AllowedBody types 6 otherHierarchy
 unfolding computes
-target-above-not-allowed = underivable targetAbove {n = 25} {p = 5} refl
+other-hierarchy-not-allowed = underivable otherHierarchy {n = 25} {p = 5} refl
 
 pub label-without-types-not-allowed : ¬ AllowedBody types 6 labelWithoutTypes
 unfolding computes
@@ -107,3 +124,46 @@ block-starts-empty-not-allowed = underivable blockStartsEmpty {n = 20} {p = 5} r
 pub label-absent-not-allowed : ¬ AllowedBody types 6 labelAbsent
 unfolding computes
 label-absent-not-allowed = underivable labelAbsent {n = 21} {p = 1} refl
+
+-- supertypes that types share
+
+abbrev Share : Val → Val → Type 0
+Share source target = ShareSupertype (length types) (typesOf types) source target
+
+-- struct and i31 share eq, whether they may be null or not
+pub struct-and-i31-share : Share (nullable (abstract STRUCT)) (nonNull (abstract I31))
+struct-and-i31-share =
+    record { null = true; heap = abstract EQ; valid = abstract-reached; aboveSource = heaps (listed refl); aboveTarget = chained nulls (heaps (listed refl)) }
+
+pub struct-and-i31-in-one-hierarchy : OneHierarchy (typesOf types) (abstract STRUCT) (abstract I31)
+struct-and-i31-in-one-hierarchy = shared-exactly-in-one-hierarchy W W-accepted (abstract STRUCT) (abstract I31) true false .0 struct-and-i31-share
+
+-- where the target matches the source, the source is shared: type 2 is below type 0
+pub matching-share : Share (nullable (defined 0)) (nullable (defined 2))
+unfolding computes
+matching-share = matching-shares (defined-reached (ltb-true 0 (length types) refl)) (heaps (supertype refl))
+
+-- by the tops: a type and one beside it; a bottom and an exact type
+pub beside-share : Share (nonNull (defined 2)) (nullable (defined 3))
+unfolding computes
+beside-share = tested-shares false true (defined 2) (defined 3) refl
+
+pub bottom-shares : Share (nullable (abstract NONE)) (nonNull (exact 0))
+unfolding computes
+bottom-shares = tested-shares true false (abstract NONE) (exact 0) refl
+
+-- nothing is above both of two hierarchies
+share-none : (h k : Heap) → oneHierarchy (typesOf types) h k ≡ false → {n m : Bool} → ¬ Share (ref n h) (ref m k)
+share-none h k e {n} {m} shared =
+    let one = shared-exactly-in-one-hierarchy W W-accepted h k n m .0 shared in
+    false≢true (sym e ∙ one-hierarchy-exactly-tested W W-accepted h k .0 one)
+
+pub func-and-any-share-none : ¬ Share (nullable (abstract FUNC)) (nullable (abstract ANY))
+func-and-any-share-none = share-none (abstract FUNC) (abstract ANY) refl
+
+pub extern-and-any-share-none : ¬ Share (nullable (abstract NOEXTERN)) (nullable (abstract NONE))
+extern-and-any-share-none = share-none (abstract NOEXTERN) (abstract NONE) refl
+
+pub struct-and-function-share-none : ¬ Share (nonNull (defined 0)) (nonNull (exact 4))
+unfolding computes
+struct-and-function-share-none = share-none (defined 0) (exact 4) refl

@@ -1,5 +1,5 @@
 -- What the checker says by functions, said here by relations of its own, so that a mistake in a function does not stand on both
--- sides: a hierarchy's top, a cast's source, target and rest, what a label takes, what is set at first, how many operands
+-- sides: a hierarchy's top, a cast's source, target and rest, a supertype that both share, what a label takes, what is set at first, how many operands
 -- there are, how a list of values lies on the stack, and which local an instruction sets. proofs/Apart.antt proves each function equal to its relation.
 use Prim.Native.Nat.{ℕ, suc, _+_}
 use mathlib.Core.Path.{_≡_}
@@ -9,11 +9,11 @@ use mathlib.Core.List.{List, [], _∷_, _++_}
 use lib.ListN.{length}
 use Rattle.scope.specs.Abstract.{Abstract, ANY, FUNC, EXTERN}
 use Rattle.scope.specs.Syntax.{Heap, abstract, Val, ref, nonNull, Types}
-use Rattle.scope.specs.Order.{HeapOrder}
+use Rattle.scope.specs.Order.{HeapOrder, ValOrder}
 use Rattle.scope.specs.Instructions.{Cast}
 use Rattle.scope.specs.BodyRules.{Context, Scope, Wanted, value}
 use Rattle.scope.specs.Bodies.{Operand, known, Frame, ofBlock, ofLoop, State, Function}
-use Rattle.facts_bodies.specs.Premises.{Default}
+use Rattle.facts_bodies.specs.Premises.{HeapReached, Default}
 
 -- "any reference of the target's hierarchy": any, func and extern are the tops, and a heap type's hierarchy is the one whose top
 -- it is below
@@ -31,6 +31,19 @@ castSource k = ref (k .sourceNull) (k .source)
 
 abbrev pub castTarget : Cast → Val
 castTarget k = ref (k .targetNull) (k .target)
+
+-- Branching casts: "rt_1 and rt_2 share some arbitrary valid supertype rt'" (003): "C |- rt_1 <: rt'", "C |- rt_2 <: rt'" and
+-- "C |- rt' : ok". The source is rt_1, the target rt_2; a reference type is valid where its number, if it has one, is in reach.
+pub record ShareSupertype (count : ℕ) (ts : Types) (source target : Val) : Type 0 where
+  pub null : Bool
+  pub heap : Heap
+  pub valid : HeapReached count heap
+  pub aboveSource : ValOrder ts source (ref null heap)
+  pub aboveTarget : ValOrder ts target (ref null heap)
+
+-- "i.e. that rt_1 and rt_2 must be in the same heap type hierarchy" (003); "so one hierarchy" (request 4 of document 02)
+pub data OneHierarchy (ts : Types) (h k : Heap) : Type 0 where
+  one-hierarchy : {t : Abstract} → TopOf ts h t → TopOf ts k t → OneHierarchy ts h k
 
 -- "The rest is the source, not null where the target may be null."
 pub data Rest (k : Cast) : Val → Type 0 where

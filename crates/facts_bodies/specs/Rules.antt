@@ -1,5 +1,5 @@
--- The body rules of document 01 as a relation, a constructor for each instruction: `Rule c here o p` says that o is allowed
--- where `here` is open, and that it takes, gives and sets what p says. Operands are listed from the top.
+-- The body rules of document 01, as document 02 amends them, as a relation, a constructor for each instruction: `Rule c here o p`
+-- says that o is allowed where `here` is open, and that it takes, gives and sets what p says. Operands are listed from the top.
 use Prim.Native.Nat.{ℕ, _<_}
 use mathlib.Core.Path.{_≡_}
 use mathlib.Core.Bool.{Bool, true, false}
@@ -12,7 +12,7 @@ use Rattle.scope.specs.Order.{ValOrder}
 use Rattle.scope.specs.Instructions.{Cast, Op, unreachable, nop, return, drop-value, br, br-if, local-get, local-set, local-tee, i32-const, ref-null, ref-is-null, ref-eq, ref-as-non-null, struct-new, struct-new-default, struct-get, struct-set, ref-test, ref-cast, br-on-cast, br-on-cast-fail, struct-new-desc, struct-new-default-desc, ref-get-desc, ref-cast-desc-eq, br-on-cast-desc-eq, br-on-cast-desc-eq-fail}
 use Rattle.scope.specs.BodyRules.{Context, Scope, Wanted, value, anyValue, anyReference, Gives, values, itNonNull, itsDescriptor, Plan, fromTop, holdsOf}
 use Rattle.facts_bodies.specs.Premises.{Each, HeapReached, Default, CastTakes}
-use Rattle.facts_bodies.specs.Apart.{TopOf, castSource, castTarget, Rest}
+use Rattle.facts_bodies.specs.Apart.{TopOf, castSource, castTarget, ShareSupertype, Rest}
 
 -- what an instruction does to the stack
 
@@ -38,14 +38,14 @@ pub record FieldOf (c : Context) (x i : ℕ) (f : Field) : Type 0 where
   pub isStruct : StructType c x fields
   pub present : getElem? fields i ≡ some f
 
--- Branching casts: "the target matches the source. .. The label's last type takes what is carried." `below` are the label's
--- types before the last.
+-- Branching casts: source and target "share a valid supertype" (request 4 of document 02); "The label's last type takes what is
+-- carried." `below` are the label's types before the last.
 pub record Branching (c : Context) (here : Scope) (k : Cast) (carried : Val) (below : List Val) : Type 0 where
   pub sourceReached : HeapReached (c .count) (k .source)
   pub targetReached : HeapReached (c .count) (k .target)
   pub last : Val
   pub label : getElem? (here .labels) (k .label) ≡ some (below ++ last ∷ [])
-  pub matches : ValOrder (c .types) (castTarget k) (castSource k)
+  pub shared : ShareSupertype (c .count) (c .types) (castSource k) (castTarget k)
   pub takesCarried : ValOrder (c .types) carried last
 
 -- the rules

@@ -1,5 +1,5 @@
--- The proof table: every case of specs/Cases.antt is answered as the paper says. The checker computes the definitions on
--- the paper's bytes.
+-- The proof table: every case of specs/Cases.antt is answered as the papers say. The checker computes the definitions on
+-- the papers' bytes.
 use mathlib.Core.Path.{_≡_, refl}
 use mathlib.Core.Bool.{true}
 use Rattle.scope.specs.Lists.{every}

@@ -12,14 +12,15 @@ use Rattle.scope.specs.Syntax.{Heap, Val, nullable, Field, Form, struct, Types}
 use Rattle.scope.specs.TypeRules.{heapNames}
 use Rattle.scope.specs.Order.{valBelow}
 use Rattle.scope.specs.Instructions.{Cast, Op, unreachable, nop, return, drop-value, br, br-if, local-get, local-set, local-tee, i32-const, ref-null, ref-is-null, ref-eq, ref-as-non-null, struct-new, struct-new-default, struct-get, struct-set, ref-test, ref-cast, br-on-cast, br-on-cast-fail, struct-new-desc, struct-new-default-desc, ref-get-desc, ref-cast-desc-eq, br-on-cast-desc-eq, br-on-cast-desc-eq-fail}
-use Rattle.scope.specs.BodyRules.{Context, Scope, Wanted, value, Ruled, fieldsOf, holdsOf, hasDefault, descriptorFor, lastOf, sourceOf, targetOf, restOf, reached, labelled, localOf, structOf, fieldOf, undescribed, described, castDescriptor, changeable, branches, defaulted, alreadySet, castReached, planOf}
+use Rattle.scope.specs.BodyRules.{Context, Scope, Wanted, value, Ruled, fieldsOf, holdsOf, hasDefault, descriptorFor, lastOf, targetOf, restOf, reached, labelled, localOf, structOf, fieldOf, undescribed, described, castDescriptor, changeable, branches, defaulted, alreadySet, castReached, planOf}
 use Rattle.scope.proofs.Truths.{none-is-not-some}
 use Rattle.scope.proofs.Order.{tested-value-order}
 use Rattle.facts_sections.specs.FirstFault.{Rule}
 use Rattle.facts_sections.specs.TypeRelations.{IsStruct, a-struct}
 use Rattle.facts_bodies.specs.Premises.{Each, of-none, of-first, HeapReached, Default}
 use Rattle.facts_bodies.proofs.Premises.{same-some, allBelow, every-append, append-every, tested-number-reached, number-reached-tested, tested-heap-reached, heap-reached-tested, tested-defaults, defaults-tested, tested-set, set-tested, has-fields, has-none, tested-cast-takes, cast-takes-tested, found-last, last-found, Ordered}
-use Rattle.facts_refusals.specs.Instructions.{heapsReached, typeReached, labelThere, localThere, isStruct, hasField, noDescriptor, hasDescriptor, castDescribed, fieldMutable, targetMatches, labelHasTypes, labelTakes, allDefaults, localSet, Present, present, HasField, has-field, Named, named, CastDescribed, cast-described, FieldMutable, field-mutable, LabelHasTypes, label-has-types, LabelTakes, label-takes, AllDefaults, all-defaults, ruleOf, askedRules}
+use Rattle.facts_bodies.proofs.Hierarchies.{tested-shares, shares-tested}
+use Rattle.facts_refusals.specs.Instructions.{heapsReached, typeReached, labelThere, localThere, isStruct, hasField, noDescriptor, hasDescriptor, castDescribed, fieldMutable, supertypeShared, labelHasTypes, labelTakes, allDefaults, localSet, Present, present, HasField, has-field, Named, named, CastDescribed, cast-described, FieldMutable, field-mutable, LabelHasTypes, label-has-types, LabelTakes, label-takes, AllDefaults, all-defaults, ruleOf, askedRules}
 use Rattle.facts_refusals.proofs.Judged.{Judges, nothing-asked, judges-test, judges-need}
 
 -- what is there is not missing
@@ -155,9 +156,9 @@ module _ (c : Context) (here : Scope) (ordered : Ordered (c .types)) where
       judges-test _ (λ e. defaults-said form (tested-defaults (holdsOf fs) e)) (λ p. defaults-tested-of fs (rw form at p)) (λ e. later)
 
   branch-asked : (k : Cast) (carried falls : Val) (first : List Wanted) {vs : List Val} → getElem? (here .labels) (k .label) ≡ some vs
-      → Judges (branches c first k carried falls vs) (ruleOf c here (targetMatches k) ∷ ruleOf c here (labelHasTypes (k .label)) ∷ ruleOf c here (labelTakes (k .label) carried) ∷ [])
+      → Judges (branches c first k carried falls vs) (ruleOf c here (supertypeShared k) ∷ ruleOf c here (labelHasTypes (k .label)) ∷ ruleOf c here (labelTakes (k .label) carried) ∷ [])
   branch-asked k carried falls first {vs} label =
-      judges-test _ (tested-value-order (c .types) (targetOf k) (sourceOf k)) (ordered .tested (targetOf k) (sourceOf k)) (λ e.
+      judges-test _ (tested-shares (k .sourceNull) (k .targetNull) (k .source) (k .target)) (shares-tested ordered) (λ e.
       judges-need (lastOf vs) (λ split last. label-said label last) (label-not-missing label) (λ split last.
       judges-test _ (takes-said label last) (takes-tested ordered label last) (λ f. nothing-asked)))
 

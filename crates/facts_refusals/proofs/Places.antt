@@ -21,7 +21,7 @@ use Rattle.facts_sections.specs.FirstFault as rules
 use Rattle.facts_sections.specs.FirstFault.{FirstBroken, broken, kept-then}
 use Rattle.facts_bodies.specs.Typing.{Entry, EntriesAt, no-entry, next-entry, InstrsAt, no-instr, next-instr}
 use Rattle.facts_refusals.specs.Numbers.{is-left-over, InstructionFault, type-out-of-reach, is-absent, is-bad-struct, is-field-fixed, is-bad-branch, is-no-default, is-not-set, is-bad-operand, is-values-left, is-too-many, entry-out-of-reach, entry-too-many}
-use Rattle.facts_refusals.specs.Instructions.{Question, heapsReached, typeReached, labelThere, localThere, isStruct, hasField, noDescriptor, hasDescriptor, castDescribed, fieldMutable, targetMatches, labelHasTypes, labelTakes, allDefaults, localSet, numberOf, ruleOf, asks, rising}
+use Rattle.facts_refusals.specs.Instructions.{Question, heapsReached, typeReached, labelThere, localThere, isStruct, hasField, noDescriptor, hasDescriptor, castDescribed, fieldMutable, supertypeShared, labelHasTypes, labelTakes, allDefaults, localSet, numberOf, ruleOf, asks, rising}
 use Rattle.facts_refusals.specs.Bodies.{conditions, FaultAt, in-bytes, in-instruction, EntryFault, count-bytes, type-bytes, type-unreached, too-many, FaultyEntry, this-entry, later-entry, LocalsStand, BodySaysNo, by-section, by-size, by-type, by-count, by-locals, by-instruction, by-rest, BodyPlace, of-section, of-whole-size, of-type-number, of-bytes, of-entry, of-instruction, BodyRefusals}
 use Rattle.facts_refusals.proofs.Reading.{Heeds, unsigned-heeds, val-heeds, instr-heeds}
 use Rattle.facts_refusals.proofs.Sections.{heeded, says-no}
@@ -41,7 +41,7 @@ question-number (noDescriptor x) = is-bad-struct
 question-number (hasDescriptor x) = is-bad-struct
 question-number (castDescribed h) = is-bad-struct
 question-number (fieldMutable x i) = is-field-fixed
-question-number (targetMatches k) = is-bad-branch
+question-number (supertypeShared k) = is-bad-branch
 question-number (labelHasTypes l) = is-bad-branch
 question-number (labelTakes l v) = is-bad-branch
 question-number (allDefaults x) = is-no-default

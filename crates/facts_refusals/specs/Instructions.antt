@@ -17,7 +17,7 @@ use Rattle.scope.specs.BodyRules.{Context, Scope, holdsOf, restOf}
 use Rattle.facts_sections.specs.FirstFault.{Rule}
 use Rattle.facts_sections.specs.TypeRelations.{IsStruct}
 use Rattle.facts_bodies.specs.Premises.{Each, HeapReached, Default, CastTakes}
-use Rattle.facts_bodies.specs.Apart.{castSource, castTarget}
+use Rattle.facts_bodies.specs.Apart.{castSource, castTarget, ShareSupertype}
 
 -- the questions
 pub data Question : Type 0 where
@@ -33,8 +33,8 @@ pub data Question : Type 0 where
   castDescribed : Heap → Question
   -- 24: field fixed
   fieldMutable : ℕ → ℕ → Question
-  -- 25: branching cast's rule, label without types
-  targetMatches : Cast → Question
+  -- 25: branching cast's rule, label without types. "For the types, 25 then means different hierarchies" (request 4 of document 02)
+  supertypeShared : Cast → Question
   labelHasTypes : ℕ → Question
   labelTakes : ℕ → Val → Question
   -- 29: no default
@@ -53,7 +53,7 @@ numberOf (noDescriptor x) = badStruct
 numberOf (hasDescriptor x) = badStruct
 numberOf (castDescribed h) = badStruct
 numberOf (fieldMutable x i) = fieldFixed
-numberOf (targetMatches k) = badBranch
+numberOf (supertypeShared k) = badBranch
 numberOf (labelHasTypes l) = badBranch
 numberOf (labelTakes l v) = badBranch
 numberOf (allDefaults x) = noDefault
@@ -97,7 +97,7 @@ Means c here (noDescriptor x) = c .types x .descriptor ≡ none
 Means c here (hasDescriptor x) = Named (c .types x .descriptor)
 Means c here (castDescribed h) = CastDescribed (c .types) h
 Means c here (fieldMutable x i) = FieldMutable i (c .types x .form)
-Means c here (targetMatches k) = ValOrder (c .types) (castTarget k) (castSource k)
+Means c here (supertypeShared k) = ShareSupertype (c .count) (c .types) (castSource k) (castTarget k)
 Means c here (labelHasTypes l) = LabelHasTypes (here .labels) l
 Means c here (labelTakes l v) = LabelTakes (c .types) (here .labels) l v
 Means c here (allDefaults x) = AllDefaults (c .types x .form)
@@ -114,7 +114,7 @@ castAsks k descriptor carried =
     heapsReached (k .source ∷ k .target ∷ [])
     ∷ labelThere (k .label)
     ∷ descriptor
-    ++ targetMatches k
+    ++ supertypeShared k
     ∷ labelHasTypes (k .label)
     ∷ labelTakes (k .label) carried
     ∷ []
