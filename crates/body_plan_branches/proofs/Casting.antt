@@ -1,20 +1,27 @@
 -- Each way out of the plans of the branching casts.
 use Prim.Native.Nat.{ℕ, _+_}
-use mathlib.Core.Path.{_≡_, refl, _∙_}
+use mathlib.Core.Path.{_≡_, refl, sym, ap, _∙_}
 use mathlib.Core.Bool.{Bool, true, false, not, _&&_}
+use mathlib.Core.Logic.{_⊎_, inl, inr}
 use mathlib.Core.List.{List, [], _∷_, _++_}
 use lib.ListN.{getElem?}
-use lib.Dec.{ltb}
-use borrow.Author.Tests.{not-true, not-false}
+use lib.Dec.{eqb, ltb}
+use borrow.Author.Tests.{eqb-true, eqb-false, not-true, not-false}
 use mir.Syntax.{w16}
 use mir.Val.{Fits}
 use Rattle.scope.specs.Refusals.{outOfReach, absent, badStruct, badBranch}
 use Rattle.scope.specs.Lists.{every}
+use Rattle.scope.specs.Abstract.{Abstract, sameAbstract}
 use Rattle.scope.specs.Syntax.{Heap, Val, ref, nullable, Types}
+use Rattle.scope.specs.Memory.{abstractCode}
 use Rattle.scope.specs.Order.{valBelow}
 use Rattle.scope.specs.TypeRules.{heapNames}
-use Rattle.scope.specs.BodyRules.{value, need, andRuled, descriptorFor, branches, planOf}
+use Rattle.scope.specs.BodyRules.{value, need, andRuled, topOf, oneHierarchy, descriptorFor, branches, planOf}
+use Rattle.scope.proofs.Truths.{decided}
+use Rattle.scope.proofs.TenRows.{same-equal, equal-same}
 use Rattle.scope.proofs.Impossible.{impossible}
+use Rattle.type_abstract.specs.Heaps.{abstractAt}
+use Rattle.type_abstract.proofs.Laws.{at-code}
 use Rattle.type_table.specs.View.{heapAtCode, valAtCode}
 use Rattle.type_table.specs.declared.Link.{Link}
 use Rattle.type_table.specs.declared.Link
@@ -106,29 +113,38 @@ module _ (source target : Bool) (h : Heap) {c : ℕ} where
 
 pub ruleset rest-exits = (rest-non-null, rest-as-source)
 
+-- one_hierarchy
+
+same-number : (a b : Abstract) → eqb (abstractCode a) (abstractCode b) ≡ sameAbstract a b
+same-number a b = go (decided (eqb (abstractCode a) (abstractCode b))) (decided (sameAbstract a b))
+  where
+    go : (eqb (abstractCode a) (abstractCode b) ≡ true) ⊎ (eqb (abstractCode a) (abstractCode b) ≡ false)
+        → (sameAbstract a b ≡ true) ⊎ (sameAbstract a b ≡ false)
+        → eqb (abstractCode a) (abstractCode b) ≡ sameAbstract a b
+    go (inl p) other = p ∙ sym (equal-same a b (sym (at-code a) ∙ ap abstractAt (eqb-true _ _ p) ∙ at-code b))
+    go (inr p) (inl q) = absurd (eqb-false _ _ p (ap abstractCode (same-equal a b q)))
+    go (inr p) (inr q) = p ∙ sym q
+
+pub tops-compared : (ts : Types) (h k : Heap) {from to : ℕ} → from ≡ abstractCode (topOf ts h) → to ≡ abstractCode (topOf ts k) → eqb from to ≡ oneHierarchy ts h k
+tops-compared ts h k p q = rw (p, q) (same-number (topOf ts h) (topOf ts k))
+
 -- carries
 
-module _ (codes : List ℕ) (ts : Types) (first source target carried falls : ℕ) (label : Values) {r : Bool} (a : r ≡ valBelow ts (valAtCode target) (valAtCode source)) where
-  pub target-not-below : not r ≡ true → Carries codes ts first source target carried falls label (Planned.the-variants.Fault badBranch)
+module _ (codes : List ℕ) (ts : Types) (first source carried falls : ℕ) (label : Values) {s : Split} (b : SplitOf codes label s) where
+  pub without-types : s ≡ Split.the-variants.Nothing → Carries codes ts first source carried falls label (Planned.the-variants.Fault badBranch)
   unfolding plannedOf
-  target-not-below t = record { is = rw (← a, not-true r t) }
+  without-types q = record { is = rw (← b .is, q) }
 
-  module _ (t : not r ≡ false) {s : Split} (b : SplitOf codes label s) where
-    pub without-types : s ≡ Split.the-variants.Nothing → Carries codes ts first source target carried falls label (Planned.the-variants.Fault badBranch)
+  module _ {v : Values} {w : ℕ} (q : s ≡ Split.the-variants.Is v w) {u : Bool} (d : u ≡ valBelow ts (valAtCode carried) (valAtCode w)) where
+    pub carried-not-below : not u ≡ true → Carries codes ts first source carried falls label (Planned.the-variants.Fault badBranch)
     unfolding plannedOf
-    without-types q = record { is = rw (← a, not-false r t, ← b .is, q) }
+    carried-not-below f = record { is = rw (← b .is, q, ← d, not-true u f) }
 
-    module _ {v : Values} {w : ℕ} (q : s ≡ Split.the-variants.Is v w) {u : Bool} (d : u ≡ valBelow ts (valAtCode carried) (valAtCode w)) where
-      pub carried-not-below : not u ≡ true → Carries codes ts first source target carried falls label (Planned.the-variants.Fault badBranch)
-      unfolding plannedOf
-      carried-not-below f = record { is = rw (← a, not-false r t, ← b .is, q, ← d, not-true u f) }
+    pub carried-below : not u ≡ false → Small source falls → Carries codes ts first source carried falls label (Planned.the-variants.Plain (record { top = first; second = source + 3; rest = v; back = true; gives = falls + 1; marks = 0; stops = false }))
+    unfolding plannedOf plainOf
+    carried-below f small = record { is = rw (← b .is, q, ← d, not-false u f, wants-value source, gives-value (small .second)) }
 
-      pub carried-below : not u ≡ false → Small source falls → Carries codes ts first source target carried falls label (Planned.the-variants.Plain (record { top = first; second = source + 3; rest = v; back = true; gives = falls + 1; marks = 0; stops = false }))
-      unfolding plannedOf plainOf
-      carried-below f small =
-          record { is = rw (← a, not-false r t, ← b .is, q, ← d, not-false u f, wants-value source, gives-value (small .second)) }
-
-pub ruleset carry-exits = (target-not-below, without-types, carried-not-below, carried-below)
+pub ruleset carry-exits = (without-types, carried-not-below, carried-below)
 
 -- casts
 
@@ -136,17 +152,23 @@ pub small-both : {v w : Val} {a b : ℕ} → CodeIs v a → CodeIs w b → Small
 small-both p q = record { first = p .small; second = q .small }
 
 module _ (codes : List ℕ) (ts : Types) (first : ℕ) (source target : Reference) (fail : Bool) (label : Values)
-    {from : ℕ} (a : CodeIs (ref (source .null) (heapAtCode (source .heap))) from)
-    {to : ℕ} (b : CodeIs (ref (target .null) (heapAtCode (target .heap))) to)
-    {rest : ℕ} (d : CodeIs (ref (source .null && not (target .null)) (heapAtCode (source .heap))) rest)
-    {p : Planned} where
-  pub casts-fail : fail ≡ true → Carries codes ts first from to rest to label p → Casts codes ts first source target fail label p
-  casts-fail e c = record { is = λ l count locals results. rw (c .is, a .is, b .is, d .is, e) }
+    {r : Bool} (one : r ≡ oneHierarchy ts (heapAtCode (source .heap)) (heapAtCode (target .heap))) where
+  pub casts-apart : not r ≡ true → Casts codes ts first source target fail label (Planned.the-variants.Fault badBranch)
+  unfolding plannedOf
+  casts-apart t = record { is = λ l count locals results. rw (← one, not-true r t) }
 
-  pub casts-plain : fail ≡ false → Carries codes ts first from to to rest label p → Casts codes ts first source target fail label p
-  casts-plain e c = record { is = λ l count locals results. rw (c .is, a .is, b .is, d .is, e) }
+  module _ (t : not r ≡ false)
+      {from : ℕ} (a : CodeIs (ref (source .null) (heapAtCode (source .heap))) from)
+      {to : ℕ} (b : CodeIs (ref (target .null) (heapAtCode (target .heap))) to)
+      {rest : ℕ} (d : CodeIs (ref (source .null && not (target .null)) (heapAtCode (source .heap))) rest)
+      {p : Planned} where
+    pub casts-fail : fail ≡ true → Carries codes ts first from rest to label p → Casts codes ts first source target fail label p
+    casts-fail e c = record { is = λ l count locals results. rw (← one, not-false r t, c .is, a .is, b .is, d .is, e) }
 
-pub ruleset cast-exits = (small-both, casts-fail, casts-plain)
+    pub casts-plain : fail ≡ false → Carries codes ts first from to rest label p → Casts codes ts first source target fail label p
+    casts-plain e c = record { is = λ l count locals results. rw (← one, not-false r t, c .is, a .is, b .is, d .is, e) }
+
+pub ruleset cast-exits = (small-both, casts-apart, casts-fail, casts-plain)
 
 -- the instructions
 

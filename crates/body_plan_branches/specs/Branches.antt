@@ -76,13 +76,12 @@ pub record CastLabel (work : List ℕ) (k : Scene) (depth l source target : ℕ)
       ≡ castLabelAt (labelsAt codes work k depth) (k .types) l (heapAtCode source) (heapAtCode target)
   pub low : (vs : Values) → r ≡ Target.the-variants.Is vs → Low source target
 
--- 25, by codes: what is taken before the object is one word's
-pub record Carries (codes : List ℕ) (ts : Types) (first source target carried falls : ℕ) (label : Values) (r : Planned) : Type 0 where
+-- 25 of the label, by codes: what is taken before the object is one word's
+pub record Carries (codes : List ℕ) (ts : Types) (first source carried falls : ℕ) (label : Values) (r : Planned) : Type 0 where
   pub is : plannedOf codes r
-      ≡ test (valBelow ts (valAtCode target) (valAtCode source)) badBranch
-      (need (lastOf (valuesOf codes label)) badBranch (λ split.
+      ≡ need (lastOf (valuesOf codes label)) badBranch (λ split.
       test (valBelow ts (valAtCode carried) (split .1)) badBranch
-      (takes (wantsAt first ++ value (valAtCode source) ∷ fromTop (split .0)) (values (split .0 ++ valAtCode falls ∷ [])))))
+      (takes (wantsAt first ++ value (valAtCode source) ∷ fromTop (split .0)) (values (split .0 ++ valAtCode falls ∷ []))))
 
 -- 25, by the cast
 abbrev pub carriedOf : Bool → Cast → Val

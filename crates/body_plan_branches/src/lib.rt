@@ -11,7 +11,9 @@ use scope::refusals;
 use type_table::Link;
 ghost use mathlib.Core.Bool.{not, _&&_};
 ghost use Prim.Native.Nat.{_<_};
+ghost use mathlib.Core.Path.{_≡_};
 ghost use Rattle.scope.specs.Syntax.{ref};
+ghost use Rattle.scope.specs.BodyRules.{oneHierarchy};
 ghost use Rattle.type_table.specs.View.{heapAtCode, view};
 ghost use Rattle.body_plan_parts.specs.Planning.{heapBound, CodeIs};
 ghost use Rattle.body_plan_labels.specs.Labels.{labelsAt};
@@ -93,24 +95,28 @@ fn rest_code(source: bool, target: bool, heap: u64) -> u64
     }
 }
 
-// A branching cast's rule, by codes: the target is below the source, and what is carried below the label's last type.
-// `first` is taken before the object.
+// Whether two heap types are of one hierarchy.
+fn one_hierarchy(rows: &[u16], codes: &[u16], source: u64, target: u64) -> bool
+    ensures { λ r. ⌜ r ≡ oneHierarchy (view (now (rows .entry)) (now (codes .entry))) (heapAtCode source) (heapAtCode target) ⌝ }
+{
+    let above_source = body_plan_casts::top_of(rows, codes, source);
+    let above_target = body_plan_casts::top_of(rows, codes, target);
+    above_source == above_target
+}
+
+// A branching cast's label, by codes: what is carried is below its last type. `first` is taken before the object.
 fn carries(
     rows: &[u16],
     codes: &[u16],
     first: u64,
     source: u64,
-    target: u64,
     carried: u64,
     falls: u64,
     label: Values,
 ) -> Planned
     requires { ⌜ Small source falls ⌝ }
-    ensures { λ r. ⌜ Carries (now (codes .entry)) (view (now (rows .entry)) (now (codes .entry))) first source target carried falls label r ⌝ }
+    ensures { λ r. ⌜ Carries (now (codes .entry)) (view (now (rows .entry)) (now (codes .entry))) first source carried falls label r ⌝ }
 {
-    if !type_order::val_below(rows, codes, target, source) {
-        return Planned::Fault(refusals::BAD_BRANCH);
-    }
     let split = split_last(codes, label);
     match split {
         Split::Nothing => Planned::Fault(refusals::BAD_BRANCH),
@@ -133,7 +139,8 @@ fn carries(
     }
 }
 
-// The plain form carries the target and falls through with the rest, the fail form the other way round.
+// A branching cast's rule: source and target are of one hierarchy. The plain form carries the target and falls through with the
+// rest, the fail form the other way round.
 fn casts(
     rows: &[u16],
     codes: &[u16],
@@ -146,13 +153,17 @@ fn casts(
     requires { ⌜ Low (source .heap) (target .heap) ⌝ }
     ensures { λ r. ⌜ Casts (now (codes .entry)) (view (now (rows .entry)) (now (codes .entry))) first source target fail label r ⌝ }
 {
+    let related = one_hierarchy(rows, codes, source.heap, target.heap);
+    if !related {
+        return Planned::Fault(refusals::BAD_BRANCH);
+    }
     let from = body_plan_parts::ref_code(source.null, source.heap);
     let to = body_plan_parts::ref_code(target.null, target.heap);
     let rest = rest_code(source.null, target.null, source.heap);
     if fail {
-        return carries(rows, codes, first, from, to, rest, to, label);
+        return carries(rows, codes, first, from, rest, to, label);
     }
-    carries(rows, codes, first, from, to, to, rest, label)
+    carries(rows, codes, first, from, to, rest, label)
 }
 
 // br_on_cast and br_on_cast_fail.

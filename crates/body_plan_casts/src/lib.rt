@@ -34,7 +34,7 @@ pub fn ref_null(types: u16, heap: u64) -> Planned
 }
 
 // The number of the top of a heap type's hierarchy.
-fn top_of(rows: &[u16], codes: &[u16], heap: u64) -> u64
+pub fn top_of(rows: &[u16], codes: &[u16], heap: u64) -> u64
     ensures { λ r. ⌜ r ≡ abstractCode (topOf (view (now (rows .entry)) (now (codes .entry))) (heapAtCode heap)) ⌝ }
 {
     let kind = type_table::heap_of(heap);

@@ -4,12 +4,6 @@ use Rattle.body_plan_branches.proofs.Casting.{carry-exits}
 use Rattle.body_plan_branches.proofs.carries.Statement.{statement}
 use Rattle.body_plan_branches.proofs.carries.Tie as tie
 
-val-below-requires : tie.Need-val-below-requires
-val-below-requires c κs = search (carry-exits, needs)
-
-returns : tie.Need-returns
-returns c = search (carry-exits, needs)
-
 split-last-requires : tie.Need-split-last-requires
 split-last-requires c κs = search (carry-exits, needs)
 
@@ -19,11 +13,11 @@ enum-told c = search (carry-exits, needs)
 enum-known-split : tie.Need-enum-known-split
 enum-known-split c = search (carry-exits, needs)
 
-val-below-requires-2 : tie.Need-val-below-requires-2
-val-below-requires-2 c κs = search (carry-exits, needs)
+val-below-requires : tie.Need-val-below-requires
+val-below-requires c κs = search (carry-exits, needs)
 
-returns-2 : tie.Need-returns-2
-returns-2 c = search (carry-exits, needs)
+returns : tie.Need-returns
+returns c = search (carry-exits, needs)
 
 add-second : tie.Need-add-second
 add-second c = search (carry-exits, needs)
@@ -31,24 +25,22 @@ add-second c = search (carry-exits, needs)
 add-gives : tie.Need-add-gives
 add-gives c = search (carry-exits, needs)
 
+returns-2 : tie.Need-returns-2
+returns-2 c = search (carry-exits, needs)
+
 returns-3 : tie.Need-returns-3
 returns-3 c = search (carry-exits, needs)
-
-returns-4 : tie.Need-returns-4
-returns-4 c = search (carry-exits, needs)
 
 pub carries-spec : {M : Type 1} → statement M
 carries-spec =
     tie.close
     (tie.spec
-    val-below-requires
-    returns
     split-last-requires
     enum-told
     enum-known-split
-    val-below-requires-2
-    returns-2
+    val-below-requires
+    returns
     add-second
     add-gives
-    returns-3
-    returns-4)
+    returns-2
+    returns-3)

@@ -4,6 +4,12 @@ use Rattle.body_plan_branches.proofs.Casting.{cast-exits}
 use Rattle.body_plan_branches.proofs.casts.Statement.{statement}
 use Rattle.body_plan_branches.proofs.casts.Tie as tie
 
+one-hierarchy-requires : tie.Need-one-hierarchy-requires
+one-hierarchy-requires c κs = search (cast-exits, needs)
+
+returns : tie.Need-returns
+returns c = search (cast-exits, needs)
+
 ref-code-requires : tie.Need-ref-code-requires
 ref-code-requires c κs = search (cast-exits, needs)
 
@@ -16,23 +22,25 @@ rest-code-requires c κs = search (cast-exits, needs)
 carries-requires : tie.Need-carries-requires
 carries-requires c κs = search (cast-exits, needs)
 
-returns : tie.Need-returns
-returns c = search (cast-exits, needs)
+returns-2 : tie.Need-returns-2
+returns-2 c = search (cast-exits, needs)
 
 carries-requires-2 : tie.Need-carries-requires-2
 carries-requires-2 c κs = search (cast-exits, needs)
 
-returns-2 : tie.Need-returns-2
-returns-2 c = search (cast-exits, needs)
+returns-3 : tie.Need-returns-3
+returns-3 c = search (cast-exits, needs)
 
 pub casts-spec : {M : Type 1} → statement M
 casts-spec =
     tie.close
     (tie.spec
+    one-hierarchy-requires
+    returns
     ref-code-requires
     ref-code-requires-2
     rest-code-requires
     carries-requires
-    returns
+    returns-2
     carries-requires-2
-    returns-2)
+    returns-3)
