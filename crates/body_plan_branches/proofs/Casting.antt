@@ -47,7 +47,7 @@ use Rattle.body_plan_branches.specs.declared.Target
 use Rattle.body_plan_branches.specs.declared.Split.{Split}
 use Rattle.body_plan_branches.specs.declared.Split
 use Rattle.body_plan_branches.specs.declared.Reference.{Reference}
-use Rattle.body_plan_branches.specs.Branches.{SplitOf, Branching, castBetween, castOp, descOp, castLabelAt, Low, Small, CastLabel, Carries, carriedOf, Casts}
+use Rattle.body_plan_branches.specs.Branches.{SplitOf, Branching, castBetween, castOp, descOp, castLabelAt, Low, Small, CastLabel, Carries, carriedOf, FormCarries, Casts}
 
 -- cast_label
 
@@ -146,10 +146,25 @@ module _ (codes : List ℕ) (ts : Types) (first source carried falls : ℕ) (lab
 
 pub ruleset carry-exits = (without-types, carried-not-below, carried-below)
 
--- casts
+-- form_carries
 
 pub small-both : {v w : Val} {a b : ℕ} → CodeIs v a → CodeIs w b → Small a b
 small-both p q = record { first = p .small; second = q .small }
+
+module _ (codes : List ℕ) (ts : Types) (first : ℕ) (source target : Reference) (fail : Bool) (label : Values)
+    {from : ℕ} (a : CodeIs (ref (source .null) (heapAtCode (source .heap))) from)
+    {to : ℕ} (b : CodeIs (ref (target .null) (heapAtCode (target .heap))) to)
+    {rest : ℕ} (d : CodeIs (ref (source .null && not (target .null)) (heapAtCode (source .heap))) rest)
+    {p : Planned} where
+  pub fail-carries : fail ≡ true → Carries codes ts first from rest to label p → FormCarries codes ts first source target fail label p
+  fail-carries e c = record { is = λ l count locals results. rw (c .is, a .is, b .is, d .is, e) }
+
+  pub plain-carries : fail ≡ false → Carries codes ts first from to rest label p → FormCarries codes ts first source target fail label p
+  plain-carries e c = record { is = λ l count locals results. rw (c .is, a .is, b .is, d .is, e) }
+
+pub ruleset form-exits = (small-both, fail-carries, plain-carries)
+
+-- casts
 
 module _ (codes : List ℕ) (ts : Types) (first : ℕ) (source target : Reference) (fail : Bool) (label : Values)
     {r : Bool} (one : r ≡ oneHierarchy ts (heapAtCode (source .heap)) (heapAtCode (target .heap))) where
@@ -157,18 +172,10 @@ module _ (codes : List ℕ) (ts : Types) (first : ℕ) (source target : Referenc
   unfolding plannedOf
   casts-apart t = record { is = λ l count locals results. rw (← one, not-true r t) }
 
-  module _ (t : not r ≡ false)
-      {from : ℕ} (a : CodeIs (ref (source .null) (heapAtCode (source .heap))) from)
-      {to : ℕ} (b : CodeIs (ref (target .null) (heapAtCode (target .heap))) to)
-      {rest : ℕ} (d : CodeIs (ref (source .null && not (target .null)) (heapAtCode (source .heap))) rest)
-      {p : Planned} where
-    pub casts-fail : fail ≡ true → Carries codes ts first from rest to label p → Casts codes ts first source target fail label p
-    casts-fail e c = record { is = λ l count locals results. rw (← one, not-false r t, c .is, a .is, b .is, d .is, e) }
+  pub casts-related : not r ≡ false → {p : Planned} → FormCarries codes ts first source target fail label p → Casts codes ts first source target fail label p
+  casts-related t c = record { is = λ l count locals results. rw (← one, not-false r t) (c .is l count locals results) }
 
-    pub casts-plain : fail ≡ false → Carries codes ts first from to rest label p → Casts codes ts first source target fail label p
-    casts-plain e c = record { is = λ l count locals results. rw (← one, not-false r t, c .is, a .is, b .is, d .is, e) }
-
-pub ruleset cast-exits = (small-both, casts-apart, casts-fail, casts-plain)
+pub ruleset cast-exits = (casts-apart, casts-related)
 
 -- the instructions
 

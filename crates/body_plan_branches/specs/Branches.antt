@@ -12,7 +12,7 @@ use Rattle.scope.specs.Syntax.{Heap, Val, Types}
 use Rattle.scope.specs.Order.{valBelow}
 use Rattle.scope.specs.TypeRules.{heapNames}
 use Rattle.scope.specs.Instructions.{Cast, Op, br-on-cast, br-on-cast-fail, br-on-cast-desc-eq, br-on-cast-desc-eq-fail}
-use Rattle.scope.specs.BodyRules.{value, values, Ruled, allowed, fault, test, need, takes, fromTop, lastOf, branches, targetOf, restOf, planOf}
+use Rattle.scope.specs.BodyRules.{value, values, Ruled, allowed, fault, test, need, takes, fromTop, lastOf, carriedTo, branches, targetOf, restOf, planOf}
 use Rattle.type_table.specs.View.{heapAtCode, valAtCode}
 use Rattle.body_state.specs.declared.Scene.{Scene}
 use Rattle.body_state.specs.declared.Values.{Values}
@@ -83,11 +83,16 @@ pub record Carries (codes : List ℕ) (ts : Types) (first source carried falls :
       test (valBelow ts (valAtCode carried) (split .1)) badBranch
       (takes (wantsAt first ++ value (valAtCode source) ∷ fromTop (split .0)) (values (split .0 ++ valAtCode falls ∷ []))))
 
--- 25, by the cast
+-- 25 of the label, by the cast
 abbrev pub carriedOf : Bool → Cast → Val
 carriedOf true k = restOf k
 carriedOf false k = targetOf k
 
+pub record FormCarries (codes : List ℕ) (ts : Types) (first : ℕ) (source target : Reference) (fail : Bool) (label : Values) (r : Planned) : Type 0 where
+  pub is : (l count : ℕ) (locals results : List Val) → plannedOf codes r
+      ≡ carriedTo (contextOn ts count locals results) (wantsAt first) (castBetween l source target) (carriedOf fail (castBetween l source target)) (carriedOf (not fail) (castBetween l source target)) (valuesOf codes label)
+
+-- 25, of the types too
 pub record Casts (codes : List ℕ) (ts : Types) (first : ℕ) (source target : Reference) (fail : Bool) (label : Values) (r : Planned) : Type 0 where
   pub is : (l count : ℕ) (locals results : List Val) → plannedOf codes r
       ≡ branches (contextOn ts count locals results) (wantsAt first) (castBetween l source target) (carriedOf fail (castBetween l source target)) (carriedOf (not fail) (castBetween l source target)) (valuesOf codes label)

@@ -17,7 +17,7 @@ ghost use Rattle.scope.specs.BodyRules.{oneHierarchy};
 ghost use Rattle.type_table.specs.View.{heapAtCode, view};
 ghost use Rattle.body_plan_parts.specs.Planning.{heapBound, CodeIs};
 ghost use Rattle.body_plan_labels.specs.Labels.{labelsAt};
-ghost use Rattle.body_plan_branches.specs.Branches.{SplitOf, castBetween, castOp, descOp, CastLabel, Low, Small, Carries, Casts, Branching};
+ghost use Rattle.body_plan_branches.specs.Branches.{SplitOf, castBetween, castOp, descOp, CastLabel, Low, Small, Carries, FormCarries, Casts, Branching};
 
 // The types of a label in a branching cast's reach, or a refusal's number.
 pub enum Target {
@@ -139,8 +139,29 @@ fn carries(
     }
 }
 
-// A branching cast's rule: source and target are of one hierarchy. The plain form carries the target and falls through with the
-// rest, the fail form the other way round.
+// The plain form carries the target and falls through with the rest, the fail form the other way round.
+fn form_carries(
+    rows: &[u16],
+    codes: &[u16],
+    first: u64,
+    source: Reference,
+    target: Reference,
+    fail: bool,
+    label: Values,
+) -> Planned
+    requires { ⌜ Low (source .heap) (target .heap) ⌝ }
+    ensures { λ r. ⌜ FormCarries (now (codes .entry)) (view (now (rows .entry)) (now (codes .entry))) first source target fail label r ⌝ }
+{
+    let from = body_plan_parts::ref_code(source.null, source.heap);
+    let to = body_plan_parts::ref_code(target.null, target.heap);
+    let rest = rest_code(source.null, target.null, source.heap);
+    if fail {
+        return carries(rows, codes, first, from, rest, to, label);
+    }
+    carries(rows, codes, first, from, to, rest, label)
+}
+
+// A branching cast's rule: source and target are of one hierarchy, and the label takes what is carried.
 fn casts(
     rows: &[u16],
     codes: &[u16],
@@ -157,13 +178,7 @@ fn casts(
     if !related {
         return Planned::Fault(refusals::BAD_BRANCH);
     }
-    let from = body_plan_parts::ref_code(source.null, source.heap);
-    let to = body_plan_parts::ref_code(target.null, target.heap);
-    let rest = rest_code(source.null, target.null, source.heap);
-    if fail {
-        return carries(rows, codes, first, from, rest, to, label);
-    }
-    carries(rows, codes, first, from, to, rest, label)
+    form_carries(rows, codes, first, source, target, fail, label)
 }
 
 // br_on_cast and br_on_cast_fail.

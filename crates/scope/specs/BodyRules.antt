@@ -160,16 +160,20 @@ castDescriptor c h f = need (descriptorFor (c .types) h) badStruct f
 abbrev pub changeable : {A : Type 0} → Field → Ruled A → Ruled A
 changeable f more = test (f .mutable) fieldFixed more
 
--- 25: branching cast's rule, label without types. Of source and target request 4 of document 02 says: "003 asks only that both
--- share a valid supertype, so one hierarchy, in all four forms. For the types, 25 then means different hierarchies." Of the
--- label document 01 says: "The label's last type takes what is carried. Values below, .. are read as the label's types
--- afterwards." `carried` goes to the label, `falls` falls through; `first` is taken before the object.
-abbrev pub branches : Context → List Wanted → Cast → Val → Val → List Val → Ruled Plan
-branches c first k carried falls label =
-    test (oneHierarchy (c .types) (k .source) (k .target)) badBranch
-    (need (lastOf label) badBranch (λ split.
+-- 25: branching cast's rule, label without types. `carried` goes to the label, `falls` falls through; `first` is taken before the
+-- object.
+
+-- "The label's last type takes what is carried. Values below, .. are read as the label's types afterwards."
+abbrev pub carriedTo : Context → List Wanted → Cast → Val → Val → List Val → Ruled Plan
+carriedTo c first k carried falls label =
+    need (lastOf label) badBranch (λ split.
     test (valBelow (c .types) carried (split .1)) badBranch
-    (takes (first ++ value (sourceOf k) ∷ fromTop (split .0)) (values (split .0 ++ falls ∷ [])))))
+    (takes (first ++ value (sourceOf k) ∷ fromTop (split .0)) (values (split .0 ++ falls ∷ []))))
+
+-- Request 4 of document 02: "003 asks only that both share a valid supertype, so one hierarchy, in all four forms. For the types,
+-- 25 then means different hierarchies."
+abbrev pub branches : Context → List Wanted → Cast → Val → Val → List Val → Ruled Plan
+branches c first k carried falls label = test (oneHierarchy (c .types) (k .source) (k .target)) badBranch (carriedTo c first k carried falls label)
 
 -- 29: no default
 abbrev pub defaulted : {A : Type 0} → List Field → Ruled A → Ruled A
