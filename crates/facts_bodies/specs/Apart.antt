@@ -1,6 +1,7 @@
 -- What the checker says by functions, said here by relations of its own, so that a mistake in a function does not stand on both
--- sides: a hierarchy's top, a cast's source, target and rest, a supertype that both share, what a label takes, what is set at first, how many operands
--- there are, how a list of values lies on the stack, and which local an instruction sets. proofs/Apart.antt proves each function equal to its relation.
+-- sides: a hierarchy's top, a cast's source, target and rest, a supertype that two types share, what a label takes, what is set at
+-- first, how many operands there are, how a list of values lies on the stack, and which local an instruction sets.
+-- proofs/Apart.antt and proofs/Hierarchies.antt prove each function equal to its relation.
 use Prim.Native.Nat.{ℕ, suc, _+_}
 use mathlib.Core.Path.{_≡_}
 use mathlib.Core.Bool.{Bool, true, false}
