@@ -63,6 +63,12 @@ pub fn top_of(types: &[Type], heap: Heap) -> Abstract {
     }
 }
 
+/// Whether some heap type is above both. The top of a hierarchy is above all of it
+/// and is always valid, so this is to lie in one hierarchy.
+pub fn share_supertype(types: &[Type], one: Heap, other: Heap) -> bool {
+    top_of(types, one) == top_of(types, other)
+}
+
 fn abstract_below(lower: Abstract, upper: Abstract) -> bool {
     lower == upper || row_of(lower).directly_above.iter().any(|&above| abstract_below(above, upper))
 }

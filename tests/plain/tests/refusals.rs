@@ -177,8 +177,10 @@ fn refusal_24() {
 #[test]
 fn refusal_25() {
     assert_eq!(body(V, 0, "00 D0 71 FB 18 03 00 6E 6E 1A 0B"), "no 25 3");
-    // The target may be null and the source may not.
-    assert_eq!(body("01 60 00 01 6E", 0, "00 FB 18 02 00 6E 6E 0B"), "no 25 1");
+    // Another hierarchy; the label takes the target.
+    assert_eq!(body("01 60 00 01 70", 0, "00 D0 6E FB 18 03 00 6E 70 0B"), "no 25 3");
+    // The target may be null and the source may not: only the operand is missing.
+    assert_eq!(body("01 60 00 01 6E", 0, "00 FB 18 02 00 6E 6E 0B"), "no 20 1");
     // The label takes a number.
     assert_eq!(body("01 60 00 01 7F", 0, "00 FB 18 03 00 6E 6E 0B"), "no 25 1");
     // What is carried: target (ref eq) for the plain form, the rest for the other.

@@ -1,0 +1,329 @@
+//! Branching casts after request 4 of document 02: source and target lie in one
+//! hierarchy, and nothing else is asked between them. Worked by hand, with every
+//! byte example of READINGS-02.md, "Request 4".
+
+mod common;
+use common::*;
+use plain::lines::read_bytes;
+use plain::order::{reference_below, share_supertype, TABLE};
+use plain::section::judge_section;
+use plain::syntax::{Heap, Reference};
+
+const FORMS: [&str; 4] = ["18", "19", "25", "26"];
+const FLAGS: [&str; 4] = ["00", "01", "02", "03"];
+
+/// An open struct, then a function with result (ref null struct).
+const STRUCT: &str = "02 50 00 5F 00 60 00 01 6B";
+/// Type 0 is open and has descriptor 1; 2 is below 0, its descriptor 3 below 1. Then
+/// a function with this result.
+fn described(result: &str) -> String {
+    let types = "50 00 4D 01 5F 00 50 00 4C 00 5F 00 4F 01 00 4D 03 5F 00 4F 01 01 4C 02 5F 00";
+    format!("02 4E 04 {types} 60 00 01 {result}")
+}
+
+#[test]
+fn reading_1_null_does_not_matter() {
+    let result = "02 50 00 5F 00 60 00 01 63 00";
+    assert_eq!(body(result, 1, "01 01 64 00 FB 01 00 FB 18 02 00 00 00 0B"), "yes 3");
+}
+
+#[test]
+fn reading_2_what_25_keeps() {
+    assert_eq!(body("01 60 00 01 6E", 0, "00 D0 6E FB 18 03 00 6E 70 0B"), "no 25 3");
+    assert_eq!(body("01 60 00 01 6B", 0, "00 D0 71 FB 18 03 00 6B 6C 0B"), "no 25 3");
+}
+
+/// Source nullable type 0, target nullable struct, label result nullable struct. With
+/// a descriptor: a source below its target, since a target has to have one.
+#[test]
+fn reading_3_the_new_case() {
+    assert_eq!(body(STRUCT, 1, "00 D0 00 FB 18 03 00 00 6B 0B"), "yes 3");
+    assert_eq!(body(STRUCT, 1, "00 D0 00 FB 19 03 00 00 6B 0B"), "yes 3");
+    let described = described("6B");
+    assert_eq!(body(&described, 4, "00 D0 02 D0 01 FB 25 03 00 02 00 0B"), "yes 4");
+    assert_eq!(body(&described, 4, "00 D0 02 D0 01 FB 26 03 00 02 00 0B"), "yes 4");
+    assert_eq!(body(&described, 4, "00 D0 00 D0 01 FB 25 03 00 00 6B 0B"), "no 23 5");
+    assert_eq!(body(&described, 4, "00 D0 00 D0 01 FB 26 03 00 00 6B 0B"), "no 23 5");
+}
+
+/// The operand is below the source, which may be null where its flag says so.
+#[test]
+fn all_flags_are_accepted() {
+    for (flags, null) in FLAGS.iter().zip(["no 20 3", "yes 3", "no 20 3", "yes 3"]) {
+        for form in ["18", "19"] {
+            let cast = |object: &str| format!("00 {object} FB {form} {flags} 00 00 6B 0B");
+            assert_eq!(body(STRUCT, 1, &cast("FB 01 00")), "yes 3", "{form} {flags}");
+            assert_eq!(body(STRUCT, 1, &cast("D0 00")), null, "{form} {flags}");
+        }
+    }
+    let operand = ["no 20 5", "yes 4", "no 20 5", "yes 4"];
+    for (flags, null) in FLAGS.iter().zip(operand) {
+        for form in ["25", "26"] {
+            let cast = format!("00 D0 02 D0 01 FB {form} {flags} 00 02 00 0B");
+            assert_eq!(body(&described("6B"), 4, &cast), null, "{form} {flags}");
+        }
+    }
+}
+
+/// The fail forms carry the rest to a label that takes no null; it is null only where
+/// the source may be and the target may not.
+#[test]
+fn the_rest_is_as_before() {
+    let result = "02 50 00 5F 00 60 00 01 64 00";
+    for (flags, answer) in FLAGS.iter().zip(["yes 4", "no 25 4", "yes 4", "yes 4"]) {
+        let cast = format!("00 FB 01 00 FB 19 {flags} 00 00 6B 00 0B");
+        assert_eq!(body(result, 1, &cast), answer, "{flags}");
+    }
+    let result = described("64 02");
+    for (flags, answer) in FLAGS.iter().zip(["yes 4", "no 25 2", "yes 4", "yes 4"]) {
+        let cast = format!("00 00 FB 26 {flags} 00 02 00 00 0B");
+        assert_eq!(body(&result, 4, &cast), answer, "{flags}");
+    }
+}
+
+/// A struct with its descriptor and two functions.
+const ALL_KINDS: &str = "03 4E 02 4D 01 5F 00 4C 00 5F 00 60 00 00 60 00 01 7F";
+/// The top of each hierarchy and heap types of it, the bottom among them.
+const HIERARCHIES: [(&str, &[&str]); 3] = [
+    ("6E", &["6E", "6D", "6C", "6B", "6A", "71", "00", "01", "62 00", "62 01"]),
+    ("70", &["70", "73", "02", "03", "62 02", "62 03"]),
+    ("6F", &["6F", "72"]),
+];
+
+/// In a block whose result is the nullable top of what is carried.
+fn in_dead_code(label: &str, form: &str, flags: &str, source: &str, target: &str) -> String {
+    let cast = format!("00 02 {label} 00 FB {form} {flags} 00 {source} {target} 1A 00 0B 1A 0B");
+    body(ALL_KINDS, 2, &cast)
+}
+
+fn by_kind(form: &str, flags: &str, targets: &[(&str, &[&str])]) {
+    for (source_top, sources) in HIERARCHIES {
+        for (target_top, targets) in targets {
+            let label = if matches!(form, "18" | "25") { target_top } else { source_top };
+            let answer = if source_top == *target_top { "yes 8" } else { "no 25 4" };
+            for (source, target) in sources.iter().flat_map(|s| targets.iter().map(move |t| (s, t)))
+            {
+                let judged = in_dead_code(label, form, flags, source, target);
+                assert_eq!(judged, answer, "{form} {flags} from {source} to {target}");
+            }
+        }
+    }
+}
+
+#[test]
+fn one_hierarchy_or_25() {
+    for flags in FLAGS {
+        by_kind("18", flags, &HIERARCHIES);
+        by_kind("19", flags, &HIERARCHIES);
+        by_kind("25", flags, &[("6E", &["00", "62 00"])]);
+        by_kind("26", flags, &[("6E", &["00", "62 00"])]);
+    }
+}
+
+#[test]
+fn bottoms_of_a_real_operand() {
+    let cast = |form: &str, label: &str, source: &str, target: &str| {
+        let operand = format!("D0 {source} FB {form} 03 00 {source} {target}");
+        body(ALL_KINDS, 2, &format!("00 02 {label} {operand} 1A D0 {label} 0B 1A 0B"))
+    };
+    for form in ["18", "19"] {
+        for (label, source, target) in [
+            ("6B", "71", "6B"),
+            ("6C", "71", "6C"),
+            ("70", "73", "70"),
+            ("70", "73", "02"),
+            ("6F", "72", "6F"),
+            ("6E", "6B", "71"),
+        ] {
+            assert_eq!(cast(form, label, source, target), "yes 8", "{form} {source} {target}");
+        }
+        // The bottoms of two hierarchies.
+        assert_eq!(cast(form, if form == "18" { "73" } else { "71" }, "71", "73"), "no 25 5");
+        assert_eq!(cast(form, if form == "18" { "72" } else { "71" }, "71", "72"), "no 25 5");
+    }
+}
+
+/// Type 1 is below type 0; each against the other, exact or not.
+#[test]
+fn exact_types() {
+    let two = "03 50 00 5F 00 50 01 00 5F 00 60 00 01 63 00";
+    let heaps = ["00", "01", "62 00", "62 01"];
+    for (source, target) in heaps.iter().flat_map(|s| heaps.iter().map(move |t| (s, t))) {
+        for form in ["18", "19"] {
+            let cast = format!("00 D0 {source} FB {form} 03 00 {source} {target} 0B");
+            assert_eq!(body(two, 2, &cast), "yes 3", "{form} {source} {target}");
+        }
+    }
+    // An exact target asks for an exact descriptor, whatever the source.
+    let cast = |form: &str, descriptor: &str| {
+        format!("00 D0 62 02 D0 {descriptor} FB {form} 03 00 62 02 62 00 0B")
+    };
+    for form in ["25", "26"] {
+        assert_eq!(body(&described("63 00"), 4, &cast(form, "62 01")), "yes 4");
+        assert_eq!(body(&described("63 00"), 4, &cast(form, "01")), "no 20 6");
+    }
+}
+
+#[test]
+fn the_label_takes_what_is_carried() {
+    // The target struct is carried, or the rest (ref 0); the label takes (ref null 0).
+    let result = "02 50 00 5F 00 60 00 01 63 00";
+    assert_eq!(body(result, 1, "00 D0 00 FB 18 03 00 00 6B 0B"), "no 25 3");
+    assert_eq!(body(result, 1, "00 D0 00 FB 19 03 00 00 6B 00 0B"), "yes 4");
+    assert_eq!(body(result, 1, "00 D0 00 FB 19 03 00 00 6B 0B"), "no 20 9");
+    let below = described("63 02");
+    assert_eq!(body(&below, 4, "00 D0 02 D0 01 FB 25 03 00 02 00 0B"), "no 25 5");
+    assert_eq!(body(&below, 4, "00 D0 02 D0 01 FB 26 03 00 02 00 00 0B"), "yes 5");
+    // A loop's label has no types; a number takes no reference.
+    for form in FORMS {
+        let section = described("7F");
+        let to_loop = format!("00 03 40 00 FB {form} 03 00 02 00 1A 0B 41 00 0B");
+        assert_eq!(body(&section, 4, &to_loop), "no 25 4", "{form}");
+        let to_number = format!("00 00 FB {form} 03 00 02 00 0B");
+        assert_eq!(body(&section, 4, &to_number), "no 25 2", "{form}");
+    }
+}
+
+/// 6, 21, 23, 25, then operands; source and target are of two hierarchies throughout.
+#[test]
+fn other_refusals_keep_their_turn() {
+    let section = described("6E");
+    for form in ["25", "26"] {
+        let cast = |rest: &str| body(&section, 4, &format!("00 FB {form} {rest} 0B"));
+        assert_eq!(cast("03 07 70 05"), "no 6 1");
+        assert_eq!(cast("03 07 62 05 01"), "no 6 1");
+        assert_eq!(cast("03 07 70 01"), "no 21 1");
+        assert_eq!(cast("03 00 70 01"), "no 23 1");
+        assert_eq!(cast("03 00 70 6B"), "no 23 1");
+        assert_eq!(cast("03 00 70 04"), "no 23 1");
+        assert_eq!(cast("03 00 70 00"), "no 25 1");
+        // One hierarchy: only the operands are missing.
+        assert_eq!(cast("03 00 01 00"), "no 20 1");
+    }
+    for form in ["18", "19"] {
+        let cast = |rest: &str| body(&section, 4, &format!("00 FB {form} {rest} 0B"));
+        assert_eq!(cast("03 07 05 70"), "no 6 1");
+        assert_eq!(cast("03 07 6E 70"), "no 21 1");
+        assert_eq!(cast("03 00 6E 70"), "no 25 1");
+        assert_eq!(cast("03 00 6B 6C"), "no 20 1");
+    }
+}
+
+/// Type 1 is below type 0. The block's result takes all; where the cast falls through,
+/// null is left instead. Taken: block, object, cast and the last `end`.
+fn cast_run(form: &str, flags: &str, types: &str, object: &str) -> String {
+    let section = "03 50 00 5F 00 50 01 00 5F 00 60 00 01 6E";
+    let code = format!("00 02 6E {object} FB {form} {flags} 00 {types} 1A D0 71 0B 0B");
+    outcome(&run(section, 2, &code, 99))
+}
+
+const NULL: &str = "D0 71";
+
+#[test]
+fn runs_to_a_target_above_the_source() {
+    // From 1 to 0: the object passes; null passes where the target may be null.
+    for flags in FLAGS {
+        assert_eq!(cast_run("18", flags, "01 00", "FB 00 01"), "done 4 [obj:0]");
+        assert_eq!(cast_run("19", flags, "01 00", "FB 00 01"), "done 7 [null]");
+    }
+    assert_eq!(cast_run("18", "03", "01 00", NULL), "done 4 [null]");
+    assert_eq!(cast_run("18", "01", "01 00", NULL), "done 7 [null]");
+    assert_eq!(cast_run("19", "03", "01 00", NULL), "done 7 [null]");
+    assert_eq!(cast_run("19", "01", "01 00", NULL), "done 4 [null]");
+}
+
+#[test]
+fn runs_to_a_target_beside_the_source() {
+    // From 0 to i31, and from exact 0 to exact 1: no object passes.
+    for (types, object) in [("00 6C", "FB 00 00"), ("62 00 62 01", "FB 00 00")] {
+        for flags in FLAGS {
+            assert_eq!(cast_run("18", flags, types, object), "done 7 [null]");
+            assert_eq!(cast_run("19", flags, types, object), "done 4 [obj:0]");
+        }
+        assert_eq!(cast_run("18", "03", types, NULL), "done 4 [null]");
+        assert_eq!(cast_run("18", "01", types, NULL), "done 7 [null]");
+        assert_eq!(cast_run("19", "03", types, NULL), "done 7 [null]");
+        assert_eq!(cast_run("19", "01", types, NULL), "done 4 [null]");
+    }
+    // From none, of which there is only null.
+    assert_eq!(cast_run("18", "03", "71 00", NULL), "done 4 [null]");
+    assert_eq!(cast_run("19", "01", "71 00", NULL), "done 4 [null]");
+}
+
+/// From (ref 0) to (ref null 1): not below it for null alone.
+#[test]
+fn runs_to_a_nullable_target() {
+    assert_eq!(cast_run("18", "02", "00 01", "FB 00 01"), "done 4 [obj:0]");
+    assert_eq!(cast_run("18", "02", "00 01", "FB 00 00"), "done 7 [null]");
+    assert_eq!(cast_run("19", "02", "00 01", "FB 00 01"), "done 7 [null]");
+    assert_eq!(cast_run("19", "02", "00 01", "FB 00 00"), "done 4 [obj:0]");
+}
+
+/// From 2 to 0, which is above it: an object of 2 with its own descriptor, with
+/// another object of the descriptor's type, and null.
+fn desc_run(form: &str, flags: &str, operands: &str) -> String {
+    let cast = format!("FB {form} {flags} 00 02 00");
+    let code = format!("01 01 63 62 03 02 6E {operands} {cast} 1A D0 71 0B 0B");
+    outcome(&run(&described("6E"), 4, &code, 99))
+}
+
+#[test]
+fn runs_by_descriptor() {
+    let own = "FB 01 03 22 00 FB 21 02 20 00";
+    let other = "FB 01 03 FB 21 02 FB 01 03";
+    for flags in FLAGS {
+        assert_eq!(desc_run("25", flags, own), "done 7 [obj:1]");
+        assert_eq!(desc_run("25", flags, other), "done 9 [null]");
+        assert_eq!(desc_run("26", flags, own), "done 10 [null]");
+        assert_eq!(desc_run("26", flags, other), "done 6 [obj:1]");
+    }
+    let null = "D0 71 FB 01 03";
+    assert_eq!(desc_run("25", "03", null), "done 5 [null]");
+    assert_eq!(desc_run("25", "01", null), "done 8 [null]");
+    assert_eq!(desc_run("26", "03", null), "done 8 [null]");
+    assert_eq!(desc_run("26", "01", null), "done 5 [null]");
+    let no_descriptor = "D0 71 D0 01";
+    assert_eq!(desc_run("25", "03", no_descriptor), "trap 43 11 4");
+    assert_eq!(desc_run("26", "01", no_descriptor), "trap 43 11 4");
+}
+
+/// From 1, which describes, to 0: an object of 1 has no descriptor and does not pass.
+#[test]
+fn runs_by_descriptor_beside_the_source() {
+    let code =
+        |form: &str| format!("00 02 6E FB 01 01 FB 01 01 FB {form} 03 00 01 00 1A D0 71 0B 0B");
+    assert_eq!(outcome(&run(&described("6E"), 4, &code("25"), 99)), "done 8 [null]");
+    assert_eq!(
+        run(&described("6E"), 4, &code("26"), 99),
+        "done 5 [obj:0] | place=20 heap=[0:type=1,desc=-,fields=();1:type=1,desc=-,fields=()] \
+         locals=[] operands=[obj:0] blocks=[]"
+    );
+}
+
+/// Some reference type is above both exactly where both are of one hierarchy.
+#[test]
+fn a_supertype_in_common_is_one_hierarchy() {
+    let section =
+        "05 50 00 5F 00 50 01 00 5F 00 4E 02 4D 03 5F 00 4C 02 5F 00 60 00 00 60 00 01 7F";
+    let bytes = read_bytes(&section.replace(' ', "")).expect("hex");
+    let types = judge_section(&bytes).ok().expect("accepted");
+    let numbers = 0..types.len() as u32;
+    let heaps: Vec<Heap> = TABLE
+        .iter()
+        .map(|row| Heap::Abstract(row.heap))
+        .chain(numbers.flat_map(|number| [Heap::Defined(number), Heap::Exact(number)]))
+        .collect();
+    let references: Vec<Reference> = heaps
+        .iter()
+        .flat_map(|&heap| [Reference::nullable(heap), Reference::non_null(heap)])
+        .collect();
+    for &one in &references {
+        for &other in &references {
+            let above = |&upper: &Reference| {
+                reference_below(&types, one, upper) && reference_below(&types, other, upper)
+            };
+            let shared = references.iter().any(above);
+            assert_eq!(share_supertype(&types, one.heap, other.heap), shared, "{one:?} {other:?}");
+        }
+    }
+}
