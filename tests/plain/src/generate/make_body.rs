@@ -42,22 +42,33 @@ pub fn make_body(random: &mut Random, draft: &Draft, small: bool) -> DraftBody {
         Form::Struct(_) => (Vec::new(), Vec::new()),
     };
     let left = random.between(2, if small { 16 } else { 60 }) as isize;
-    let mut maker = Maker {
-        random,
-        constructible: constructible(&types),
-        types,
-        set: vec![true; parameters.len()],
-        locals: parameters.clone(),
-        labels: vec![results.clone()],
-        results: results.clone(),
-        code: Vec::new(),
-        left,
-    };
+    let mut maker = Maker::new(random, types, &parameters, &results, left);
     maker.function_code();
     DraftBody { parameters: parameters.len(), locals: maker.locals, code: maker.code }
 }
 
 impl Maker<'_> {
+    /// Nothing written yet.
+    pub fn new<'a>(
+        random: &'a mut Random,
+        types: Vec<Type>,
+        parameters: &[ValueType],
+        results: &[ValueType],
+        left: isize,
+    ) -> Maker<'a> {
+        Maker {
+            random,
+            constructible: constructible(&types),
+            types,
+            set: vec![true; parameters.len()],
+            locals: parameters.to_vec(),
+            labels: vec![results.to_vec()],
+            results: results.to_vec(),
+            code: Vec::new(),
+            left,
+        }
+    }
+
     fn function_code(&mut self) {
         let statements = self.random.between(0, 4);
         (0..statements).for_each(|_| self.statement());

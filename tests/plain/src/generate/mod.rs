@@ -15,6 +15,7 @@ pub mod spoil_body;
 pub mod spoil_bytes;
 pub mod spoil_section;
 pub mod thin;
+pub mod thin_casts;
 pub mod thin_high;
 pub mod thin_lists;
 pub mod thin_rules;
@@ -53,6 +54,7 @@ fn request(random: &mut Random, small: bool) -> String {
         550..=559 => at_size::small_size_request(random),
         560..=599 if !small => at_size::size_request(random),
         600..=639 => thin::thin_request(random, small),
+        640..=719 => thin_casts::branching_casts(random),
         _ => run_request(random, small),
     }
 }

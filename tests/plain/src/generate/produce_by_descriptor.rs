@@ -2,8 +2,8 @@
 
 use super::make_body::{has_default, Maker};
 use super::value_types::{heaps_above, heaps_below, wider};
-use crate::order::heap_below;
-use crate::syntax::{BranchingCast, Heap, Instruction, Reference, ValueType};
+use crate::order::{heap_below, top_of};
+use crate::syntax::{Abstract, BranchingCast, Heap, Instruction, Reference, ValueType};
 
 impl Maker<'_> {
     /// A defined heap type with a descriptor that is below the wanted one.
@@ -30,8 +30,9 @@ impl Maker<'_> {
         let Some(heap) = self.described_below(wanted.heap) else {
             return self.allocate_or_null(wanted, depth);
         };
-        let source = Reference::nullable(self.of_same_hierarchy(heap));
-        self.object_and_descriptor(source, heap, depth);
+        let everything = Heap::Abstract(Abstract::Any);
+        let from = if self.random.one_in(4) { self.of_same_hierarchy(heap) } else { everything };
+        self.object_and_descriptor(Reference::nullable(from), heap, depth);
         let nullable = wanted.nullable && self.random.one_in(2);
         self.emit(Instruction::RefCastDescEq(Reference { nullable, heap }));
     }
@@ -43,17 +44,32 @@ impl Maker<'_> {
             return;
         };
         let asked = self.descriptor_asked(target, descriptor);
-        let number = target.number().unwrap_or(0);
-        let fields = self.types[number as usize].definition.fields().unwrap_or(&[]).to_vec();
-        if self.random.one_in(4) || !fields.iter().all(has_default) {
+        let own = self.own_descriptor_below(source.heap, asked);
+        let (Some((number, descriptor)), false) = (own, self.random.one_in(4)) else {
             self.produce_for(source, depth + 1);
             return self.produce_mostly_object(asked, depth + 1);
-        }
+        };
         let local = self.new_local(ValueType::nullable(Heap::Exact(descriptor)));
         self.produce_mostly_object_exactly(descriptor, depth + 1);
         self.emit(Instruction::LocalTee(local));
         self.emit(Instruction::StructNewDefaultDesc(number));
         self.emit(Instruction::LocalGet(local));
+    }
+
+    /// A type below the source that is made from defaults and whose own descriptor is
+    /// below the one asked for, and that descriptor.
+    fn own_descriptor_below(&mut self, source: Heap, asked: Heap) -> Option<(u32, u32)> {
+        let types = &self.types;
+        let fits = |number: u32| {
+            let definition = &types[number as usize].definition;
+            let descriptor = definition.descriptor?;
+            let defaults = definition.fields().is_some_and(|fields| fields.iter().all(has_default));
+            let below = heap_below(types, Heap::Exact(number), source)
+                && heap_below(types, Heap::Exact(descriptor), asked);
+            (defaults && below).then_some((number, descriptor))
+        };
+        let found: Vec<(u32, u32)> = (0..types.len() as u32).filter_map(fits).collect();
+        self.random.pick_from(&found)
     }
 
     pub fn produce_descriptor(&mut self, wanted: Reference, depth: usize) {
@@ -84,26 +100,70 @@ impl Maker<'_> {
         });
     }
 
-    /// A branching cast whose carried type is below the wanted one.
+    /// A branching cast whose carried type is below the wanted one. Half of them have
+    /// a target below the source, the others any of its hierarchy.
     pub fn cast_carrying(&mut self, wanted: Reference, label: u32) -> BranchingCast {
-        let fail = self.random.one_in(2);
-        let described = self.described_below(wanted.heap);
-        let by_descriptor = described.is_some() && self.random.one_in(2);
-        let target_heap = match described {
-            Some(heap) if by_descriptor => heap,
-            _ => self.random.pick(&heaps_below(&self.types, wanted.heap)),
+        let cast = match self.random.below(4) {
+            0 => self.cast_downwards(wanted, false),
+            1 => self.cast_downwards(wanted, true),
+            2 => self.cast_carrying_target(wanted),
+            _ => self.cast_carrying_rest(wanted),
         };
-        let target = Reference {
-            nullable: if fail {
-                self.random.one_in(2)
-            } else {
-                wanted.nullable && self.random.one_in(2)
-            },
-            heap: target_heap,
-        };
+        BranchingCast { label, ..cast }
+    }
+
+    /// The target is below the source.
+    fn cast_downwards(&mut self, wanted: Reference, fail: bool) -> BranchingCast {
+        let (by_descriptor, heap) = self.target_below(wanted.heap);
+        let nullable = (fail || wanted.nullable) && self.random.one_in(2);
+        let target = Reference { nullable, heap };
         let source =
             if fail { self.source_of_fail(wanted, target) } else { self.source_above(target) };
-        BranchingCast { by_descriptor, fail, label, source, target }
+        BranchingCast { by_descriptor, fail, label: 0, source, target }
+    }
+
+    /// The target is below what is wanted; the source is any of its hierarchy.
+    fn cast_carrying_target(&mut self, wanted: Reference) -> BranchingCast {
+        let (by_descriptor, heap) = self.target_below(wanted.heap);
+        let nullable = wanted.nullable && !self.random.one_in(3);
+        let target = Reference { nullable, heap };
+        let heap = self.in_hierarchy(heap);
+        // Without null a heap type of no objects has no value.
+        let nullable = self.makeable(heap).is_empty() || self.random.one_in(2);
+        let source = Reference { nullable, heap };
+        BranchingCast { by_descriptor, fail: false, label: 0, source, target }
+    }
+
+    /// The source is below what is wanted, and so is the rest of it; the target is any
+    /// of its hierarchy.
+    fn cast_carrying_rest(&mut self, wanted: Reference) -> BranchingCast {
+        let heap = self.random.pick(&heaps_below(&self.types, wanted.heap));
+        let top = Heap::Abstract(top_of(&self.types, heap));
+        let by_descriptor = self.random.one_in(2);
+        let described = if by_descriptor { self.described_below(top) } else { None };
+        let target_heap = described.unwrap_or_else(|| self.in_hierarchy(heap));
+        let target = Reference { nullable: self.random.one_in(2), heap: target_heap };
+        let nullable = (wanted.nullable || target.nullable) && self.random.one_in(2);
+        let source = Reference { nullable, heap };
+        let by_descriptor = described.is_some();
+        BranchingCast { by_descriptor, fail: true, label: 0, source, target }
+    }
+
+    /// A target's heap type below another, and whether to ask for its descriptor.
+    fn target_below(&mut self, wanted: Heap) -> (bool, Heap) {
+        match self.described_below(wanted) {
+            Some(heap) if self.random.one_in(2) => (true, heap),
+            _ => (false, self.random.pick(&heaps_below(&self.types, wanted))),
+        }
+    }
+
+    /// Any heap type of the same hierarchy, now and then one above.
+    fn in_hierarchy(&mut self, heap: Heap) -> Heap {
+        if self.random.one_in(4) {
+            return self.random.pick(&heaps_above(&self.types, heap));
+        }
+        let top = Heap::Abstract(top_of(&self.types, heap));
+        self.random.pick(&heaps_below(&self.types, top))
     }
 
     pub fn source_above(&mut self, target: Reference) -> Reference {
@@ -128,7 +188,8 @@ impl Maker<'_> {
         if cast.by_descriptor {
             self.object_and_descriptor(cast.source, cast.target.heap, depth);
         } else {
-            let near = !self.random.one_in(3);
+            let below = heap_below(&self.types, cast.target.heap, cast.source.heap);
+            let near = below && !self.random.one_in(3);
             let heap = if near { cast.target.heap } else { cast.source.heap };
             self.produce_for(Reference { heap, ..cast.source }, depth + 1);
         }
