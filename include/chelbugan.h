@@ -81,7 +81,7 @@ extern "C" {
 #define CHELBUGAN_REFUSAL_NOT_SET 22               /* local not set; instruction */
 #define CHELBUGAN_REFUSAL_BAD_STRUCT 23            /* no struct, no such field, descriptor missing or unwanted; instruction */
 #define CHELBUGAN_REFUSAL_FIELD_FIXED 24           /* field fixed; instruction */
-#define CHELBUGAN_REFUSAL_BAD_BRANCH 25            /* branching cast's rule, label without types; instruction */
+#define CHELBUGAN_REFUSAL_BAD_BRANCH 25            /* branching cast: two hierarchies, or label does not take it; instruction */
 #define CHELBUGAN_REFUSAL_NOT_A_FUNCTION 27        /* not a function type's number; 0 */
 #define CHELBUGAN_REFUSAL_VALUES_LEFT 28           /* values left at an end; instruction */
 #define CHELBUGAN_REFUSAL_NO_DEFAULT 29            /* no default; instruction, or 0 for a run's parameters */

@@ -187,7 +187,7 @@ fn descriptors_and_fields() {
     );
 }
 
-/// The label's types and what is carried.
+/// The label's types, what is carried, and the hierarchies of source and target.
 #[test]
 fn branching_casts() {
     body(
@@ -206,9 +206,15 @@ fn branching_casts() {
         &["3 00 results of the function, label 0: none"],
     );
     body(
-        (V, "00 02 6E D0 6D FB 18 01 00 6D 6E 0B 1A 0B", "0"),
-        "the target, (ref any), is not below the source, (ref null eq)",
+        (V, "00 02 70 D0 6D FB 18 01 00 6D 70 1A D0 70 0B 1A 0B", "0"),
+        "the source, (ref null eq), is of the hierarchy of any, and the target, (ref func), of that of func",
         &[],
+    );
+    // A target above the source is no fault; what is carried is.
+    body(
+        (V, "00 02 6D D0 6D FB 18 01 00 6D 6E 1A D0 6D 0B 1A 0B", "0"),
+        "label 0 takes (ref null eq), and (ref any) is carried, which is not below it",
+        &["1 02 6d block (result (ref null eq)), label 0"],
     );
 }
 

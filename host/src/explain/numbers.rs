@@ -1,4 +1,5 @@
-//! Every refusal and trap: what it means, what its place is, document 01's rule, and the smallest example with its mend.
+//! Every refusal and trap: what it means, what its place is, document 01's rule as document 02 amends it, and the smallest
+//! example with its mend.
 
 use super::refusals::Case::{Body, Rows, Run, Section};
 use super::refusals::{Entry, Example};
@@ -338,16 +339,25 @@ pub const ENTRIES: &[Entry] = &[
     Entry {
         number: 25,
         title: "branching cast's rule, label without types",
-        means: "A branching cast's target is not below its source, or its label does not take what is carried there.",
+        means: "A branching cast's source and target are of different hierarchies (any, func, extern), or its label does not take what is carried there.",
         place: "Instruction: the offset of its first byte in the body.",
-        rule: "The target matches the source. The rest is the source, not null where the target may be null. The plain form carries the target and falls through with the rest, the fail form the other way round. The label's last type takes what is carried.",
-        examples: &[Example {
-            broken: Body(V, "00 D0 6E FB 18 01 00 6E 6D 1A 0B", 0),
-            place: 3,
-            why: "label 0 is the function's own, which has no results",
-            mended: Body(V, "00 02 6E D0 6E FB 18 01 00 6E 6D 0B 1A 0B", 0),
-            mend: "a block around it whose result, (ref null any), takes (ref eq)",
-        }],
+        rule: "Source and target share a valid supertype, so one hierarchy, in all four forms. The rest is the source, not null where the target may be null. The plain form carries the target and falls through with the rest, the fail form the other way round. The label's last type takes what is carried.",
+        examples: &[
+            Example {
+                broken: Body(V, "00 D0 6E FB 18 01 00 6E 6D 1A 0B", 0),
+                place: 3,
+                why: "label 0 is the function's own, which has no results",
+                mended: Body(V, "00 02 6E D0 6E FB 18 01 00 6E 6D 0B 1A 0B", 0),
+                mend: "a block around it whose result, (ref null any), takes (ref eq)",
+            },
+            Example {
+                broken: Body("01 60 00 01 70", "00 D0 6E FB 18 03 00 6E 70 0B", 0),
+                place: 3,
+                why: "the source is of the hierarchy of any, and the target of that of func",
+                mended: Body("01 60 00 01 70", "00 D0 73 FB 18 03 00 73 70 0B", 0),
+                mend: "the source is nofunc, of the hierarchy of func; the target may be above it",
+            },
+        ],
     },
     Entry {
         number: 27,

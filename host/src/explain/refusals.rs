@@ -8,7 +8,7 @@ pub struct Entry {
     /// What it means, in plain words.
     pub means: &'static str,
     pub place: &'static str,
-    /// Document 01's words for the rule.
+    /// Document 01's words for the rule, as document 02 amends them.
     pub rule: &'static str,
     pub examples: &'static [Example],
 }

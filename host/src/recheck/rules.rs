@@ -1,9 +1,9 @@
 //! The rules of each instruction: 6, 21, 23, 24, 25, 29, 22 in this order.
 
 use super::body::Check;
-use super::order::reference_below;
+use super::order::{reference_below, top_of};
 use super::{counted, Input, Shown};
-use crate::syntax::{BranchingCast, Field, Instruction, New, Placed, Type, ValueType};
+use crate::syntax::{BranchingCast, Field, Heap, Instruction, New, Placed, Type, ValueType};
 use std::ops::Range;
 
 /// The refusal's number, its words, and the parts that they speak of.
@@ -149,7 +149,7 @@ impl Check<'_> {
         Some((24, words, in_section(&found.bytes, text)))
     }
 
-    /// 25: the label has types, the target matches the source, the label's last type takes what is carried.
+    /// 25: the label has types, source and target are of one hierarchy, the label's last type takes what is carried.
     fn cast_unfit(&self, instruction: &Instruction) -> Option<Broken> {
         let Instruction::BranchingCast(cast) = *instruction else { return None };
         let frame = self.frames.iter().rev().nth(cast.label as usize)?;
@@ -166,9 +166,7 @@ impl Check<'_> {
             }
             Some(last) => *last,
         };
-        if !reference_below(self.types, cast.target, cast.source) {
-            let words =
-                format!("the target, {}, is not below the source, {}", cast.target, cast.source);
+        if let Some(words) = self.two_hierarchies(cast) {
             return Some((25, words, Vec::new()));
         }
         let taken = match last {
@@ -188,6 +186,18 @@ impl Check<'_> {
             ),
         };
         Some((25, words, shown))
+    }
+
+    fn two_hierarchies(&self, cast: BranchingCast) -> Option<String> {
+        let top = |heap: Heap| Heap::Abstract(top_of(self.types, heap));
+        let (source, target) = (top(cast.source.heap), top(cast.target.heap));
+        if source == target {
+            return None;
+        }
+        Some(format!(
+            "the source, {}, is of the hierarchy of {source}, and the target, {}, of that of {target}",
+            cast.source, cast.target
+        ))
     }
 
     /// The block, the loop or the function's results that a label stands for.
