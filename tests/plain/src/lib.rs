@@ -1,4 +1,5 @@
-//! An independent reference checker for document 01, in ordinary Rust.
+//! An independent reference checker for document 01, as document 02 amends it, in
+//! ordinary Rust.
 //!
 //! It shares nothing with the formal definitions or the library: it is what
 //! they are compared with. Everything is read into a tree first, and every rule
