@@ -143,7 +143,8 @@ impl Maker<'_> {
         let described = if by_descriptor { self.described_below(top) } else { None };
         let target_heap = described.unwrap_or_else(|| self.in_hierarchy(heap));
         let target = Reference { nullable: self.random.one_in(2), heap: target_heap };
-        let nullable = (wanted.nullable || target.nullable) && self.random.one_in(2);
+        let no_object = self.makeable(heap).is_empty();
+        let nullable = (wanted.nullable || target.nullable) && (no_object || self.random.one_in(2));
         let source = Reference { nullable, heap };
         let by_descriptor = described.is_some();
         BranchingCast { by_descriptor, fail: true, label: 0, source, target }

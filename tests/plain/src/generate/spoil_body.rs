@@ -4,31 +4,35 @@ use super::make_body::DraftBody;
 use super::random::Random;
 use super::spoil_section::{other_exactness, spoil_value};
 use super::value_types::random_heap;
-use crate::syntax::{Heap, Instruction, Reference};
+use crate::syntax::{Abstract, Heap, Instruction, Reference, ValueType};
 
 pub fn spoil_body(random: &mut Random, body: &mut DraftBody, types: usize) {
     let index = random.below(body.code.len());
     let next = (index + 1) % body.code.len();
-    match random.below(18) {
+    match random.below(24) {
         0 => drop(body.code.remove(index)),
         1 => body.code.insert(index, body.code[index]),
         2 => body.code.swap(index, next),
         3 => body.code.insert(index, random_instruction(random, types)),
         4 => body.code[index] = random_instruction(random, types),
         5 => spoil_local(random, body),
-        6..=8 => read_local(random, body, index),
-        9..=11 => body.code.insert(index, random_field_use(random, types)),
-        12 => leave_to_defaults(random, body),
-        13 => spoil_dead_code(random, body),
+        6..=10 => read_local(random, body, index),
+        11..=13 => body.code.insert(index, random_field_use(random, types)),
+        14..=17 => leave_to_defaults(random, body),
+        18 => spoil_dead_code(random, body),
         _ => spoil_likely(random, body, types),
     }
 }
 
-/// Reads a local somewhere, which may be before it is set.
+/// Reads a local somewhere, which may be before it is set; where all have defaults, one
+/// that is never set or is absent.
 fn read_local(random: &mut Random, body: &mut DraftBody, index: usize) {
     let without_default: Vec<usize> =
         (0..body.locals.len()).filter(|&local| !body.locals[local].has_default()).collect();
     let local = random.pick_from(&without_default).unwrap_or(body.locals.len());
+    if local == body.locals.len() && random.one_in(2) {
+        body.locals.push(ValueType::non_null(Heap::Abstract(Abstract::Struct)));
+    }
     body.code.insert(index, Instruction::LocalGet(local as u32));
     body.code.insert(index + 1, Instruction::Drop);
 }

@@ -9,6 +9,13 @@ pub const F1: &str = "02 4E 02 4D 01 5F 00 4C 00 5F 00 60 00 01 64 62 00";
 pub const F2: &str = "02 4E 02 4D 01 5F 00 4C 00 5F 00 60 00 01 64 62 01";
 pub const V: &str = "01 60 00 00";
 
+/// Type 0 is open and has descriptor 1; 2 is below 0, its descriptor 3 below 1. Then
+/// a function with this result.
+pub fn described(result: &str) -> String {
+    let types = "50 00 4D 01 5F 00 50 00 4C 00 5F 00 4F 01 00 4D 03 5F 00 4F 01 01 4C 02 5F 00";
+    format!("02 4E 04 {types} 60 00 01 {result}")
+}
+
 /// Bytes for the line protocol; no bytes at all is `-`.
 fn bytes(text: &str) -> String {
     let hex: String = text.split_whitespace().collect();
