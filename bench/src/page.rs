@@ -32,7 +32,7 @@ The proved library and the plain checker of `tests/plain` judge the same inputs,
 All are accepted, so that every byte is looked at. The body's section is judged in the same call and is in the time, while the bytes are the body's alone.
 
 - *ordinary*: objects made with their descriptors, fields read and written, tests, casts, loops and blocks.
-- *casts up a chain*: each branching cast walks a chain of 63 supertypes three times.
+- *casts up a chain*: each branching cast walks a chain of 63 supertypes twice.
 - *blocks, 256 locals*: blocks opened and closed, 63 of them one in the other, with 256 locals that have no default.
 - *64 fields given*: structs made of 64 operands, each of which walks the chain to its field's type.
 - *64 fields by default*: structs of 64 fields made by default.

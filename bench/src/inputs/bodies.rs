@@ -209,7 +209,7 @@ fn lowest_local() -> Vec<u8> {
     [vec![0x01, 0x01], reference(CHAIN)].concat()
 }
 
-/// Target against source, what is carried against the label's type, the operand against the source: three times 63 steps.
+/// What is carried against the label's type, the operand against the source: twice 63 steps.
 fn casts(room: usize) -> Judged {
     let mut body = Body::new(&lowest_local());
     body.push(&[&[0x02, 0x63, 0x00]]);
