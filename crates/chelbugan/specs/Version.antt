@@ -1,11 +1,12 @@
--- Which calls these are: 1.0.0, as one number.
+-- Which calls these are, and what they accept: 1.1.0, as one number. The second number counts the requests that changed what is
+-- accepted.
 use Prim.Native.Nat.{ℕ, _+_, _*_}
 
 abbrev pub major : ℕ
 major = 1
 
 abbrev pub minor : ℕ
-minor = 0
+minor = 1
 
 abbrev pub patch : ℕ
 patch = 0
