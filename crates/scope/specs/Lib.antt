@@ -10,6 +10,8 @@ pub mod Sections
 pub mod Order
 pub mod TypeRules
 pub mod Judging
+pub mod Rounding
+pub mod Floats
 pub mod Instructions
 pub mod BodyRules
 pub mod Bodies
