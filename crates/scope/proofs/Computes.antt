@@ -10,6 +10,8 @@ use Rattle.scope.specs.TypeRules.{names, inReach, superEarlierAndOpen, s
 use Rattle.scope.specs.Judging.{linksFault, ruleFault, scan, judgeTypes, judgeSection, askType}
 use Rattle.scope.specs.Rounding.{units, rounded}
 use Rattle.scope.specs.Floats.{floatNeg, floatAdd, floatSub, floatMul, floatDiv, floatEqual, floatLess}
+use Rattle.scope.specs.Integers.{intAdd, intSub, intLessSigned, intAtMostSigned}
+use Rattle.scope.specs.Numeric.{numericOf}
 use Rattle.scope.specs.Instructions.{blockTypeAt, castAt, instrAt}
 use Rattle.scope.specs.BodyRules.{lastOf, planOf}
 use Rattle.scope.specs.Bodies.{fits, takeAll, put, doPlan, judgeEnd, judgeInstr, judgeFrom, localsAt, bodyAt, judgeBody}
@@ -18,5 +20,5 @@ use Rattle.scope.specs.Running.{runBy, run, trialRun}
 use Rattle.scope.specs.Memory.{rowWords, rowsFrom, objectsFrom, blockWords, stateWords}
 
 unfoldable pub computes : ℕ
-unfolding entries bitsAt unsigned signed heapAt valAt fieldAt fewAt supersAt headAt clauseAt formAt definitionAt groupAt groupsAt readSection upTable climbs heapBelow valBelow sameHeap sameVal names inReach superEarlierAndOpen shortChain formMatches matchesSuper clausesOnStruct describesEarlier clausesAgree descriptorFollows describesFollows linksFault ruleFault scan judgeTypes judgeSection askType size units rounded floatNeg floatAdd floatSub floatMul floatDiv floatEqual floatLess blockTypeAt castAt instrAt lastOf planOf fits takeAll put doPlan judgeEnd judgeInstr judgeFrom localsAt bodyAt judgeBody splitTop defaultsOf pastEnds jump doOp doInstr step runBy run trialRun rowWords rowsFrom objectsFrom blockWords stateWords
+unfolding entries bitsAt unsigned signed heapAt valAt fieldAt fewAt supersAt headAt clauseAt formAt definitionAt groupAt groupsAt readSection upTable climbs heapBelow valBelow sameHeap sameVal names inReach superEarlierAndOpen shortChain formMatches matchesSuper clausesOnStruct describesEarlier clausesAgree descriptorFollows describesFollows linksFault ruleFault scan judgeTypes judgeSection askType size units rounded floatNeg floatAdd floatSub floatMul floatDiv floatEqual floatLess intAdd intSub intLessSigned intAtMostSigned numericOf blockTypeAt castAt instrAt lastOf planOf fits takeAll put doPlan judgeEnd judgeInstr judgeFrom localsAt bodyAt judgeBody splitTop defaultsOf pastEnds jump doOp doInstr step runBy run trialRun rowWords rowsFrom objectsFrom blockWords stateWords
 computes = 0

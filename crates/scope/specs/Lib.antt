@@ -12,6 +12,8 @@ pub mod TypeRules
 pub mod Judging
 pub mod Rounding
 pub mod Floats
+pub mod Integers
+pub mod Numeric
 pub mod Instructions
 pub mod BodyRules
 pub mod Bodies
