@@ -6,3 +6,8 @@ pub mod Once
 pub mod Sums
 pub mod Negations
 pub mod Products
+pub mod Wholes
+pub mod Comparisons
+pub mod Integers
+pub mod Laws
+pub mod Vectors
