@@ -10,4 +10,5 @@ pub mod Wholes
 pub mod Comparisons
 pub mod Integers
 pub mod Laws
+pub mod Codes
 pub mod Vectors
