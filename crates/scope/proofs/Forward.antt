@@ -1,7 +1,7 @@
 -- Reading never moves back and never past the input's end. The argument: a reader is put together from `then`, `onByte`,
 -- `cond` and `given`, each of which keeps "the place after lies between lo and the input's length"; a byte that is
 -- there moves lo by one.
-use Prim.Native.Nat.{ℕ, zero, suc, _+_, _-_, _≤_, _<_}
+use Prim.Native.Nat.{ℕ, zero, suc, _+_, _-_, _*_, _≤_, _<_}
 use mathlib.Core.Path.{_≡_, refl, sym, ap, _∙_}
 use mathlib.Core.Bool.{Bool, true, false, cond}
 use mathlib.Core.Option.{Option, none, some}
@@ -12,7 +12,7 @@ use lib.ListN.{length, getElem?}
 use lib.Dec.{ltb, eqb}
 use borrow.Author.Tests.{eqb-true}
 use Rattle.scope.specs.Reading.{Read, got, refused, Reader, given, then, onByte, entries}
-use Rattle.scope.specs.Numbers.{Bits, bits, cut, long, under, bitsAt, inRange, Whole, plus, minus, unsigned, signed, u32, s33}
+use Rattle.scope.specs.Numbers.{Bits, bits, cut, long, under, bitsAt, inRange, Whole, plus, minus, unsigned, signed, littleEndian, floatBytes, u32, s33}
 use Rattle.scope.specs.Sizes.{mostEach, mostTypes}
 use Rattle.scope.specs.Refusals.{bytesEnd}
 use Rattle.scope.specs.Abstract.{abstractOf}
@@ -107,6 +107,32 @@ unsigned-takes width = record { takes = λ s at. range-ends at _ _ (bits-end _ s
 pub signed-takes : (width : ℕ) → Takes (signed width)
 unfolding signed
 signed-takes width = record { takes = λ s at. range-ends at _ _ (bits-end _ s at) }
+
+-- the bytes of a float are all there, where they are read
+pub float-inside : (n : ℕ) (s : List ℕ) (at : ℕ) {v : ℕ} → littleEndian (suc n) s at ≡ some v → at + suc n ≤ length s
+unfolding littleEndian
+float-inside zero s at {v} e = go (getElem? s at) refl e
+  where
+    go : (o : Option ℕ) → getElem? s at ≡ o → given o none (λ b. some (b + 256 * 0)) ≡ some v → at + 1 ≤ length s
+    go none there e = impossible cc
+    go (some b) there e = let h : at < length s = byte-inside s at there in omega arith
+float-inside (suc n) s at {v} e = go (getElem? s at) (littleEndian (suc n) s (at + 1)) (λ w f. float-inside n s (at + 1) f) e
+  where
+    go :
+        (o higher : Option ℕ) → ((w : ℕ) → higher ≡ some w → at + 1 + suc n ≤ length s)
+        → given o none (λ b. given higher none (λ w. some (b + 256 * w))) ≡ some v → at + suc (suc n) ≤ length s
+    go none higher inside e = impossible cc
+    go (some b) none inside e = impossible cc
+    go (some b) (some w) inside e = let h : at + 1 + suc n ≤ length s = inside w refl in omega arith
+
+-- one byte at least
+pub float-takes : (n : ℕ) → Takes (floatBytes (suc n))
+unfolding floatBytes
+float-takes n = record { takes = λ s at. go s at (littleEndian (suc n) s at) refl }
+  where
+    go : (s : List ℕ) (at : ℕ) (o : Option ℕ) → littleEndian (suc n) s at ≡ o → Ends (at + 1) (length s) (given o (refused bytesEnd at) (λ v. got v (at + suc n)))
+    go s at none e = stops
+    go s at (some v) e = reaches {next = at + suc n} (omega arith) (float-inside n s at e)
 
 -- lists: `n` entries end no earlier than they begin
 

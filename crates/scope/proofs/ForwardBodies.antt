@@ -10,11 +10,12 @@ use native.Mathlib.Nat.{le-trans, le-refl}
 use lib.ListN.{length}
 use lib.Dec.{ltb, leb, eqb}
 use Rattle.scope.specs.Reading.{Read, got, refused, Reader, given, then, onByte}
-use Rattle.scope.specs.Numbers.{u32, s32, bits32}
+use Rattle.scope.specs.Numbers.{u32, s32, s64, float32, float64, bits32, bits64}
 use Rattle.scope.specs.Syntax.{Val}
 use Rattle.scope.specs.Sections.{heapAt, valAt}
-use Rattle.scope.specs.Instructions.{Op, Instr, bare, having, havingTwo, blockTypeAt, castAt, opening, closing, firstBytes, afterFB, find, instrAt}
-use Rattle.scope.proofs.Forward.{Ends, stops, reaches, Takes, ends-then, ends-cond, ends-given, ends-from, ends-byte, one-less, unsigned-takes, signed-takes, heap-takes, val-takes}
+use Rattle.scope.specs.Numeric.{numericOf}
+use Rattle.scope.specs.Instructions.{Op, numeric, Instr, bare, having, havingTwo, blockTypeAt, castAt, opening, closing, firstBytes, afterFB, find, instrAt}
+use Rattle.scope.proofs.Forward.{Ends, stops, reaches, Takes, ends-then, ends-cond, ends-given, ends-from, ends-byte, one-less, unsigned-takes, signed-takes, float-takes, heap-takes, val-takes}
 
 -- a reader of immediates, of which there may be none
 pub record Keeps (r : Reader Instr) : Type 0 where
@@ -64,6 +65,11 @@ cast-takes =
           stops);
     }
 
+-- a numeric code has no immediates
+numeric-ends : (b : ℕ) {A : Type 0} (kinds : Option A) (n p : ℕ) (s : List ℕ) (at : ℕ) → at ≤ length s → Ends at (length s) (given kinds (refused n p) (λ k. bare (numeric b) s at))
+numeric-ends b none n p s at h = stops
+numeric-ends b (some k) n p s at h = reaches (le-refl at) h
+
 -- every row of a table keeps
 data Rows : List (ℕ × Reader Instr) → Type 0 where
   none-left : Rows []
@@ -84,11 +90,14 @@ first-rows =
     (row-and (having-keeps (unsigned-takes 32) _)
     (row-and (having-keeps (unsigned-takes 32) _)
     (row-and (having-keeps (signed-takes 32) _)
+    (row-and (having-keeps (signed-takes 64) _)
+    (row-and (having-keeps (float-takes 3) _)
+    (row-and (having-keeps (float-takes 7) _)
     (row-and (having-keeps heap-takes _)
     (row-and (bare-keeps _)
     (row-and (bare-keeps _)
     (row-and (bare-keeps _)
-    none-left))))))))))))))))
+    none-left)))))))))))))))))))
 
 later-rows : Rows afterFB
 later-rows =
@@ -111,11 +120,11 @@ later-rows =
     (row-and (having-keeps cast-takes _)
     none-left))))))))))))))))
 
-found-ends : (b : ℕ) {rows : List (ℕ × Reader Instr)} → Rows rows → (n p : ℕ) (s : List ℕ) (at : ℕ) → at ≤ length s → Ends at (length s) (given (find b rows) (refused n p) (λ r. r s at))
-found-ends b none-left n p s at h = stops
-found-ends b (row-and {code} {r} {more} k rest) n p s at h = go (eqb b code) (found-ends b rest n p s at h)
+found-ends : (b : ℕ) {rows : List (ℕ × Reader Instr)} → Rows rows → {other : Read Instr} (s : List ℕ) (at : ℕ) → at ≤ length s → Ends at (length s) other → Ends at (length s) (given (find b rows) other (λ r. r s at))
+found-ends b none-left s at h o = o
+found-ends b (row-and {code} {r} {more} k rest) {other} s at h o = go (eqb b code) (found-ends b rest s at h o)
   where
-    go : (t : Bool) → Ends at (length s) (given (find b more) (refused n p) (λ q. q s at)) → Ends at (length s) (given (cond t (some r) (find b more)) (refused n p) (λ q. q s at))
+    go : (t : Bool) → Ends at (length s) (given (find b more) other (λ q. q s at)) → Ends at (length s) (given (cond t (some r) (find b more)) other (λ q. q s at))
     go true later = k .keeps s at h
     go false later = later
 
@@ -126,6 +135,6 @@ instr-takes =
       takes = λ s at.
           ends-byte s at _ (λ b h.
           ends-cond (eqb b 0xFB)
-          (ends-then (unsigned-takes 32 .takes s (at + 1)) (λ n next a c. ends-from (one-less a) (found-ends n later-rows _ _ s next c)))
-          (found-ends b first-rows _ _ s (at + 1) (omega arith)));
+          (ends-then (unsigned-takes 32 .takes s (at + 1)) (λ n next a c. ends-from (one-less a) (found-ends n later-rows s next c stops)))
+          (found-ends b first-rows s (at + 1) (omega arith) (numeric-ends b (numericOf b) _ _ s (at + 1) (omega arith))));
     }

@@ -22,6 +22,7 @@ pub mod Acting
 pub mod Objects
 pub mod Casting
 pub mod Plain
+pub mod Calculating
 pub mod Structs
 pub mod CastSteps
 pub mod Operations

@@ -1,5 +1,6 @@
 -- Every instruction inside a block: the plan that its rule allows is one that the machine can act on. For each, the tests
--- of its rule in order, then its lemma of proofs/Plain.antt, proofs/Structs.antt or proofs/CastSteps.antt.
+-- of its rule in order, then its lemma of proofs/Plain.antt, proofs/Calculating.antt, proofs/Structs.antt or
+-- proofs/CastSteps.antt.
 use Prim.Native.Nat.{ℕ, _<_}
 use mathlib.Core.Path.{_≡_, refl}
 use mathlib.Core.Bool.{Bool, true, false, false≢true}
@@ -8,12 +9,13 @@ use mathlib.Core.List.{List, [], _∷_, _++_}
 use lib.ListN.{length, getElem?, getD}
 use lib.Dec.{ltb}
 use borrow.Author.Tests.{ltb-true}
-use Rattle.scope.specs.Refusals.{outOfReach, absent, notSet, badStruct, fieldFixed, badBranch, noDefault}
+use Rattle.scope.specs.Refusals.{notListed, outOfReach, absent, notSet, badStruct, fieldFixed, badBranch, noDefault}
 use Rattle.scope.specs.Lists.{every, isNone}
-use Rattle.scope.specs.Syntax.{typesOf}
+use Rattle.scope.specs.Syntax.{i32, i64, f32, f64, typesOf}
 use Rattle.scope.specs.Order.{valBelow}
 use Rattle.scope.specs.TypeRules.{heapNames}
-use Rattle.scope.specs.Instructions.{Op, unreachable, nop, return, drop-value, br, br-if, local-get, local-set, local-tee, i32-const, ref-null, ref-is-null, ref-eq, ref-as-non-null, struct-new, struct-new-default, struct-get, struct-set, ref-test, ref-cast, br-on-cast, br-on-cast-fail, struct-new-desc, struct-new-default-desc, ref-get-desc, ref-cast-desc-eq, br-on-cast-desc-eq, br-on-cast-desc-eq-fail}
+use Rattle.scope.specs.Numeric.{numericOf}
+use Rattle.scope.specs.Instructions.{Op, unreachable, nop, return, drop-value, br, br-if, local-get, local-set, local-tee, i32-const, i64-const, f32-const, f64-const, numeric, ref-null, ref-is-null, ref-eq, ref-as-non-null, struct-new, struct-new-default, struct-get, struct-set, ref-test, ref-cast, br-on-cast, br-on-cast-fail, struct-new-desc, struct-new-default-desc, ref-get-desc, ref-cast-desc-eq, br-on-cast-desc-eq, br-on-cast-desc-eq-fail}
 use Rattle.scope.specs.BodyRules.{Plan, planOf, fieldsOf, holdsOf, hasDefault, oneHierarchy, descriptorFor, lastOf, targetOf, restOf}
 use Rattle.scope.specs.Bodies.{Operand, State, scopeOf, afterPlan, put, Body, startState}
 use Rattle.scope.specs.Machine.{Value, Machine, doOp}
@@ -22,6 +24,7 @@ use Rattle.scope.proofs.Accepted.{Kept}
 use Rattle.scope.proofs.Telling.{Allows, this, after-test, past-test, after-need}
 use Rattle.scope.proofs.Standing.{Accepts}
 use Rattle.scope.proofs.Plain.{Does, On, labelsOf, skips, returns, drops, gets, sets-local, tees-local, numbers, nulls, asks-null, compares, refuses-null, branches-always, branches-if}
+use Rattle.scope.proofs.Calculating.{calculates}
 use Rattle.scope.proofs.Structs.{news, news-default, news-desc, news-default-desc, reads, writes, describes}
 use Rattle.scope.proofs.CastSteps.{tests, casts, casts-desc, branches-cast, branches-cast-fail, branches-desc, branches-desc-fail}
 use Rattle.scope.proofs.Soundness.{Stands, contextFor, Typed, isTrap, isUnreachable}
@@ -63,7 +66,12 @@ module _ {b : Body} (kept : Kept (typesOf (b .types))) (accepts : Accepts (conte
       after-need (getElem? (contextFor b .locals) x) absent (λ t is. this (record { acts = sets-local m typed alive x is }))
   acting (local-tee x) =
       after-need (getElem? (contextFor b .locals) x) absent (λ t is. this (record { acts = tees-local m typed alive x is }))
-  acting (i32-const n) = this (record { acts = numbers m typed alive n })
+  acting (i32-const n) = this (record { acts = numbers m typed alive i32 n })
+  acting (i64-const n) = this (record { acts = numbers m typed alive i64 n })
+  acting (f32-const n) = this (record { acts = numbers m typed alive f32 n })
+  acting (f64-const n) = this (record { acts = numbers m typed alive f64 n })
+  acting (numeric code) =
+      after-need (numericOf code) notListed (λ kinds is. this (record { acts = calculates m typed alive code kinds is }))
   acting (ref-null h) = after-test (inReach b (heapNames h)) outOfReach (λ reach. this (record { acts = nulls m typed alive h }))
   acting ref-is-null = this (record { acts = asks-null m typed alive })
   acting ref-eq = this (record { acts = compares m typed alive })

@@ -8,11 +8,11 @@ use mathlib.Core.List.{List, [], _∷_, _++_, map, reverse, Forall₂·cons}
 use lib.ListN.{getElem?, getD, set}
 use lib.Dec.{eqb}
 use Rattle.scope.specs.Abstract.{EQ}
-use Rattle.scope.specs.Syntax.{Heap, abstract, i32, Val, num, nullable, typesOf}
-use Rattle.scope.specs.Instructions.{Op, nop, return, drop-value, br, br-if, local-get, local-set, local-tee, i32-const, ref-null, ref-is-null, ref-eq, ref-as-non-null}
+use Rattle.scope.specs.Syntax.{Heap, abstract, Number, i32, Val, num, nullable, typesOf}
+use Rattle.scope.specs.Instructions.{Op, nop, return, drop-value, br, br-if, local-get, local-set, local-tee, ref-null, ref-is-null, ref-eq, ref-as-non-null}
 use Rattle.scope.specs.BodyRules.{Wanted, value, anyValue, anyReference, fromTop, itNonNull}
 use Rattle.scope.specs.Bodies.{Operand, known, labelOf, State, onTop, put, Body, startState}
-use Rattle.scope.specs.Machine.{Value, Machine, doOp, withOperands}
+use Rattle.scope.specs.Machine.{Value, number, Machine, goes, doOp, withOperands}
 use Rattle.scope.specs.Running.{programOf}
 use Rattle.scope.proofs.Pairs.{at-second}
 use Rattle.scope.proofs.Taking.{ofType, aNull, anObject, Takes, done, also, tops-of, tops-kept}
@@ -88,11 +88,11 @@ module _ {b : Body} {st : State} (m : Machine) (typed : Typed b st m) (alive : s
 
   -- values
 
+  -- a constant of any kind
   pub numbers :
-      {taken left : List Operand} {vs below : List Value} (n : ℕ) → On b m [] taken left vs below
-      → Stands b (leaving st (known (num i32) ∷ left)) (m .code) → Does b m vs (i32-const n)
-  unfolding doOp
-  numbers n (done has) stands = stays m typed alive stands (Forall₂·cons (ofKnown ofNumber) has)
+      {taken left : List Operand} {vs below : List Value} (k : Number) (n : ℕ) → On b m [] taken left vs below
+      → Stands b (leaving st (known (num k) ∷ left)) (m .code) → Proceeds b (m .heap) (goes (withOperands m (number k n ∷ vs)))
+  numbers k n (done has) stands = stays m typed alive stands (Forall₂·cons (ofKnown ofNumber) has)
 
   pub nulls :
       {taken left : List Operand} {vs below : List Value} (h : Heap) → On b m [] taken left vs below

@@ -1,6 +1,6 @@
 -- Soundness, stated whole: what this file and specs/ say is all that is claimed; proofs/SoundnessHolds.antt proves it.
 -- Of every accepted section and body, and of every number of steps from the empty heap with zero or null parameters: the
--- machine goes on, ends with results of the declared types or stops at a trap 41 to 45; every value has the type that the
+-- machine goes on, ends with results of the declared types or stops at a trap 41 to 46; every value has the type that the
 -- checker knows it by; every object is made as its type says; and an object's type and descriptor never change.
 use Prim.Native.Nat.{ℕ, _+_, _<_}
 use mathlib.Core.Path.{_≡_}
@@ -10,7 +10,7 @@ use mathlib.Core.List.{List, [], _∷_, reverse, Forall₂}
 use lib.ListN.{length}
 use Rattle.scope.specs.declared.Ran.{Ran}
 use Rattle.scope.specs.declared.Ran
-use Rattle.scope.specs.Refusals.{trapUnreachable, trapNull, trapNullDescriptor, trapCast, trapNoRoom}
+use Rattle.scope.specs.Refusals.{trapUnreachable, trapNull, trapNullDescriptor, trapCast, trapNoRoom, trapOtherNumeric}
 use Rattle.scope.specs.Lists.{every}
 use Rattle.scope.specs.Syntax.{Heap, exact, Number, Val, num, ref, Field, Definition, Types, typesOf}
 use Rattle.scope.specs.Order.{heapBelow}
@@ -125,13 +125,14 @@ pub record TypedDone (b : Body) (m : Machine) : Type 0 where
 
 -- steps
 
--- the traps 41 to 45
+-- the traps 41 to 46
 pub data Trap : ℕ → Type 0 where
   isUnreachable : Trap trapUnreachable
   isNull : Trap trapNull
   isNullDescriptor : Trap trapNullDescriptor
   isCast : Trap trapCast
   isNoRoom : Trap trapNoRoom
+  isOtherNumeric : Trap trapOtherNumeric
 
 -- what a step may come to: it is not stuck
 pub data Proceeds (b : Body) (heap : Store) : Outcome → Type 0 where
@@ -207,7 +208,7 @@ pub record Soundness : Type 0 where
   pub answered :
       {section s : List ℕ} {x budget : ℕ} {lent later : RunMemory} {r : Ran} → RunTried section s x budget lent later r
       → Answered section s x budget lent later r
-  -- so a trap in the public answer is one of the five, and never the number that stands for a stuck machine
+  -- so a trap in the public answer is one of the six, and never the number that stands for a stuck machine
   pub named : {section s : List ℕ} {x budget t p n : ℕ} {lent later : RunMemory} → RunTried section s x budget lent later (Ran.the-variants.Trapped t p n) → Trap t
 
 -- The incident: a field that is read or written lies inside the object that is there, however the reference came to be:

@@ -4,16 +4,17 @@ use Prim.Native.Nat.{ℕ, zero, suc}
 use mathlib.Core.Bool.{Bool, true, false, not, cond, _&&_}
 use mathlib.Core.Option.{Option, none, some}
 use mathlib.Core.List.{List, [], _∷_, _++_, map, reverse}
-use lib.ListN.{getElem?, getD}
+use lib.ListN.{getElem?, getD, replicate}
 use lib.Dec.{ltb}
-use Rattle.scope.specs.Refusals.{outOfReach, absent, notSet, badStruct, fieldFixed, badBranch, noDefault}
+use Rattle.scope.specs.Refusals.{notListed, outOfReach, absent, notSet, badStruct, fieldFixed, badBranch, noDefault}
 use Rattle.scope.specs.Reading.{given}
 use Rattle.scope.specs.Lists.{every, isNone}
 use Rattle.scope.specs.Abstract.{Abstract, ANY, EQ, row, sameAbstract}
-use Rattle.scope.specs.Syntax.{Heap, abstract, defined, exact, i32, Val, num, ref, nullable, nonNull, Field, Form, struct, func, Types}
+use Rattle.scope.specs.Syntax.{Heap, abstract, defined, exact, i32, i64, f32, f64, Val, num, ref, nullable, nonNull, Field, Form, struct, func, Types}
 use Rattle.scope.specs.Order.{kindOf, valBelow}
 use Rattle.scope.specs.TypeRules.{heapNames}
-use Rattle.scope.specs.Instructions.{Cast, Op, unreachable, nop, return, drop-value, br, br-if, local-get, local-set, local-tee, i32-const, ref-null, ref-is-null, ref-eq, ref-as-non-null, struct-new, struct-new-default, struct-get, struct-set, ref-test, ref-cast, br-on-cast, br-on-cast-fail, struct-new-desc, struct-new-default-desc, ref-get-desc, ref-cast-desc-eq, br-on-cast-desc-eq, br-on-cast-desc-eq-fail}
+use Rattle.scope.specs.Numeric.{Numeric, numericOf}
+use Rattle.scope.specs.Instructions.{Cast, Op, unreachable, nop, return, drop-value, br, br-if, local-get, local-set, local-tee, i32-const, i64-const, f32-const, f64-const, numeric, ref-null, ref-is-null, ref-eq, ref-as-non-null, struct-new, struct-new-default, struct-get, struct-set, ref-test, ref-cast, br-on-cast, br-on-cast-fail, struct-new-desc, struct-new-default-desc, ref-get-desc, ref-cast-desc-eq, br-on-cast-desc-eq, br-on-cast-desc-eq-fail}
 
 -- what a body is checked against: the section's types and their count, the locals with the parameters, the results
 pub record Context : Type 0 where
@@ -78,6 +79,10 @@ takesAndStops ws = allowed (record { wants = ws; gives = values []; marks = none
 -- operands come from the top: the last of a list first
 abbrev pub fromTop : List Val → List Wanted
 fromTop vs = map value (reverse vs)
+
+-- all operands of a numeric instruction are of one kind
+abbrev pub operandsOf : Numeric → List Wanted
+operandsOf kinds = replicate (kinds .operands) (value (num (kinds .kind)))
 
 -- parts of types
 
@@ -205,6 +210,11 @@ planOf c here (local-get x) = localOf c x (λ v. alreadySet here x (takes [] (va
 planOf c here (local-set x) = localOf c x (λ v. takesAndSets x (value v ∷ []) (values []))
 planOf c here (local-tee x) = localOf c x (λ v. takesAndSets x (value v ∷ []) (values (v ∷ [])))
 planOf c here (i32-const n) = takes [] (values (num i32 ∷ []))
+planOf c here (i64-const n) = takes [] (values (num i64 ∷ []))
+planOf c here (f32-const n) = takes [] (values (num f32 ∷ []))
+planOf c here (f64-const n) = takes [] (values (num f64 ∷ []))
+-- "with the operand and result kinds of the core standard". 3 is a code's that is not listed, and none is read.
+planOf c here (numeric b) = need (numericOf b) notListed (λ kinds. takes (operandsOf kinds) (values (num (kinds .result) ∷ [])))
 planOf c here (ref-null h) = reached c (heapNames h) (takes [] (values (nullable h ∷ [])))
 planOf c here ref-is-null = takes (anyReference ∷ []) (values (num i32 ∷ []))
 planOf c here ref-eq = takes (value (nullable (abstract EQ)) ∷ value (nullable (abstract EQ)) ∷ []) (values (num i32 ∷ []))

@@ -1,4 +1,4 @@
--- The instructions that document 01 lists, with their immediates, and how they are read.
+-- The instructions that document 01 lists, with those of request 1 of document 02, their immediates, and how they are read.
 use Prim.Native.Nat.{ℕ, zero, suc, _+_, _%_}
 use mathlib.Core.Bool.{Bool, true, false, cond}
 use mathlib.Core.Option.{Option, none, some}
@@ -6,9 +6,10 @@ use mathlib.Core.List.{List, [], _∷_}
 use lib.Dec.{eqb, ltb, leb}
 use Rattle.scope.specs.Refusals.{notListed}
 use Rattle.scope.specs.Reading.{Read, got, refused, Reader, given, then, onByte}
-use Rattle.scope.specs.Numbers.{bits32, u32, s32}
+use Rattle.scope.specs.Numbers.{bits32, bits64, u32, s32, s64, float32, float64}
 use Rattle.scope.specs.Syntax.{Heap, Val, ref}
 use Rattle.scope.specs.Sections.{heapAt, valAt}
+use Rattle.scope.specs.Numeric.{numericOf}
 
 -- A branching cast: flags 0 to 3 (bit 0 source null, bit 1 target null), label, source, target
 pub record Cast : Type 0 where
@@ -23,7 +24,10 @@ pub data Op : Type 0 where
   unreachable nop return drop-value : Op
   br br-if : ℕ → Op
   local-get local-set local-tee : ℕ → Op
-  i32-const : ℕ → Op
+  -- by the bits
+  i32-const i64-const f32-const f64-const : ℕ → Op
+  -- by the code, 45 to C4
+  numeric : ℕ → Op
   ref-null : Heap → Op
   ref-is-null ref-eq ref-as-non-null : Op
   struct-new struct-new-default : ℕ → Op
@@ -92,6 +96,9 @@ firstBytes =
     ∷ (0x21, having u32 local-set)
     ∷ (0x22, having u32 local-tee)
     ∷ (0x41, having s32 (λ n. i32-const (bits32 n)))
+    ∷ (0x42, having s64 (λ n. i64-const (bits64 n)))
+    ∷ (0x43, having float32 f32-const)
+    ∷ (0x44, having float64 f64-const)
     ∷ (0xD0, having heapAt ref-null)
     ∷ (0xD1, bare ref-is-null)
     ∷ (0xD3, bare ref-eq)
@@ -124,10 +131,11 @@ abbrev pub find : {A : Type 0} → ℕ → List (ℕ × A) → Option A
 find b [] = none
 find b (r ∷ more) = let later = find b more in cond (eqb b (r .0)) (some (r .1)) later
 
--- 3: byte or FB number not listed, at its first byte
+-- "the numeric codes 45 to C4": a code alone. 3: byte or FB number not listed, at its first byte
 unfoldable pub instrAt : Reader Instr
 instrAt s at =
     onByte s at (λ b.
     let prefixed = then (u32 s (at + 1)) (λ n next. given (find n afterFB) (refused notListed (at + 1)) (λ r. r s next)) in
-    let single = given (find b firstBytes) (refused notListed at) (λ r. r s (at + 1)) in
+    let arithmetic = given (numericOf b) (refused notListed at) (λ kinds. bare (numeric b) s (at + 1)) in
+    let single = given (find b firstBytes) arithmetic (λ r. r s (at + 1)) in
     cond (eqb b 0xFB) prefixed single)

@@ -15,6 +15,7 @@ pub mod Floats
 pub mod Integers
 pub mod Numeric
 pub mod Instructions
+pub mod Arithmetic
 pub mod BodyRules
 pub mod Bodies
 pub mod Machine

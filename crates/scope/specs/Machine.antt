@@ -1,5 +1,5 @@
 -- The machine of the trial run: values, objects, the heap with its two limits, locals, operands, open blocks and place;
--- one step for each instruction; traps 41 to 45 in the order in which they are looked at.
+-- one step for each instruction; traps 41 to 46 in the order in which they are looked at.
 use Prim.Native.Nat.{ℕ, zero, suc, _+_}
 use mathlib.Core.Bool.{Bool, true, false, not, cond, _&&_, Bool·beq}
 use mathlib.Core.Option.{Option, none, some}
@@ -7,12 +7,14 @@ use mathlib.Core.List.{List, [], _∷_, _++_, map, reverse}
 use lib.ListN.{length, getElem?, set}
 use lib.Dec.{eqb, ltb, leb}
 use Rattle.scope.specs.Sizes.{mostObjects, mostCells}
-use Rattle.scope.specs.Refusals.{trapUnreachable, trapNull, trapNullDescriptor, trapCast, trapNoRoom}
+use Rattle.scope.specs.Refusals.{trapUnreachable, trapNull, trapNullDescriptor, trapCast, trapNoRoom, trapOtherNumeric}
 use Rattle.scope.specs.Reading.{given}
 use Rattle.scope.specs.Lists.{sum, isNone}
 use Rattle.scope.specs.Syntax.{Heap, exact, Number, i32, i64, f32, f64, Val, num, ref, Field, Types}
-use Rattle.scope.specs.Order.{heapBelow}
-use Rattle.scope.specs.Instructions.{Cast, Op, unreachable, nop, return, drop-value, br, br-if, local-get, local-set, local-tee, i32-const, ref-null, ref-is-null, ref-eq, ref-as-non-null, struct-new, struct-new-default, struct-get, struct-set, ref-test, ref-cast, br-on-cast, br-on-cast-fail, struct-new-desc, struct-new-default-desc, ref-get-desc, ref-cast-desc-eq, br-on-cast-desc-eq, br-on-cast-desc-eq-fail, Instr, block, loop, end, op}
+use Rattle.scope.specs.Order.{sameNumber, heapBelow}
+use Rattle.scope.specs.Numeric.{Numeric, numericOf}
+use Rattle.scope.specs.Arithmetic.{asBits, Deed, ofOne, ofTwo, deedOf}
+use Rattle.scope.specs.Instructions.{Cast, Op, unreachable, nop, return, drop-value, br, br-if, local-get, local-set, local-tee, i32-const, i64-const, f32-const, f64-const, numeric, ref-null, ref-is-null, ref-eq, ref-as-non-null, struct-new, struct-new-default, struct-get, struct-set, ref-test, ref-cast, br-on-cast, br-on-cast-fail, struct-new-desc, struct-new-default-desc, ref-get-desc, ref-cast-desc-eq, br-on-cast-desc-eq, br-on-cast-desc-eq-fail, Instr, block, loop, end, op}
 use Rattle.scope.specs.BodyRules.{fieldsOf, holdsOf}
 use Rattle.scope.specs.Bodies.{Code}
 
@@ -99,6 +101,12 @@ onI32 (number f64 n) f = stuck
 onI32 null f = stuck
 onI32 (object o) f = stuck
 
+-- a number of this kind, by its bits
+abbrev pub onNumber : Number → Value → (ℕ → Outcome) → Outcome
+onNumber k (number j n) f = cond (sameNumber j k) (f n) stuck
+onNumber k null f = stuck
+onNumber k (object o) f = stuck
+
 -- a reference: none where it is null
 abbrev pub onReference : Value → (Option ℕ → Outcome) → Outcome
 onReference (number k n) f = stuck
@@ -120,7 +128,7 @@ splitTop (suc n) [] = none
 splitTop (suc n) (v ∷ vs) = given (splitTop n vs) none (λ r. some (v ∷ r .0, r .1))
 
 abbrev pub truth : Bool → Value
-truth b = number i32 (cond b 1 0)
+truth b = number i32 (asBits b)
 
 -- "zero or null": the value with which a local starts, where its type has a default
 abbrev pub defaultOf : Val → Option Value
@@ -193,6 +201,21 @@ withField it i v = record { type = it .type; descriptor = it .descriptor; fields
 abbrev pub onSet : Machine → ℕ → Value → (Machine → Outcome) → Outcome
 onSet m x v f = given (getElem? (m .locals) x) stuck (λ old. f (withLocals m (set (m .locals) x (some v))))
 
+-- numbers
+
+-- a result in place of the operands that it is of; the second operand is on top
+abbrev pub calculate : Machine → Numeric → List Value → Deed → Outcome
+calculate m kinds vs (ofOne f) =
+    onTaken vs (λ v below. onNumber (kinds .kind) v (λ a. goes (withOperands m (number (kinds .result) (f a) ∷ below))))
+calculate m kinds vs (ofTwo f) =
+    onTaken vs (λ w others.
+    onTaken others (λ v below.
+    onNumber (kinds .kind) w (λ b. onNumber (kinds .kind) v (λ a. goes (withOperands m (number (kinds .result) (f a b) ∷ below))))))
+
+-- "Another numeric code stops the run with new trap 46": whatever its operands are
+unfoldable pub doNumeric : Machine → List Value → ℕ → Outcome
+doNumeric m vs b = given (deedOf b) (traps trapOtherNumeric) (λ deed. given (numericOf b) stuck (λ kinds. calculate m kinds vs deed))
+
 -- branches
 
 -- how many ends are to be passed after this instruction, where one more than n were before it
@@ -245,6 +268,10 @@ doOp p m vs (local-get x) =
 doOp p m vs (local-set x) = onTaken vs (λ v below. onSet m x v (λ after. goes (withOperands after below)))
 doOp p m vs (local-tee x) = onTaken vs (λ v below. onSet m x v goes)
 doOp p m vs (i32-const n) = goes (withOperands m (number i32 n ∷ vs))
+doOp p m vs (i64-const n) = goes (withOperands m (number i64 n ∷ vs))
+doOp p m vs (f32-const n) = goes (withOperands m (number f32 n ∷ vs))
+doOp p m vs (f64-const n) = goes (withOperands m (number f64 n ∷ vs))
+doOp p m vs (numeric b) = doNumeric m vs b
 doOp p m vs (ref-null h) = goes (withOperands m (null ∷ vs))
 doOp p m vs ref-is-null = onTaken vs (λ v below. onReference v (λ r. goes (withOperands m (truth (isNone r) ∷ below))))
 doOp p m vs ref-eq =

@@ -1,7 +1,9 @@
 -- "Numbers are LEB128 as the core standard has them; padding within the greatest length is allowed." One account over
--- the width: seven bits a byte, lowest first, a byte of 128 or more goes on; then the range of the width.
+-- the width: seven bits a byte, lowest first, a byte of 128 or more goes on; then the range of the width. A float is no
+-- LEB number: its bytes are its bits, and one item.
 use Prim.Native.Nat.{ℕ, zero, suc, _+_, _-_, _*_, _^_, _/_}
 use mathlib.Core.Bool.{Bool, true, false, cond}
+use mathlib.Core.Option.{Option, none, some}
 use mathlib.Core.List.{List}
 use lib.ListN.{getElem?}
 use lib.Dec.{ltb, leb}
@@ -66,7 +68,32 @@ s32 = signed 32
 abbrev pub s33 : Reader Whole
 s33 = signed 33
 
+abbrev pub s64 : Reader Whole
+s64 = signed 64
+
 -- an i32 is kept as 32 bits
 abbrev pub bits32 : Whole → ℕ
 bits32 (plus v) = v
 bits32 (minus v) = 2 ^ 32 - v
+
+-- and an i64 as 64
+abbrev pub bits64 : Whole → ℕ
+bits64 (plus v) = v
+bits64 (minus v) = 2 ^ 64 - v
+
+-- so many bytes as one number, the lowest first; none where a byte is missing
+unfoldable pub littleEndian : ℕ → List ℕ → ℕ → Option ℕ
+littleEndian zero s at = some 0
+littleEndian (suc n) s at =
+    given (getElem? s at) none (λ b. let higher = littleEndian n s (at + 1) in given higher none (λ v. some (b + 256 * v)))
+
+-- "a float's bytes being one item": 1 at the first of them, whichever is missing
+unfoldable pub floatBytes : ℕ → Reader ℕ
+floatBytes n s at = given (littleEndian n s at) (refused bytesEnd at) (λ v. got v (at + n))
+
+-- the bits of an f32 are four bytes, those of an f64 eight
+abbrev pub float32 : Reader ℕ
+float32 = floatBytes 4
+
+abbrev pub float64 : Reader ℕ
+float64 = floatBytes 8

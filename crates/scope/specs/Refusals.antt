@@ -112,3 +112,7 @@ trapCast = 44
 -- trap: no room
 abbrev pub trapNoRoom : ℕ
 trapNoRoom = 45
+
+-- trap: a numeric code other than those that the run does
+abbrev pub trapOtherNumeric : ℕ
+trapOtherNumeric = 46

@@ -14,3 +14,6 @@ pub const CAST: u64 = 44;
 
 // no room
 pub const NO_ROOM: u64 = 45;
+
+// a numeric code other than those that the run does
+pub const OTHER_NUMERIC: u64 = 46;
