@@ -10,5 +10,4 @@ pub mod Wholes
 pub mod Comparisons
 pub mod Integers
 pub mod Laws
-pub mod Codes
 pub mod Vectors

@@ -1,7 +1,6 @@
 pub mod Halfway
 pub mod Standard
 pub mod Comparing
-pub mod Codes
 pub mod Laws
 pub mod Vectors
 pub mod SingleVectors

@@ -1,7 +1,7 @@
--- Soundness is not vacuous: accepted programs whose runs are computed, and reach done, each of the five traps and spent.
+-- Soundness is not vacuous: accepted programs whose runs are computed, and reach done, each of the six traps and spent.
 -- Among them are descriptors, descriptors of descriptors, supertypes of both, casts that pass and that fail, the four
--- branching casts, between types of which neither is below the other too, a field that is set, and loops. One list and one
--- claim about it.
+-- branching casts, between types of which neither is below the other too, a field that is set, loops, and numbers of each kind
+-- in operands, locals and fields. One list and one claim about it.
 use Prim.Native.Nat.{ℕ}
 use mathlib.Core.Path.{_≡_, refl}
 use mathlib.Core.Bool.{Bool, true}
@@ -43,10 +43,10 @@ pub record Sample : Type 0 where
   pub ends : List ℕ
 
 -- the section: type 0 with descriptor 1, which has descriptor 2; type 3 below 0, with descriptor 4 below 1, which has
--- descriptor 5 below 2; type 6 is () → i32; type 7 has 64 fields
+-- descriptor 5 below 2; type 6 is () → i32; type 7 has 64 fields; type 8 has a field of each other kind of number
 abbrev pub types : List ℕ
 types =
-    (0x03 ∷ 0x4E ∷ 0x06 ∷ [])
+    (0x04 ∷ 0x4E ∷ 0x06 ∷ [])
     ++ (0x50 ∷ 0x00 ∷ 0x4D ∷ 0x01 ∷ 0x5F ∷ 0x01 ∷ 0x7F ∷ 0x01 ∷ [])
     ++ (0x50 ∷ 0x00 ∷ 0x4C ∷ 0x00 ∷ 0x4D ∷ 0x02 ∷ 0x5F ∷ 0x00 ∷ [])
     ++ (0x50 ∷ 0x00 ∷ 0x4C ∷ 0x01 ∷ 0x5F ∷ 0x00 ∷ [])
@@ -56,6 +56,7 @@ types =
     ++ (0x60 ∷ 0x00 ∷ 0x01 ∷ 0x7F ∷ [])
     ++ (0x5F ∷ 0x40 ∷ [])
     ++ joined (replicate mostEach (0x7F ∷ 0x00 ∷ []))
+    ++ (0x5F ∷ 0x03 ∷ 0x7E ∷ 0x01 ∷ 0x7D ∷ 0x01 ∷ 0x7C ∷ 0x01 ∷ [])
 
 -- instructions, as bytes
 
@@ -83,6 +84,20 @@ local-tee x = 0x22 ∷ x ∷ []
 abbrev i32-const : ℕ → List ℕ
 i32-const n = 0x41 ∷ n ∷ []
 
+abbrev i64-const : ℕ → List ℕ
+i64-const n = 0x42 ∷ n ∷ []
+
+-- by its two highest bytes; the others are zero
+abbrev f32-const : ℕ → ℕ → List ℕ
+f32-const a b = 0x43 ∷ 0x00 ∷ 0x00 ∷ b ∷ a ∷ []
+
+abbrev f64-const : ℕ → ℕ → List ℕ
+f64-const a b = 0x44 ∷ 0x00 ∷ 0x00 ∷ 0x00 ∷ 0x00 ∷ 0x00 ∷ 0x00 ∷ b ∷ a ∷ []
+
+-- by the code
+abbrev numeric : ℕ → List ℕ
+numeric code = code ∷ []
+
 -- (ref x) as a block's result; no result
 abbrev block-of : ℕ → List ℕ
 block-of x = 0x02 ∷ 0x64 ∷ x ∷ []
@@ -95,6 +110,9 @@ new-default x = 0xFB ∷ 0x01 ∷ x ∷ []
 
 abbrev new-default-desc : ℕ → List ℕ
 new-default-desc x = 0xFB ∷ 0x21 ∷ x ∷ []
+
+abbrev struct-new : ℕ → List ℕ
+struct-new x = 0xFB ∷ 0x00 ∷ x ∷ []
 
 abbrev struct-get : ℕ → ℕ → List ℕ
 struct-get x i = 0xFB ∷ 0x02 ∷ x ∷ i ∷ []
@@ -147,6 +165,13 @@ descriptorLocal = 0x01 ∷ 0x01 ∷ 0x63 ∷ 0x62 ∷ 0x04 ∷ []
 
 abbrev upperLocal : List ℕ
 upperLocal = 0x01 ∷ 0x01 ∷ 0x63 ∷ 0x00 ∷ []
+
+-- one local: an i64, or an f64
+abbrev i64Local : List ℕ
+i64Local = 0x01 ∷ 0x01 ∷ 0x7E ∷ []
+
+abbrev f64Local : List ℕ
+f64Local = 0x01 ∷ 0x01 ∷ 0x7C ∷ []
 
 -- an object of type 0 with a descriptor of type 1, which has one of type 2
 abbrev upper : List ℕ
@@ -229,10 +254,32 @@ acrossTypes =
     ∷ record { body = joined (noLocals ∷ block-of 7 ∷ new-default 7 ∷ lowerDescriptor ∷ br-on-cast-desc-eq-fail 7 3 ∷ unreachable ∷ end ∷ struct-get 7 0 ∷ end ∷ []); budget = 100; ends = done-after 7 0 }
     ∷ []
 
+-- Request 1 of document 02: numbers of each kind.
+abbrev withNumbers : List Sample
+withNumbers =
+    -- i32: 0 - 1 is less than 0
+    record { body = joined (noLocals ∷ i32-const 0 ∷ i32-const 1 ∷ numeric 0x6B ∷ i32-const 0 ∷ numeric 0x48 ∷ end ∷ []); budget = 100; ends = done-after 6 1 }
+    -- i64: -1 + 1 is zero; so is a local at first
+    ∷ record { body = joined (noLocals ∷ i64-const 0x7F ∷ i64-const 1 ∷ numeric 0x7C ∷ numeric 0x50 ∷ end ∷ []); budget = 100; ends = done-after 5 1 }
+    ∷ record { body = joined (i64Local ∷ local-get 0 ∷ numeric 0x50 ∷ end ∷ []); budget = 100; ends = done-after 3 1 }
+    -- f32: 1.5 + 2.5 is 4
+    ∷ record { body = joined (noLocals ∷ f32-const 0x3F 0xC0 ∷ f32-const 0x40 0x20 ∷ numeric 0x92 ∷ f32-const 0x40 0x80 ∷ numeric 0x5B ∷ end ∷ []); budget = 100; ends = done-after 6 1 }
+    -- f64, in a field and in a local: -1 divided by itself is 1
+    ∷ record {
+      body = joined (f64Local ∷ i64-const 0 ∷ f32-const 0 0 ∷ f64-const 0x3F 0xF0 ∷ struct-new 8 ∷ struct-get 8 2 ∷ numeric 0x9A ∷ local-tee 0 ∷ local-get 0 ∷ numeric 0xA3 ∷ f64-const 0x3F 0xF0 ∷ numeric 0x61 ∷ end ∷ []);
+      budget = 100;
+      ends = done-after 12 1;
+    }
+    -- 46: a division by zero, a root, a conversion
+    ∷ record { body = joined (noLocals ∷ i32-const 1 ∷ i32-const 0 ∷ numeric 0x6D ∷ end ∷ []); budget = 100; ends = trap-after 46 3 }
+    ∷ record { body = joined (noLocals ∷ new-default 8 ∷ struct-get 8 1 ∷ numeric 0x91 ∷ drop-value ∷ i32-const 0 ∷ end ∷ []); budget = 100; ends = trap-after 46 3 }
+    ∷ record { body = joined (noLocals ∷ i32-const 1 ∷ numeric 0xAC ∷ numeric 0x50 ∷ end ∷ []); budget = 100; ends = trap-after 46 2 }
+    ∷ []
+
 -- the body, of type 6, is accepted, and its run ends so
 abbrev agrees : Sample → Bool
 agrees p = pairwise eqb (trialWords (trialRun types (p .body) 6 (p .budget))) (p .ends)
 
-pub programs-run : every agrees (throughCasts ++ toTraps ++ throughBranches ++ acrossTypes) ≡ true
+pub programs-run : every agrees (throughCasts ++ toTraps ++ throughBranches ++ acrossTypes ++ withNumbers) ≡ true
 unfolding computes
 programs-run = refl

@@ -1,5 +1,6 @@
 -- The numeric codes one by one: the code, the operands that its instruction takes and the result that it gives, as the core
--- standard has them beside the name: `i64.eqz : [i64] -> [i32]`. Held against the ranges of scope.
+-- standard has them beside the name: `i64.eqz : [i64] -> [i32]`. Held against the ranges of scope, and what the rules of
+-- facts_bodies and the runs of facts_numbers speak of.
 use Prim.Native.Nat.{ℕ, zero, suc}
 use mathlib.Core.Option.{Option, none, some}
 use mathlib.Core.List.{List, [], _∷_, _++_, map}
@@ -159,6 +160,15 @@ codes =
     ∷ code 0xC3 (i64 ∷ []) i64  -- i64.extend16_s
     ∷ code 0xC4 (i64 ∷ []) i64  -- i64.extend32_s
     ∷ []
+
+-- one of the list
+pub data Among {A : Type 0} (x : A) : List A → Type 0 where
+  is-first : {xs : List A} → Among x (x ∷ xs)
+  is-later : {y : A} {xs : List A} → Among x xs → Among x (y ∷ xs)
+
+-- this code takes these operands, the last on top, and gives this result
+abbrev pub Listed : ℕ → List Number → Number → Type 0
+Listed b ks r = Among (code b ks r) codes
 
 -- what every byte says: no numeric code before 45 and after C4
 abbrev pub everyByte : List (Option Typed)
