@@ -1,14 +1,21 @@
 -- A rule's derivation is a plan of the checker: each premise makes its test pass, so the rule's plan is what is left.
-use mathlib.Core.Path.{_≡_, refl}
+use Prim.Native.Nat.{ℕ}
+use mathlib.Core.Path.{_≡_, refl, ap}
 use mathlib.Core.Bool.{true}
-use mathlib.Core.List.{List, [], _∷_, _++_}
+use mathlib.Core.Option.{Option, none, some}
+use mathlib.Core.List.{List, [], _∷_, _++_, map}
 use lib.Dec.{ltb}
-use Rattle.scope.specs.Syntax.{Val, nullable}
+use Rattle.scope.specs.Syntax.{Number, Val, num, nullable}
 use Rattle.scope.specs.TypeRules.{heapNames}
+use Rattle.scope.specs.Refusals.{notListed}
+use Rattle.scope.specs.Numeric.{Numeric, numericOf}
 use Rattle.scope.specs.Instructions.{Cast, Op}
-use Rattle.scope.specs.BodyRules.{Context, Scope, Wanted, values, Plan, allowed, takes, sourceOf, targetOf, branches, planOf, fromTop, value}
-use Rattle.facts_bodies.specs.Rules.{Branching, Rule, rule-unreachable, rule-nop, rule-return, rule-drop, rule-br, rule-br-if, rule-local-get, rule-local-set, rule-local-tee, rule-i32-const, rule-ref-null, rule-ref-is-null, rule-ref-eq, rule-ref-as-non-null, rule-struct-new, rule-struct-new-default, rule-struct-get, rule-struct-set, rule-ref-test, rule-ref-cast, rule-br-on-cast, rule-br-on-cast-fail, rule-struct-new-desc, rule-struct-new-default-desc, rule-ref-get-desc, rule-ref-cast-desc-eq, rule-br-on-cast-desc-eq, rule-br-on-cast-desc-eq-fail}
-use Rattle.facts_bodies.proofs.Premises.{allBelow, append-every, number-reached-tested, heap-reached-tested, defaults-tested, set-tested, cast-takes-tested, last-found, Ordered}
+use Rattle.scope.specs.BodyRules.{Context, Scope, Wanted, values, Plan, allowed, need, takes, operandsOf, sourceOf, targetOf, branches, planOf, fromTop, value}
+use Rattle.scope.proofs.Truths.{none-is-not-some}
+use Rattle.facts_codes.specs.Numeric.{Listed}
+use Rattle.facts_bodies.specs.Rules.{Branching, Rule, rule-unreachable, rule-nop, rule-return, rule-drop, rule-br, rule-br-if, rule-local-get, rule-local-set, rule-local-tee, rule-i32-const, rule-i64-const, rule-f32-const, rule-f64-const, rule-numeric, rule-ref-null, rule-ref-is-null, rule-ref-eq, rule-ref-as-non-null, rule-struct-new, rule-struct-new-default, rule-struct-get, rule-struct-set, rule-ref-test, rule-ref-cast, rule-br-on-cast, rule-br-on-cast-fail, rule-struct-new-desc, rule-struct-new-default-desc, rule-ref-get-desc, rule-ref-cast-desc-eq, rule-br-on-cast-desc-eq, rule-br-on-cast-desc-eq-fail}
+use Rattle.facts_bodies.proofs.Numeric.{taken, takenBy, listed-taken}
+use Rattle.facts_bodies.proofs.Premises.{same-some, allBelow, append-every, number-reached-tested, heap-reached-tested, defaults-tested, set-tested, cast-takes-tested, last-found, Ordered}
 use Rattle.facts_bodies.proofs.Apart.{only-top, only-rest}
 use Rattle.facts_bodies.proofs.Hierarchies.{shares-tested}
 
@@ -26,6 +33,16 @@ module _ (c : Context) (here : Scope) (ordered : Ordered (c .types)) where
   branch-allowed k carried falls first {vs} b =
       rw (shares-tested ordered (b .shared), last-found vs (b .last), ordered .tested carried (b .last) (b .takesCarried))
 
+  -- a numeric code in the list is planned as its line says
+  numeric-derived : {b : ℕ} {ks : List Number} {r : Number} → Listed b ks r
+      → need (numericOf b) notListed (λ kinds. takes (operandsOf kinds) (values (num (kinds .result) ∷ []))) ≡ takes (fromTop (map num ks)) (values (num r ∷ []))
+  numeric-derived {b} {ks} {r} among = go (numericOf b) (listed-taken among)
+    where
+      go : (o : Option Numeric) → takenBy o ≡ some (fromTop (map num ks), num r)
+          → need o notListed (λ kinds. takes (operandsOf kinds) (values (num (kinds .result) ∷ []))) ≡ takes (fromTop (map num ks)) (values (num r ∷ []))
+      go none e = absurd (none-is-not-some e)
+      go (some kinds) e = let same : taken kinds ≡ (fromTop (map num ks), num r) = same-some e in ap (λ (t : List Wanted × Val). takes (t .0) (values (t .1 ∷ []))) same
+
   pub derived-plan : {o : Op} {p : Plan} → Rule c here o p → planOf c here o ≡ allowed p
   unfolding planOf
   derived-plan rule-unreachable = refl
@@ -38,6 +55,10 @@ module _ (c : Context) (here : Scope) (ordered : Ordered (c .types)) where
   derived-plan (rule-local-set local) = rw local
   derived-plan (rule-local-tee local) = rw local
   derived-plan rule-i32-const = refl
+  derived-plan rule-i64-const = refl
+  derived-plan rule-f32-const = refl
+  derived-plan rule-f64-const = refl
+  derived-plan (rule-numeric among) = numeric-derived among
   derived-plan (rule-ref-null inReach) = rw (heap-reached-tested (c .count) inReach)
   derived-plan rule-ref-is-null = refl
   derived-plan rule-ref-eq = refl

@@ -1,4 +1,5 @@
 pub mod Ruled
+pub mod Numeric
 pub mod Premises
 pub mod Apart
 pub mod Hierarchies

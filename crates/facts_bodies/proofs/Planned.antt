@@ -1,20 +1,23 @@
 -- A plan of the checker is a rule's derivation: the tests of an instruction, taken apart one after the other, are the rule's
 -- premises.
 use Prim.Native.Nat.{ℕ}
-use mathlib.Core.Path.{_≡_, _∙_, ap, subst}
-use mathlib.Core.Option.{none, some}
+use mathlib.Core.Path.{_≡_, _∙_, ap, sym, subst}
+use mathlib.Core.Option.{Option, none, some}
 use mathlib.Core.List.{List, [], _∷_, _++_}
 use lib.ListN.{getElem?}
 use Rattle.scope.specs.Lists.{isNone}
-use Rattle.scope.specs.Syntax.{Heap, Val, nullable, Field}
+use Rattle.scope.specs.Syntax.{Heap, Val, num, nullable, Field}
 use Rattle.scope.specs.TypeRules.{heapNames}
-use Rattle.scope.specs.Instructions.{Cast, Op, unreachable, nop, return, drop-value, br, br-if, local-get, local-set, local-tee, i32-const, ref-null, ref-is-null, ref-eq, ref-as-non-null, struct-new, struct-new-default, struct-get, struct-set, ref-test, ref-cast, br-on-cast, br-on-cast-fail, struct-new-desc, struct-new-default-desc, ref-get-desc, ref-cast-desc-eq, br-on-cast-desc-eq, br-on-cast-desc-eq-fail}
-use Rattle.scope.specs.BodyRules.{Context, Scope, Wanted, values, Plan, Ruled, allowed, takes, holdsOf, lastOf, sourceOf, targetOf, restOf, reached, structOf, fieldOf, undescribed, defaulted, castReached, branches, planOf, fromTop, value}
+use Rattle.scope.specs.Numeric.{Numeric, numericOf}
+use Rattle.scope.specs.Instructions.{Cast, Op, unreachable, nop, return, drop-value, br, br-if, local-get, local-set, local-tee, i32-const, i64-const, f32-const, f64-const, numeric, ref-null, ref-is-null, ref-eq, ref-as-non-null, struct-new, struct-new-default, struct-get, struct-set, ref-test, ref-cast, br-on-cast, br-on-cast-fail, struct-new-desc, struct-new-default-desc, ref-get-desc, ref-cast-desc-eq, br-on-cast-desc-eq, br-on-cast-desc-eq-fail}
+use Rattle.scope.specs.BodyRules.{Context, Scope, Wanted, values, Plan, Ruled, allowed, takes, operandsOf, holdsOf, lastOf, sourceOf, targetOf, restOf, reached, structOf, fieldOf, undescribed, defaulted, castReached, branches, planOf, fromTop, value}
 use Rattle.scope.proofs.Order.{tested-value-order}
+use Rattle.facts_codes.proofs.Numeric.{numeric-listed}
 use Rattle.facts_bodies.specs.Premises.{Each, HeapReached, Default}
-use Rattle.facts_bodies.specs.Rules.{StructType, FieldOf, Branching, Rule, rule-unreachable, rule-nop, rule-return, rule-drop, rule-br, rule-br-if, rule-local-get, rule-local-set, rule-local-tee, rule-i32-const, rule-ref-null, rule-ref-is-null, rule-ref-eq, rule-ref-as-non-null, rule-struct-new, rule-struct-new-default, rule-struct-get, rule-struct-set, rule-ref-test, rule-ref-cast, rule-br-on-cast, rule-br-on-cast-fail, rule-struct-new-desc, rule-struct-new-default-desc, rule-ref-get-desc, rule-ref-cast-desc-eq, rule-br-on-cast-desc-eq, rule-br-on-cast-desc-eq-fail}
+use Rattle.facts_bodies.specs.Rules.{StructType, FieldOf, Branching, Rule, rule-unreachable, rule-nop, rule-return, rule-drop, rule-br, rule-br-if, rule-local-get, rule-local-set, rule-local-tee, rule-i32-const, rule-i64-const, rule-f32-const, rule-f64-const, rule-numeric, rule-ref-null, rule-ref-is-null, rule-ref-eq, rule-ref-as-non-null, rule-struct-new, rule-struct-new-default, rule-struct-get, rule-struct-set, rule-ref-test, rule-ref-cast, rule-br-on-cast, rule-br-on-cast-fail, rule-struct-new-desc, rule-struct-new-default-desc, rule-ref-get-desc, rule-ref-cast-desc-eq, rule-br-on-cast-desc-eq, rule-br-on-cast-desc-eq-fail}
+use Rattle.facts_bodies.proofs.Numeric.{taken, takenBy, lineTaken, listed-taken}
 use Rattle.facts_bodies.proofs.Ruled.{same-allowed, test-passed, need-met}
-use Rattle.facts_bodies.proofs.Premises.{every-append, tested-number-reached, tested-heap-reached, tested-defaults, tested-set, has-fields, has-none, tested-cast-takes, found-last}
+use Rattle.facts_bodies.proofs.Premises.{same-some, every-append, tested-number-reached, tested-heap-reached, tested-defaults, tested-set, has-fields, has-none, tested-cast-takes, found-last}
 use Rattle.facts_bodies.proofs.Apart.{top-stands, rest-stands}
 use Rattle.facts_bodies.proofs.Hierarchies.{tested-shares}
 
@@ -90,6 +93,14 @@ module _ (c : Context) (here : Scope) where
       } in
       (split .0, branching, plan)
 
+  -- a numeric code, by its line in the list
+  numeric-stated : (b : ℕ) {kinds : Numeric} {p : Plan} → numericOf b ≡ some kinds → takes (operandsOf kinds) (values (num (kinds .result) ∷ [])) ≡ allowed p → Rule c here (numeric b) p
+  numeric-stated b {kinds} {p} is e =
+      let (line, among, byte) = numeric-listed b is in
+      let said : taken kinds ≡ lineTaken line = same-some (sym (ap (λ (o : Option Numeric). takenBy o) is) ∙ ap (λ (n : ℕ). takenBy (numericOf n)) (sym byte) ∙ listed-taken among) in
+      let made = subst (λ (t : List Wanted × Val). takes (t .0) (values (t .1 ∷ [])) ≡ allowed p) said e in
+      subst (λ (n : ℕ). Rule c here (numeric n) p) byte (stated (rule-numeric among) made)
+
   -- instruction by instruction
 
   pub planned-rule : (o : Op) {p : Plan} → planOf c here o ≡ allowed p → Rule c here o p
@@ -107,6 +118,10 @@ module _ (c : Context) (here : Scope) where
   planned-rule (local-set x) e = let (v, local, plan) = need-met _ _ _ e in stated (rule-local-set local) plan
   planned-rule (local-tee x) e = let (v, local, plan) = need-met _ _ _ e in stated (rule-local-tee local) plan
   planned-rule (i32-const n) e = stated rule-i32-const e
+  planned-rule (i64-const n) e = stated rule-i64-const e
+  planned-rule (f32-const n) e = stated rule-f32-const e
+  planned-rule (f64-const n) e = stated rule-f64-const e
+  planned-rule (numeric b) e = let (kinds, is, plan) = need-met _ _ _ e in numeric-stated b is plan
   planned-rule (ref-null h) e = let (inReach, plan) = heap-found h _ e in stated (rule-ref-null inReach) plan
   planned-rule ref-is-null e = stated rule-ref-is-null e
   planned-rule ref-eq e = stated rule-ref-eq e

@@ -12,7 +12,7 @@ use Rattle.scope.specs.Instructions.{Op}
 use Rattle.scope.specs.Bodies.{Operand, known, unknown, unknownReference, fits, Taken, takeAll, put}
 use Rattle.scope.proofs.Truths.{decided}
 use Rattle.facts_bodies.specs.Premises.{OperandFits, known-below, as-reference, Takes, takes-none, takes-top, takes-unknown, Puts, puts-values, puts-non-null, puts-of-unknown, puts-of-unknown-reference, puts-exact-descriptor, puts-descriptor}
-use Rattle.facts_bodies.specs.Rules.{Rule, rule-unreachable, rule-nop, rule-return, rule-drop, rule-br, rule-br-if, rule-local-get, rule-local-set, rule-local-tee, rule-i32-const, rule-ref-null, rule-ref-is-null, rule-ref-eq, rule-ref-as-non-null, rule-struct-new, rule-struct-new-default, rule-struct-get, rule-struct-set, rule-ref-test, rule-ref-cast, rule-br-on-cast, rule-br-on-cast-fail, rule-struct-new-desc, rule-struct-new-default-desc, rule-ref-get-desc, rule-ref-cast-desc-eq, rule-br-on-cast-desc-eq, rule-br-on-cast-desc-eq-fail}
+use Rattle.facts_bodies.specs.Rules.{Rule, rule-unreachable, rule-nop, rule-return, rule-drop, rule-br, rule-br-if, rule-local-get, rule-local-set, rule-local-tee, rule-i32-const, rule-i64-const, rule-f32-const, rule-f64-const, rule-numeric, rule-ref-null, rule-ref-is-null, rule-ref-eq, rule-ref-as-non-null, rule-struct-new, rule-struct-new-default, rule-struct-get, rule-struct-set, rule-ref-test, rule-ref-cast, rule-br-on-cast, rule-br-on-cast-fail, rule-struct-new-desc, rule-struct-new-default-desc, rule-ref-get-desc, rule-ref-cast-desc-eq, rule-br-on-cast-desc-eq, rule-br-on-cast-desc-eq-fail}
 use Rattle.facts_bodies.proofs.Ruled.{fault-is-not-allowed, same-allowed, test-passed, first-allowed}
 use Rattle.facts_bodies.proofs.Premises.{Ordered, number-not-below-reference, tested-fits, fits-tested, tested-meets, meets-tested}
 
@@ -68,6 +68,10 @@ rule-answers (rule-local-get local isSet) = by-itself
 rule-answers (rule-local-set local) = by-itself
 rule-answers (rule-local-tee local) = by-itself
 rule-answers rule-i32-const = by-itself
+rule-answers rule-i64-const = by-itself
+rule-answers rule-f32-const = by-itself
+rule-answers rule-f64-const = by-itself
+rule-answers (rule-numeric among) = by-itself
 rule-answers (rule-ref-null h) = by-itself
 rule-answers rule-ref-is-null = by-itself
 rule-answers rule-ref-eq = by-itself

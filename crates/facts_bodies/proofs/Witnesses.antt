@@ -17,7 +17,7 @@ use Rattle.scope.proofs.Impossible.{contradiction}
 use Rattle.facts_bodies.specs.Premises.{abstract-reached, defined-reached}
 use Rattle.facts_bodies.specs.Apart.{ShareSupertype, OneHierarchy}
 use Rattle.facts_bodies.specs.Typing.{AllowedBody}
-use Rattle.facts_bodies.specs.Samples.{W, everyKind, forgotten, remembered, unwantedDescriptor, missingDescriptor, fixedField, targetAbove, targetBeside, otherHierarchy, labelWithoutTypes, valuesLeft, noDefault, numberAsReference, unknownAsNumber, blockStartsEmpty, labelAbsent}
+use Rattle.facts_bodies.specs.Samples.{W, everyKind, everyNumber, otherNumber, mixedNumbers, testGivesNoOther, forgotten, remembered, unwantedDescriptor, missingDescriptor, fixedField, targetAbove, targetBeside, otherHierarchy, labelWithoutTypes, valuesLeft, noDefault, numberAsReference, unknownAsNumber, blockStartsEmpty, labelAbsent}
 use Rattle.facts_bodies.proofs.Hierarchies.{tested-shares, matching-shares, shared-exactly-in-one-hierarchy, one-hierarchy-exactly-tested}
 use Rattle.facts_bodies.proofs.Main.{accepted-exactly-when-allowed}
 
@@ -52,7 +52,7 @@ underivable s e a =
     let (b, yes′) = accepted-exactly-when-allowed W s 6 W-accepted .1 a in
     contradiction cc
 
--- a yes: 87 instructions of every kind; a local that is set around a block; branching casts to a type above the source, and to one
+-- a yes: 87 instructions of every kind; 44 with numbers of every kind; a local that is set around a block; branching casts to a type above the source, and to one
 -- beside it that may be null
 
 pub every-kind-allowed : AllowedBody types 6 everyKind
@@ -62,6 +62,14 @@ every-kind-allowed = derived everyKind refl
 pub every-kind-counted : countOf (judgeBody W everyKind 6) ≡ 87
 unfolding computes
 every-kind-counted = refl
+
+pub every-number-allowed : AllowedBody types 6 everyNumber
+unfolding computes
+every-number-allowed = derived everyNumber refl
+
+pub every-number-counted : countOf (judgeBody W everyNumber 6) ≡ 44
+unfolding computes
+every-number-counted = refl
 
 pub remembered-allowed : AllowedBody types 6 remembered
 unfolding computes
@@ -116,6 +124,18 @@ number-as-reference-not-allowed = underivable numberAsReference {n = 20} {p = 3}
 pub unknown-as-number-not-allowed : ¬ AllowedBody types 6 unknownAsNumber
 unfolding computes
 unknown-as-number-not-allowed = underivable unknownAsNumber {n = 20} {p = 3} refl
+
+pub other-number-not-allowed : ¬ AllowedBody types 6 otherNumber
+unfolding computes
+other-number-not-allowed = underivable otherNumber {n = 20} {p = 4} refl
+
+pub mixed-numbers-not-allowed : ¬ AllowedBody types 6 mixedNumbers
+unfolding computes
+mixed-numbers-not-allowed = underivable mixedNumbers {n = 20} {p = 15} refl
+
+pub test-gives-no-other : ¬ AllowedBody types 6 testGivesNoOther
+unfolding computes
+test-gives-no-other = underivable testGivesNoOther {n = 20} {p = 4} refl
 
 pub block-starts-empty-not-allowed : ¬ AllowedBody types 6 blockStartsEmpty
 unfolding computes

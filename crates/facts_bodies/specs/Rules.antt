@@ -4,13 +4,14 @@ use Prim.Native.Nat.{ℕ, _<_}
 use mathlib.Core.Path.{_≡_}
 use mathlib.Core.Bool.{Bool, true, false}
 use mathlib.Core.Option.{none, some}
-use mathlib.Core.List.{List, [], _∷_, _++_}
+use mathlib.Core.List.{List, [], _∷_, _++_, map}
 use lib.ListN.{getElem?}
 use Rattle.scope.specs.Abstract.{Abstract, ANY, EQ}
-use Rattle.scope.specs.Syntax.{Heap, abstract, defined, exact, i32, Val, num, ref, nullable, nonNull, Field, struct}
+use Rattle.scope.specs.Syntax.{Heap, abstract, defined, exact, Number, i32, i64, f32, f64, Val, num, ref, nullable, nonNull, Field, struct}
 use Rattle.scope.specs.Order.{ValOrder}
-use Rattle.scope.specs.Instructions.{Cast, Op, unreachable, nop, return, drop-value, br, br-if, local-get, local-set, local-tee, i32-const, ref-null, ref-is-null, ref-eq, ref-as-non-null, struct-new, struct-new-default, struct-get, struct-set, ref-test, ref-cast, br-on-cast, br-on-cast-fail, struct-new-desc, struct-new-default-desc, ref-get-desc, ref-cast-desc-eq, br-on-cast-desc-eq, br-on-cast-desc-eq-fail}
+use Rattle.scope.specs.Instructions.{Cast, Op, unreachable, nop, return, drop-value, br, br-if, local-get, local-set, local-tee, i32-const, i64-const, f32-const, f64-const, numeric, ref-null, ref-is-null, ref-eq, ref-as-non-null, struct-new, struct-new-default, struct-get, struct-set, ref-test, ref-cast, br-on-cast, br-on-cast-fail, struct-new-desc, struct-new-default-desc, ref-get-desc, ref-cast-desc-eq, br-on-cast-desc-eq, br-on-cast-desc-eq-fail}
 use Rattle.scope.specs.BodyRules.{Context, Scope, Wanted, value, anyValue, anyReference, Gives, values, itNonNull, itsDescriptor, Plan, fromTop, holdsOf}
+use Rattle.facts_codes.specs.Numeric.{Listed}
 use Rattle.facts_bodies.specs.Premises.{Each, HeapReached, Default, CastTakes}
 use Rattle.facts_bodies.specs.Apart.{TopOf, castSource, castTarget, ShareSupertype, Rest}
 
@@ -66,6 +67,12 @@ pub data Rule (c : Context) (here : Scope) : Op → Plan → Type 0 where
   rule-local-set : {x : ℕ} {v : Val} → getElem? (c .locals) x ≡ some v → Rule c here (local-set x) (setting x (value v ∷ []) (values []))
   rule-local-tee : {x : ℕ} {v : Val} → getElem? (c .locals) x ≡ some v → Rule c here (local-tee x) (setting x (value v ∷ []) (values (v ∷ [])))
   rule-i32-const : {n : ℕ} → Rule c here (i32-const n) (taking [] (values (num i32 ∷ [])))
+  rule-i64-const : {n : ℕ} → Rule c here (i64-const n) (taking [] (values (num i64 ∷ [])))
+  rule-f32-const : {n : ℕ} → Rule c here (f32-const n) (taking [] (values (num f32 ∷ [])))
+  rule-f64-const : {n : ℕ} → Rule c here (f64-const n) (taking [] (values (num f64 ∷ [])))
+  -- "the numeric codes 45 to C4, with the operand and result kinds of the core standard" (request 1 of document 02): the line of
+  -- the code in the list by name
+  rule-numeric : {b : ℕ} {ks : List Number} {r : Number} → Listed b ks r → Rule c here (numeric b) (taking (fromTop (map num ks)) (values (num r ∷ [])))
   rule-ref-null : {h : Heap} → HeapReached (c .count) h → Rule c here (ref-null h) (taking [] (values (nullable h ∷ [])))
   rule-ref-is-null : Rule c here ref-is-null (taking (anyReference ∷ []) (values (num i32 ∷ [])))
   rule-ref-eq : Rule c here ref-eq (taking (value (nullable (abstract EQ)) ∷ value (nullable (abstract EQ)) ∷ []) (values (num i32 ∷ [])))
