@@ -1,2 +1,3 @@
-pub mod Codes
 pub mod Numeric
+pub mod Codes
+pub mod Proper

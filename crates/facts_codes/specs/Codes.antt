@@ -1,14 +1,17 @@
--- The codes of document 01's list of instructions, one by one: these bytes are that instruction, and nothing more. "FB, a u32 in
--- LEB" may be padded; "flags 0 to 3 (bit 0 source null, bit 1 target null)"; -5 is kept as 32 bits.
+-- The codes of document 01's list of instructions and of request 1 of document 02, one by one: these bytes are that instruction,
+-- and nothing more. "FB, a u32 in LEB" may be padded; "flags 0 to 3 (bit 0 source null, bit 1 target null)"; -5 is kept as 32 bits.
+-- And bytes that are none: codes that are not listed, and numbers that are cut or out of range.
 use Prim.Native.Nat.{ℕ}
 use mathlib.Core.Path.{_≡_}
 use mathlib.Core.Bool.{true, false}
-use mathlib.Core.List.{List, [], _∷_}
+use mathlib.Core.List.{List, [], _∷_, _++_, map}
 use lib.ListN.{length}
-use Rattle.scope.specs.Reading.{got}
+use Rattle.scope.specs.Refusals.{bytesEnd, badNumber, notListed}
+use Rattle.scope.specs.Reading.{Read, got, refused}
 use Rattle.scope.specs.Abstract.{ANY, EQ}
 use Rattle.scope.specs.Syntax.{abstract, defined, exact, i64, num, nullable}
-use Rattle.scope.specs.Instructions.{Instr, block, loop, end, op, unreachable, nop, return, drop-value, br, br-if, local-get, local-set, local-tee, i32-const, ref-null, ref-is-null, ref-eq, ref-as-non-null, struct-new, struct-new-default, struct-get, struct-set, ref-test, ref-cast, br-on-cast, br-on-cast-fail, struct-new-desc, struct-new-default-desc, ref-get-desc, ref-cast-desc-eq, br-on-cast-desc-eq, br-on-cast-desc-eq-fail, instrAt}
+use Rattle.scope.specs.Instructions.{Instr, block, loop, end, op, unreachable, nop, return, drop-value, br, br-if, local-get, local-set, local-tee, i32-const, i64-const, f32-const, f64-const, numeric, ref-null, ref-is-null, ref-eq, ref-as-non-null, struct-new, struct-new-default, struct-get, struct-set, ref-test, ref-cast, br-on-cast, br-on-cast-fail, struct-new-desc, struct-new-default-desc, ref-get-desc, ref-cast-desc-eq, br-on-cast-desc-eq, br-on-cast-desc-eq-fail, instrAt}
+use Rattle.facts_codes.specs.Numeric.{upward}
 
 pub record Row : Type 0 where
   pub bytes : List ℕ
@@ -38,6 +41,13 @@ listed =
     ∷ record { bytes = 0x41 ∷ 0x05 ∷ []; instruction = op (i32-const 5) }
     ∷ record { bytes = 0x41 ∷ 0x7B ∷ []; instruction = op (i32-const 4_294_967_291) }
     ∷ record { bytes = 0x41 ∷ 0x80 ∷ 0x80 ∷ 0x80 ∷ 0x80 ∷ 0x78 ∷ []; instruction = op (i32-const 2_147_483_648) }
+    ∷ record { bytes = 0x42 ∷ 0x05 ∷ []; instruction = op (i64-const 5) }
+    ∷ record { bytes = 0x42 ∷ 0x7B ∷ []; instruction = op (i64-const 18_446_744_073_709_551_611) }
+    -- ten bytes: the least i64
+    ∷ record { bytes = 0x42 ∷ 0x80 ∷ 0x80 ∷ 0x80 ∷ 0x80 ∷ 0x80 ∷ 0x80 ∷ 0x80 ∷ 0x80 ∷ 0x80 ∷ 0x7F ∷ []; instruction = op (i64-const 9_223_372_036_854_775_808) }
+    -- the lowest byte first
+    ∷ record { bytes = 0x43 ∷ 0x01 ∷ 0x00 ∷ 0xC0 ∷ 0xFF ∷ []; instruction = op (f32-const 0xFFC0_0001) }
+    ∷ record { bytes = 0x44 ∷ 0x08 ∷ 0x07 ∷ 0x06 ∷ 0x05 ∷ 0x04 ∷ 0x03 ∷ 0x02 ∷ 0x01 ∷ []; instruction = op (f64-const 0x0102_0304_0506_0708) }
     ∷ record { bytes = 0xD0 ∷ 0x6E ∷ []; instruction = op (ref-null (abstract ANY)) }
     ∷ record { bytes = 0xD0 ∷ 0x62 ∷ 0x07 ∷ []; instruction = op (ref-null (exact 7)) }
     ∷ record { bytes = 0xD1 ∷ []; instruction = op ref-is-null }
@@ -61,4 +71,32 @@ listed =
     ∷ record { bytes = 0xFB ∷ 0x23 ∷ 0x62 ∷ 0x03 ∷ []; instruction = op (ref-cast-desc-eq false (exact 3)) }
     ∷ record { bytes = 0xFB ∷ 0x24 ∷ 0x62 ∷ 0x03 ∷ []; instruction = op (ref-cast-desc-eq true (exact 3)) }
     ∷ record { bytes = 0xFB ∷ 0x94 ∷ 0x00 ∷ 0x03 ∷ []; instruction = op (ref-test false (defined 3)) }
+    ∷ []
+
+-- the numeric codes 45 to C4, each by itself
+abbrev pub numericRead : List (Read Instr)
+numericRead = map (λ b. got (op (numeric b)) 1) (upward 0x45 128)
+
+-- the first bytes that are not listed: C5 on and FC among them
+abbrev pub unlisted : List ℕ
+unlisted = upward 0x04 7 ++ 0x0E ∷ upward 0x10 10 ++ upward 0x1B 5 ++ upward 0x23 30 ++ upward 0xC5 11 ++ 0xD2 ∷ upward 0xD5 38 ++ upward 0xFC 4
+
+pub record No : Type 0 where
+  pub bytes : List ℕ
+  pub says : Read Instr
+
+abbrev pub faulty : List No
+faulty =
+    -- "a float's bytes being one item": 1 at the first of them, though the second, the fourth or the eighth is missing
+    record { bytes = 0x43 ∷ []; says = refused bytesEnd 1 }
+    ∷ record { bytes = 0x43 ∷ 0x00 ∷ []; says = refused bytesEnd 1 }
+    ∷ record { bytes = 0x43 ∷ 0x00 ∷ 0x00 ∷ 0x80 ∷ []; says = refused bytesEnd 1 }
+    ∷ record { bytes = 0x44 ∷ 0x00 ∷ 0x00 ∷ 0x00 ∷ 0x00 ∷ 0x00 ∷ 0x00 ∷ 0xF0 ∷ []; says = refused bytesEnd 1 }
+    -- of an i64's tenth byte only 00 and 7F are in range; an eleventh is too many; nine that go on are cut
+    ∷ record { bytes = 0x42 ∷ 0x80 ∷ 0x80 ∷ 0x80 ∷ 0x80 ∷ 0x80 ∷ 0x80 ∷ 0x80 ∷ 0x80 ∷ 0x80 ∷ 0x01 ∷ []; says = refused badNumber 1 }
+    ∷ record { bytes = 0x42 ∷ 0x80 ∷ 0x80 ∷ 0x80 ∷ 0x80 ∷ 0x80 ∷ 0x80 ∷ 0x80 ∷ 0x80 ∷ 0x80 ∷ 0x80 ∷ 0x00 ∷ []; says = refused badNumber 1 }
+    ∷ record { bytes = 0x42 ∷ 0x80 ∷ 0x80 ∷ 0x80 ∷ 0x80 ∷ 0x80 ∷ 0x80 ∷ 0x80 ∷ 0x80 ∷ 0x80 ∷ []; says = refused bytesEnd 1 }
+    -- the range ends at C4, and FC begins no instruction
+    ∷ record { bytes = 0xC5 ∷ []; says = refused notListed 0 }
+    ∷ record { bytes = 0xFC ∷ 0x00 ∷ []; says = refused notListed 0 }
     ∷ []

@@ -1,2 +1,3 @@
-// Every code of document 01's list of instructions, read by the definitions. No code: specs/Codes.antt has the rows and
-// proofs/Codes.antt reads each.
+// Every code of document 01's list of instructions and of request 1 of document 02, read by the definitions; the numeric codes by
+// name. No code: specs/ has the rows, proofs/Codes.antt and proofs/Numeric.antt hold the definitions against each, and
+// proofs/Proper.antt says what every instruction has that is read.
