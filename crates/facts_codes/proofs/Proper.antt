@@ -124,6 +124,13 @@ float-small {s} bytes n at = go (littleEndian n s at) refl
     go none e = gives-nothing
     go (some v) e = gives-this (little-small bytes n at e)
 
+-- numeric codes
+
+pub listed-at : (b : ℕ) {kinds : Numeric} → numericOf b ≡ some kinds → CodeListed b
+listed-at b e =
+    let (line, among, byte) = numeric-listed b e in
+    subst CodeListed byte (code-listed {ks = line .typed .takes} {r = line .typed .gives} among)
+
 -- the rows of the two tables
 
 module _ (s : List ℕ) where
@@ -204,11 +211,6 @@ module _ (s : List ℕ) where
       go : (t : Bool) → Gives (Proper s) (given (find b more) other (λ q. q s at)) → Gives (Proper s) (given (cond t (some r) (find b more)) other (λ q. q s at))
       go true later = k at
       go false later = later
-
-  listed-at : (b : ℕ) {kinds : Numeric} → numericOf b ≡ some kinds → CodeListed b
-  listed-at b e =
-      let (line, among, byte) = numeric-listed b e in
-      subst CodeListed byte (code-listed {ks = line .typed .takes} {r = line .typed .gives} among)
 
   numeric-proper : (b number place next : ℕ) → Gives (Proper s) (given (numericOf b) (refused number place) (λ kinds. bare (numeric b) s next))
   numeric-proper b number place next = go (numericOf b) refl

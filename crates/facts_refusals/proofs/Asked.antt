@@ -11,16 +11,21 @@ use Rattle.scope.specs.Lists.{every}
 use Rattle.scope.specs.Syntax.{Heap, Val, nullable, Field, Form, struct, Types}
 use Rattle.scope.specs.TypeRules.{heapNames}
 use Rattle.scope.specs.Order.{valBelow}
-use Rattle.scope.specs.Instructions.{Cast, Op, unreachable, nop, return, drop-value, br, br-if, local-get, local-set, local-tee, i32-const, ref-null, ref-is-null, ref-eq, ref-as-non-null, struct-new, struct-new-default, struct-get, struct-set, ref-test, ref-cast, br-on-cast, br-on-cast-fail, struct-new-desc, struct-new-default-desc, ref-get-desc, ref-cast-desc-eq, br-on-cast-desc-eq, br-on-cast-desc-eq-fail}
+use Rattle.scope.specs.Numeric.{numericOf}
+use Rattle.scope.specs.Instructions.{Cast, Op, unreachable, nop, return, drop-value, br, br-if, local-get, local-set, local-tee, i32-const, i64-const, f32-const, f64-const, numeric, ref-null, ref-is-null, ref-eq, ref-as-non-null, struct-new, struct-new-default, struct-get, struct-set, ref-test, ref-cast, br-on-cast, br-on-cast-fail, struct-new-desc, struct-new-default-desc, ref-get-desc, ref-cast-desc-eq, br-on-cast-desc-eq, br-on-cast-desc-eq-fail}
 use Rattle.scope.specs.BodyRules.{Context, Scope, Wanted, value, Ruled, fieldsOf, holdsOf, hasDefault, descriptorFor, lastOf, targetOf, restOf, reached, labelled, localOf, structOf, fieldOf, undescribed, described, castDescriptor, changeable, branches, defaulted, alreadySet, castReached, planOf}
 use Rattle.scope.proofs.Truths.{none-is-not-some}
 use Rattle.scope.proofs.Order.{tested-value-order}
+use Rattle.facts_codes.specs.Numeric.{typedOf}
+use Rattle.facts_codes.specs.Proper.{CodeListed, code-listed}
+use Rattle.facts_codes.proofs.Numeric.{listed-typed}
+use Rattle.facts_codes.proofs.Proper.{listed-at}
 use Rattle.facts_sections.specs.FirstFault.{Rule}
 use Rattle.facts_sections.specs.TypeRelations.{IsStruct, a-struct}
 use Rattle.facts_bodies.specs.Premises.{Each, of-none, of-first, HeapReached, Default}
 use Rattle.facts_bodies.proofs.Premises.{same-some, allBelow, every-append, append-every, tested-number-reached, number-reached-tested, tested-heap-reached, heap-reached-tested, tested-defaults, defaults-tested, tested-set, set-tested, has-fields, has-none, tested-cast-takes, cast-takes-tested, found-last, last-found, Ordered}
 use Rattle.facts_bodies.proofs.Hierarchies.{tested-shares, shares-tested}
-use Rattle.facts_refusals.specs.Instructions.{heapsReached, typeReached, labelThere, localThere, isStruct, hasField, noDescriptor, hasDescriptor, castDescribed, fieldMutable, supertypeShared, labelHasTypes, labelTakes, allDefaults, localSet, Present, present, HasField, has-field, Named, named, CastDescribed, cast-described, FieldMutable, field-mutable, LabelHasTypes, label-has-types, LabelTakes, label-takes, AllDefaults, all-defaults, ruleOf, askedRules}
+use Rattle.facts_refusals.specs.Instructions.{codeListed, heapsReached, typeReached, labelThere, localThere, isStruct, hasField, noDescriptor, hasDescriptor, castDescribed, fieldMutable, supertypeShared, labelHasTypes, labelTakes, allDefaults, localSet, Present, present, HasField, has-field, Named, named, CastDescribed, cast-described, FieldMutable, field-mutable, LabelHasTypes, label-has-types, LabelTakes, label-takes, AllDefaults, all-defaults, ruleOf, askedRules}
 use Rattle.facts_refusals.proofs.Judged.{Judges, nothing-asked, judges-test, judges-need}
 
 -- what is there is not missing
@@ -54,6 +59,9 @@ named-said o e = rw e named
 
 cast-not-missing : {ts : Types} {h : Heap} → CastDescribed ts h → descriptorFor ts h ≡ none → ⊥
 cast-not-missing {ts} (cast-described t) q = both-ways (cast-takes-tested ts t) q
+
+listed-not-missing : (b : ℕ) → CodeListed b → numericOf b ≡ none → ⊥
+listed-not-missing b (code-listed among) q = none-is-not-some (ap typedOf (sym q) ∙ listed-typed among)
 
 mutable-said : {f : Form} {fs : List Field} {i : ℕ} {g : Field} → f ≡ struct fs → getElem? fs i ≡ some g → g .mutable ≡ true → FieldMutable i f
 mutable-said e p m = rw e (field-mutable p m)
@@ -179,6 +187,10 @@ module _ (c : Context) (here : Scope) (ordered : Ordered (c .types)) where
   plan-asked (local-set x) = local-asked x (λ v. nothing-asked)
   plan-asked (local-tee x) = local-asked x (λ v. nothing-asked)
   plan-asked (i32-const n) = nothing-asked
+  plan-asked (i64-const n) = nothing-asked
+  plan-asked (f32-const n) = nothing-asked
+  plan-asked (f64-const n) = nothing-asked
+  plan-asked (numeric b) = judges-need _ (λ kinds e. listed-at b e) (listed-not-missing b) (λ kinds e. nothing-asked)
   plan-asked (ref-null h) = heap-asked h nothing-asked
   plan-asked ref-is-null = nothing-asked
   plan-asked ref-eq = nothing-asked

@@ -6,12 +6,12 @@ use mathlib.Core.Path.{_≡_, refl}
 use mathlib.Core.Bool.{true}
 use mathlib.Core.List.{List, [], _∷_, _++_, map}
 use lib.ListN.{length}
-use Rattle.scope.specs.Refusals.{badOperand, badStruct, oversize}
+use Rattle.scope.specs.Refusals.{bytesEnd, notListed, badOperand, badStruct, oversize}
 use Rattle.scope.specs.Reading.{Read, got, refused}
 use Rattle.scope.specs.Numbers.{u32}
 use Rattle.scope.specs.Syntax.{Val, Definition}
 use Rattle.scope.specs.Sections.{valAt}
-use Rattle.scope.specs.Instructions.{Op, Instr, block, loop, end, op, unreachable, nop, return, drop-value, br, br-if, local-get, local-set, local-tee, i32-const, ref-null, ref-is-null, ref-eq, ref-as-non-null, struct-new, struct-new-default, struct-get, struct-set, ref-test, ref-cast, br-on-cast, br-on-cast-fail, struct-new-desc, struct-new-default-desc, ref-get-desc, ref-cast-desc-eq, br-on-cast-desc-eq, br-on-cast-desc-eq-fail}
+use Rattle.scope.specs.Instructions.{Op, Instr, block, loop, end, op, unreachable, nop, return, drop-value, br, br-if, local-get, local-set, local-tee, i32-const, i64-const, f32-const, f64-const, numeric, ref-null, ref-is-null, ref-eq, ref-as-non-null, struct-new, struct-new-default, struct-get, struct-set, ref-test, ref-cast, br-on-cast, br-on-cast-fail, struct-new-desc, struct-new-default-desc, ref-get-desc, ref-cast-desc-eq, br-on-cast-desc-eq, br-on-cast-desc-eq-fail}
 use Rattle.scope.specs.BodyRules.{Context, Scope}
 use Rattle.scope.specs.Bodies.{State, scopeOf, Function}
 use Rattle.scope.proofs.Computes.{computes}
@@ -19,9 +19,12 @@ use Rattle.scope.proofs.Forward.{never-back, unsigned-takes, val-takes}
 use Rattle.scope.proofs.ForwardBodies.{instr-takes}
 use Rattle.facts_sections.specs.FirstFault as rules
 use Rattle.facts_sections.specs.FirstFault.{FirstBroken, broken, kept-then}
+use Rattle.facts_codes.specs.Proper.{CodeListed, ProperOp, Proper}
+use Rattle.facts_codes.proofs.Proper.{instr-proper}
+use Rattle.facts_bodies.specs.Premises.{Each, of-none, of-first}
 use Rattle.facts_bodies.specs.Typing.{Entry, EntriesAt, no-entry, next-entry, InstrsAt, no-instr, next-instr}
 use Rattle.facts_refusals.specs.Numbers.{is-left-over, InstructionFault, type-out-of-reach, is-absent, is-bad-struct, is-field-fixed, is-bad-branch, is-no-default, is-not-set, is-bad-operand, is-values-left, is-too-many, entry-out-of-reach, entry-too-many}
-use Rattle.facts_refusals.specs.Instructions.{Question, heapsReached, typeReached, labelThere, localThere, isStruct, hasField, noDescriptor, hasDescriptor, castDescribed, fieldMutable, supertypeShared, labelHasTypes, labelTakes, allDefaults, localSet, numberOf, ruleOf, asks, rising}
+use Rattle.facts_refusals.specs.Instructions.{Question, codeListed, heapsReached, typeReached, labelThere, localThere, isStruct, hasField, noDescriptor, hasDescriptor, castDescribed, fieldMutable, supertypeShared, labelHasTypes, labelTakes, allDefaults, localSet, numberOf, ruleOf, asks, rising}
 use Rattle.facts_refusals.specs.Bodies.{conditions, FaultAt, in-bytes, in-instruction, EntryFault, count-bytes, type-bytes, type-unreached, too-many, FaultyEntry, this-entry, later-entry, LocalsStand, BodySaysNo, by-section, by-size, by-type, by-count, by-locals, by-instruction, by-rest, BodyPlace, of-section, of-whole-size, of-type-number, of-bytes, of-entry, of-instruction, BodyRefusals}
 use Rattle.facts_refusals.proofs.Reading.{Heeds, unsigned-heeds, val-heeds, instr-heeds}
 use Rattle.facts_refusals.proofs.Sections.{heeded, says-no}
@@ -30,42 +33,96 @@ use Rattle.facts_refusals.proofs.Bodies.{body-no, body-no-exactly}
 
 -- an instruction's numbers
 
-question-number : (q : Question) → InstructionFault (numberOf q)
-question-number (heapsReached hs) = type-out-of-reach
-question-number (typeReached x) = type-out-of-reach
-question-number (labelThere l) = is-absent
-question-number (localThere x) = is-absent
-question-number (isStruct x) = is-bad-struct
-question-number (hasField x i) = is-bad-struct
-question-number (noDescriptor x) = is-bad-struct
-question-number (hasDescriptor x) = is-bad-struct
-question-number (castDescribed h) = is-bad-struct
-question-number (fieldMutable x i) = is-field-fixed
-question-number (supertypeShared k) = is-bad-branch
-question-number (labelHasTypes l) = is-bad-branch
-question-number (labelTakes l v) = is-bad-branch
-question-number (allDefaults x) = is-no-default
-question-number (localSet x) = is-not-set
+-- What is asked, where the instruction was read: a numeric code then is listed, so 3 is none of its numbers.
+abbrev Answered : Context → Scope → Question → Type 0
+Answered c here (codeListed b) = CodeListed b
+Answered c here (heapsReached hs) = Unit {0}
+Answered c here (typeReached x) = Unit {0}
+Answered c here (labelThere l) = Unit {0}
+Answered c here (localThere x) = Unit {0}
+Answered c here (isStruct x) = Unit {0}
+Answered c here (hasField x i) = Unit {0}
+Answered c here (noDescriptor x) = Unit {0}
+Answered c here (hasDescriptor x) = Unit {0}
+Answered c here (castDescribed h) = Unit {0}
+Answered c here (fieldMutable x i) = Unit {0}
+Answered c here (supertypeShared k) = Unit {0}
+Answered c here (labelHasTypes l) = Unit {0}
+Answered c here (labelTakes l v) = Unit {0}
+Answered c here (allDefaults x) = Unit {0}
+Answered c here (localSet x) = Unit {0}
 
-asked-number : (c : Context) (here : Scope) (qs : List Question) {later : List rules.Rule} {n : ℕ}
+question-number : (c : Context) (here : Scope) (q : Question) → Answered c here q → ¬ (ruleOf c here q .says) → InstructionFault (numberOf q)
+question-number c here (codeListed b) a wrong = absurd (wrong a)
+question-number c here (heapsReached hs) a wrong = type-out-of-reach
+question-number c here (typeReached x) a wrong = type-out-of-reach
+question-number c here (labelThere l) a wrong = is-absent
+question-number c here (localThere x) a wrong = is-absent
+question-number c here (isStruct x) a wrong = is-bad-struct
+question-number c here (hasField x i) a wrong = is-bad-struct
+question-number c here (noDescriptor x) a wrong = is-bad-struct
+question-number c here (hasDescriptor x) a wrong = is-bad-struct
+question-number c here (castDescribed h) a wrong = is-bad-struct
+question-number c here (fieldMutable x i) a wrong = is-field-fixed
+question-number c here (supertypeShared k) a wrong = is-bad-branch
+question-number c here (labelHasTypes l) a wrong = is-bad-branch
+question-number c here (labelTakes l v) a wrong = is-bad-branch
+question-number c here (allDefaults x) a wrong = is-no-default
+question-number c here (localSet x) a wrong = is-not-set
+
+asked-number : (c : Context) (here : Scope) (qs : List Question) {later : List rules.Rule} {n : ℕ} → Each (Answered c here) qs
     → ((m : ℕ) → FirstBroken later m → InstructionFault m) → FirstBroken (map (ruleOf c here) qs ++ later) n → InstructionFault n
-asked-number c here [] more b = more _ b
-asked-number c here (q ∷ qs) more (broken wrong) = question-number q
-asked-number c here (q ∷ qs) more (kept-then p b) = asked-number c here qs more b
+asked-number c here [] a more b = more _ b
+asked-number c here (q ∷ qs) (of-first a rest) more (broken wrong) = question-number c here q a wrong
+asked-number c here (q ∷ qs) (of-first a rest) more (kept-then p b) = asked-number c here qs rest more b
+
+answered : (s : List ℕ) (c : Context) (here : Scope) (o : Op) → ProperOp s o → Each (Answered c here) (asks o)
+answered s c here unreachable proper = of-none
+answered s c here nop proper = of-none
+answered s c here return proper = of-none
+answered s c here drop-value proper = of-none
+answered s c here (br l) proper = of-first tt of-none
+answered s c here (br-if l) proper = of-first tt of-none
+answered s c here (local-get x) proper = of-first tt (of-first tt of-none)
+answered s c here (local-set x) proper = of-first tt of-none
+answered s c here (local-tee x) proper = of-first tt of-none
+answered s c here (i32-const n) proper = of-none
+answered s c here (i64-const n) proper = of-none
+answered s c here (f32-const n) proper = of-none
+answered s c here (f64-const n) proper = of-none
+answered s c here (numeric b) proper = of-first proper of-none
+answered s c here (ref-null h) proper = of-first tt of-none
+answered s c here ref-is-null proper = of-none
+answered s c here ref-eq proper = of-none
+answered s c here ref-as-non-null proper = of-none
+answered s c here (struct-new x) proper = of-first tt (of-first tt (of-first tt of-none))
+answered s c here (struct-new-default x) proper = of-first tt (of-first tt (of-first tt (of-first tt of-none)))
+answered s c here (struct-get x i) proper = of-first tt (of-first tt (of-first tt of-none))
+answered s c here (struct-set x i) proper = of-first tt (of-first tt (of-first tt (of-first tt of-none)))
+answered s c here (ref-test n h) proper = of-first tt of-none
+answered s c here (ref-cast n h) proper = of-first tt of-none
+answered s c here (br-on-cast k) proper = of-first tt (of-first tt (of-first tt (of-first tt (of-first tt of-none))))
+answered s c here (br-on-cast-fail k) proper = of-first tt (of-first tt (of-first tt (of-first tt (of-first tt of-none))))
+answered s c here (struct-new-desc x) proper = of-first tt (of-first tt (of-first tt of-none))
+answered s c here (struct-new-default-desc x) proper = of-first tt (of-first tt (of-first tt (of-first tt of-none)))
+answered s c here (ref-get-desc x) proper = of-first tt (of-first tt of-none)
+answered s c here (ref-cast-desc-eq n h) proper = of-first tt (of-first tt of-none)
+answered s c here (br-on-cast-desc-eq k) proper = of-first tt (of-first tt (of-first tt (of-first tt (of-first tt (of-first tt of-none)))))
+answered s c here (br-on-cast-desc-eq-fail k) proper = of-first tt (of-first tt (of-first tt (of-first tt (of-first tt (of-first tt of-none)))))
 
 last-number : {P Q : Type 0} {n : ℕ} → FirstBroken (record { says = P; number = badOperand } ∷ record { says = Q; number = oversize } ∷ []) n → InstructionFault n
 last-number (broken wrong) = is-bad-operand
 last-number (kept-then p (broken wrong)) = is-too-many
 
-condition-number : (c : Context) (st : State) (i : Instr) {n : ℕ} → FirstBroken (conditions c st i) n → InstructionFault n
-condition-number c st (block rs) (broken wrong) = type-out-of-reach
-condition-number c st (block rs) (kept-then p (broken wrong)) = is-too-many
-condition-number c st (loop rs) (broken wrong) = type-out-of-reach
-condition-number c st (loop rs) (kept-then p (broken wrong)) = is-too-many
-condition-number c st end (broken wrong) = is-bad-operand
-condition-number c st end (kept-then p (broken wrong)) = is-values-left
-condition-number c st end (kept-then p (kept-then q (broken wrong))) = is-too-many
-condition-number c st (op o) b = asked-number c (scopeOf c st) (asks o) (λ m. last-number) b
+condition-number : (s : List ℕ) (c : Context) (st : State) (i : Instr) {n : ℕ} → Proper s i → FirstBroken (conditions c st i) n → InstructionFault n
+condition-number s c st (block rs) proper (broken wrong) = type-out-of-reach
+condition-number s c st (block rs) proper (kept-then p (broken wrong)) = is-too-many
+condition-number s c st (loop rs) proper (broken wrong) = type-out-of-reach
+condition-number s c st (loop rs) proper (kept-then p (broken wrong)) = is-too-many
+condition-number s c st end proper (broken wrong) = is-bad-operand
+condition-number s c st end proper (kept-then p (broken wrong)) = is-values-left
+condition-number s c st end proper (kept-then p (kept-then q (broken wrong))) = is-too-many
+condition-number s c st (op o) proper b = asked-number c (scopeOf c st) (asks o) (answered s c (scopeOf c st) o proper) (λ m. last-number) b
 
 in-order : (o : Op) → rising (map numberOf (asks o)) ≡ true
 in-order unreachable = refl
@@ -78,6 +135,10 @@ in-order (local-get x) = refl
 in-order (local-set x) = refl
 in-order (local-tee x) = refl
 in-order (i32-const n) = refl
+in-order (i64-const n) = refl
+in-order (f32-const n) = refl
+in-order (f64-const n) = refl
+in-order (numeric b) = refl
 in-order (ref-null h) = refl
 in-order ref-is-null = refl
 in-order ref-eq = refl
@@ -130,7 +191,7 @@ module _ (section s : List ℕ) (x : ℕ) where
 
   fault-place : {c : Context} {st : State} {at number place : ℕ} → at ≤ length s → FaultAt c st s at number place → BodyPlace section s x number place
   fault-place {at = at} h (in-bytes e) = bytes-place (instr-heeds .heeds s at h) e
-  fault-place {c} {st} h (in-instruction {i = i} read b) = of-instruction (condition-number c st i b) read
+  fault-place {c} {st} h (in-instruction {i = i} read b) = of-instruction (condition-number s c st i (instr-proper s _ .tells i _ read) b) read
 
   stand-end : {ds : List Definition} {f : Function} {ls : List Val} {first : ℕ} → LocalsStand s ds f ls first → first ≤ length s
   stand-end stand = entries-end (number-end 0 (stand .counted)) (stand .reads)
@@ -166,3 +227,20 @@ unwanted-descriptor = body-no _ _ 2 refl
 pub inexact-descriptor : BodySaysNo F1 (0x01 ∷ 0x01 ∷ 0x64 ∷ 0x01 ∷ 0xFB ∷ 0x00 ∷ 0x01 ∷ 0x21 ∷ 0x00 ∷ 0x20 ∷ 0x00 ∷ 0xFB ∷ 0x20 ∷ 0x00 ∷ 0x0B ∷ []) 2 badOperand 11
 unfolding computes
 inexact-descriptor = body-no _ _ 2 refl
+
+-- Request 1 of document 02: a cut float is 1 at the first of its bytes; C5 is no code; a number of another kind is 20.
+
+abbrev givesF32 : List ℕ
+givesF32 = 0x01 ∷ 0x60 ∷ 0x00 ∷ 0x01 ∷ 0x7D ∷ []
+
+pub cut-float : BodySaysNo givesF32 (0x00 ∷ 0x43 ∷ 0x00 ∷ 0x00 ∷ 0x80 ∷ []) 0 bytesEnd 2
+unfolding computes
+cut-float = body-no _ _ 0 refl
+
+pub past-the-range : BodySaysNo givesF32 (0x00 ∷ 0xC5 ∷ 0x0B ∷ []) 0 notListed 1
+unfolding computes
+past-the-range = body-no _ _ 0 refl
+
+pub another-kind : BodySaysNo givesF32 (0x00 ∷ 0x42 ∷ 0x00 ∷ 0x8C ∷ 0x0B ∷ []) 0 badOperand 3
+unfolding computes
+another-kind = body-no _ _ 0 refl

@@ -12,12 +12,13 @@ use lib.Dec.{ltb, eqb}
 use Rattle.scope.specs.Sizes.{mostBytes, mostEach, mostTypes}
 use Rattle.scope.specs.Refusals.{bytesEnd}
 use Rattle.scope.specs.Reading.{Read, got, refused, Reader, given, then, onByte, entries}
-use Rattle.scope.specs.Numbers.{Bits, inRange, Whole, plus, minus, unsigned, signed, u32}
+use Rattle.scope.specs.Numbers.{Bits, inRange, Whole, plus, minus, unsigned, signed, littleEndian, floatBytes, u32}
 use Rattle.scope.specs.Abstract.{abstractOf}
 use Rattle.scope.specs.Syntax.{Val, ref}
 use Rattle.scope.specs.Sections.{typeNumber, heapAt, numberOf, valAt, flagAt, fieldAt, fewAt, supersAt, headAt, Head, clauseAt, describesCode, descriptorCode, formAt, definitionAt, groupAt, groupsAt, ended, readSection}
-use Rattle.scope.specs.Instructions.{Op, Instr, bare, having, havingTwo, blockTypeAt, castAt, opening, closing, firstBytes, afterFB, find, instrAt}
-use Rattle.scope.proofs.Forward.{byte-inside, BitsEnd, cuts, longs, stand, bits-end}
+use Rattle.scope.specs.Numeric.{numericOf}
+use Rattle.scope.specs.Instructions.{Op, numeric, Instr, bare, having, havingTwo, blockTypeAt, castAt, opening, closing, firstBytes, afterFB, find, instrAt}
+use Rattle.scope.proofs.Forward.{byte-inside, float-inside, BitsEnd, cuts, longs, stand, bits-end}
 use Rattle.facts_refusals.specs.Numbers.{ByteFault, is-bytes-end, is-bad-number, is-not-listed, is-oversize, is-left-over}
 
 -- a byte fault at a place up to `hi`, or a place up to `hi` to go on from
@@ -64,6 +65,15 @@ unsigned-heeds width = record { heeds = λ s at h. range-heeds at _ _ h (bits-en
 pub signed-heeds : (width : ℕ) → Heedful (signed width)
 unfolding signed
 signed-heeds width = record { heeds = λ s at h. range-heeds at _ _ h (bits-end _ s at) }
+
+-- a float's bytes are one item
+float-heeds : (n : ℕ) → Heedful (floatBytes (suc n))
+unfolding floatBytes
+float-heeds n = record { heeds = λ s at h. go s at h (littleEndian (suc n) s at) refl }
+  where
+    go : (s : List ℕ) (at : ℕ) → at ≤ length s → (o : Option ℕ) → littleEndian (suc n) s at ≡ o → Heeds (length s) (given o (refused bytesEnd at) (λ v. got v (at + suc n)))
+    go s at h none e = refuses is-bytes-end h
+    go s at h (some v) e = goes-on (float-inside n s at e)
 
 -- lists: the entry beyond is refused where it begins
 
@@ -279,11 +289,14 @@ first-rows =
     (row-and (having-heeds numbers _)
     (row-and (having-heeds numbers _)
     (row-and (having-heeds (signed-heeds 32) _)
+    (row-and (having-heeds (signed-heeds 64) _)
+    (row-and (having-heeds (float-heeds 3) _)
+    (row-and (having-heeds (float-heeds 7) _)
     (row-and (having-heeds heap-heeds _)
     (row-and (bare-heeds _)
     (row-and (bare-heeds _)
     (row-and (bare-heeds _)
-    none-left))))))))))))))))
+    none-left)))))))))))))))))))
 
 later-rows : Rows afterFB
 later-rows =
@@ -306,11 +319,11 @@ later-rows =
     (row-and (having-heeds cast-heeds _)
     none-left))))))))))))))))
 
-found-heeds : (b : ℕ) {rows : List (ℕ × Reader Instr)} → Rows rows → {n p : ℕ} → ByteFault n → (s : List ℕ) (at : ℕ) → p ≤ length s → at ≤ length s → Heeds (length s) (given (find b rows) (refused n p) (λ r. r s at))
-found-heeds b none-left fault s at inside h = refuses fault inside
-found-heeds b (row-and {code} {r} {more} k rest) {n} {p} fault s at inside h = go (eqb b code) (found-heeds b rest fault s at inside h)
+found-heeds : (b : ℕ) {rows : List (ℕ × Reader Instr)} → Rows rows → {other : Read Instr} (s : List ℕ) (at : ℕ) → at ≤ length s → Heeds (length s) other → Heeds (length s) (given (find b rows) other (λ r. r s at))
+found-heeds b none-left s at h o = o
+found-heeds b (row-and {code} {r} {more} k rest) {other} s at h o = go (eqb b code) (found-heeds b rest s at h o)
   where
-    go : (t : Bool) → Heeds (length s) (given (find b more) (refused n p) (λ q. q s at)) → Heeds (length s) (given (cond t (some r) (find b more)) (refused n p) (λ q. q s at))
+    go : (t : Bool) → Heeds (length s) (given (find b more) other (λ q. q s at)) → Heeds (length s) (given (cond t (some r) (find b more)) other (λ q. q s at))
     go true later = k .heeds s at h
     go false later = later
 
@@ -321,6 +334,6 @@ instr-heeds =
       heeds = λ s at h.
           heeds-byte s at _ h (λ b inside.
           heeds-cond (eqb b 0xFB)
-          (heeds-then (numbers .heeds s (at + 1) (omega arith)) (λ n next a. found-heeds n later-rows is-not-listed s next (omega arith) a))
-          (found-heeds b first-rows is-not-listed s (at + 1) h (omega arith)));
+          (heeds-then (numbers .heeds s (at + 1) (omega arith)) (λ n next a. found-heeds n later-rows s next a (refuses is-not-listed (omega arith))))
+          (found-heeds b first-rows s (at + 1) (omega arith) (heeds-given (numericOf b) (refuses is-not-listed h) (λ kinds. bare-heeds (numeric b) .heeds s (at + 1) (omega arith)))));
     }

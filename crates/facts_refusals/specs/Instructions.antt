@@ -9,18 +9,21 @@ use mathlib.Core.List.{List, [], _∷_, _++_, map}
 use lib.ListN.{getElem?}
 use lib.Dec.{eqb, leb}
 use Rattle.scope.specs.Lists.{every}
-use Rattle.scope.specs.Refusals.{outOfReach, absent, badStruct, fieldFixed, badBranch, noDefault, notSet}
+use Rattle.scope.specs.Refusals.{notListed, outOfReach, absent, badStruct, fieldFixed, badBranch, noDefault, notSet}
 use Rattle.scope.specs.Syntax.{Heap, Val, Field, Form, struct, Types}
 use Rattle.scope.specs.Order.{ValOrder}
-use Rattle.scope.specs.Instructions.{Cast, Op, unreachable, nop, return, drop-value, br, br-if, local-get, local-set, local-tee, i32-const, ref-null, ref-is-null, ref-eq, ref-as-non-null, struct-new, struct-new-default, struct-get, struct-set, ref-test, ref-cast, br-on-cast, br-on-cast-fail, struct-new-desc, struct-new-default-desc, ref-get-desc, ref-cast-desc-eq, br-on-cast-desc-eq, br-on-cast-desc-eq-fail}
+use Rattle.scope.specs.Instructions.{Cast, Op, unreachable, nop, return, drop-value, br, br-if, local-get, local-set, local-tee, i32-const, i64-const, f32-const, f64-const, numeric, ref-null, ref-is-null, ref-eq, ref-as-non-null, struct-new, struct-new-default, struct-get, struct-set, ref-test, ref-cast, br-on-cast, br-on-cast-fail, struct-new-desc, struct-new-default-desc, ref-get-desc, ref-cast-desc-eq, br-on-cast-desc-eq, br-on-cast-desc-eq-fail}
 use Rattle.scope.specs.BodyRules.{Context, Scope, holdsOf, restOf}
 use Rattle.facts_sections.specs.FirstFault.{Rule}
 use Rattle.facts_sections.specs.TypeRelations.{IsStruct}
+use Rattle.facts_codes.specs.Proper.{CodeListed}
 use Rattle.facts_bodies.specs.Premises.{Each, HeapReached, Default, CastTakes}
 use Rattle.facts_bodies.specs.Apart.{castSource, castTarget, ShareSupertype}
 
 -- the questions
 pub data Question : Type 0 where
+  -- 3: a numeric code that is not listed; none is read
+  codeListed : ℕ → Question
   -- 6: type number out of reach
   heapsReached : List Heap → Question
   typeReached : ℕ → Question
@@ -43,6 +46,7 @@ pub data Question : Type 0 where
   localSet : ℕ → Question
 
 abbrev pub numberOf : Question → ℕ
+numberOf (codeListed b) = notListed
 numberOf (heapsReached hs) = outOfReach
 numberOf (typeReached x) = outOfReach
 numberOf (labelThere l) = absent
@@ -87,6 +91,7 @@ pub data AllDefaults : Form → Type 0 where
   all-defaults : {fs : List Field} → Each Default (holdsOf fs) → AllDefaults (struct fs)
 
 abbrev pub Means : Context → Scope → Question → Type 0
+Means c here (codeListed b) = CodeListed b
 Means c here (heapsReached hs) = Each (HeapReached (c .count)) hs
 Means c here (typeReached x) = x < c .count
 Means c here (labelThere l) = Present (here .labels) l
@@ -130,6 +135,10 @@ asks (local-get x) = localThere x ∷ localSet x ∷ []
 asks (local-set x) = localThere x ∷ []
 asks (local-tee x) = localThere x ∷ []
 asks (i32-const n) = []
+asks (i64-const n) = []
+asks (f32-const n) = []
+asks (f64-const n) = []
+asks (numeric b) = codeListed b ∷ []
 asks (ref-null h) = heapsReached (h ∷ []) ∷ []
 asks ref-is-null = []
 asks ref-eq = []
