@@ -10,12 +10,15 @@ use lib.ListN.{length, replicate, length-reverse, getElem?}
 use lib.Dec.{eqb, ltb, leb}
 use borrow.Author.Tests.{ltb-true, ltb-false, leb-true, leb-false}
 use Rattle.scope.specs.Sizes.{mostObjects, mostCells}
-use Rattle.scope.specs.Refusals.{trapUnreachable, trapNull, trapNullDescriptor, trapCast, trapNoRoom}
+use Rattle.scope.specs.Refusals.{trapUnreachable, trapNull, trapNullDescriptor, trapCast, trapNoRoom, trapOtherNumeric}
 use Rattle.scope.specs.Reading.{given}
-use Rattle.scope.specs.Syntax.{Heap, i32, i64, f32, f64, Val, Field, Form, struct, func, Types}
+use Rattle.scope.specs.Syntax.{Heap, Number, i32, i64, f32, f64, Val, Field, Form, struct, func, Types}
 use Rattle.scope.specs.BodyRules.{fieldsOf, holdsOf}
-use Rattle.scope.specs.Instructions.{Op, unreachable, nop, return, drop-value, br, br-if, local-get, local-set, local-tee, i32-const, ref-null, ref-is-null, ref-eq, ref-as-non-null, struct-new, struct-new-default, struct-get, struct-set, ref-test, ref-cast, br-on-cast, br-on-cast-fail, struct-new-desc, struct-new-default-desc, ref-get-desc, ref-cast-desc-eq, br-on-cast-desc-eq, br-on-cast-desc-eq-fail}
-use Rattle.scope.specs.Machine.{Value, number, null, object, Object, Store, Block, openBlock, openLoop, Machine, Program, Outcome, goes, ends, traps, stuck, withOperands, withHeap, onI32, onReference, onObject, onTaken, truth, splitTop, cellsOf, hasRoom, make, makeGiven, defaultsOf, defaultOf, makeDefault, onDescriptor, castPasses, descriptorCastPasses, onSet, finish, jump, doOp}
+use Rattle.scope.specs.Order.{sameNumber}
+use Rattle.scope.specs.Numeric.{Numeric, numericOf}
+use Rattle.scope.specs.Arithmetic.{Deed, ofOne, ofTwo, deedOf}
+use Rattle.scope.specs.Instructions.{Op, unreachable, nop, return, drop-value, br, br-if, local-get, local-set, local-tee, i32-const, i64-const, f32-const, f64-const, numeric, ref-null, ref-is-null, ref-eq, ref-as-non-null, struct-new, struct-new-default, struct-get, struct-set, ref-test, ref-cast, br-on-cast, br-on-cast-fail, struct-new-desc, struct-new-default-desc, ref-get-desc, ref-cast-desc-eq, br-on-cast-desc-eq, br-on-cast-desc-eq-fail}
+use Rattle.scope.specs.Machine.{Value, number, null, object, Object, Store, Block, openBlock, openLoop, Machine, Program, Outcome, goes, ends, traps, stuck, withOperands, withHeap, onI32, onNumber, onReference, onObject, onTaken, truth, calculate, doNumeric, splitTop, cellsOf, hasRoom, make, makeGiven, defaultsOf, defaultOf, makeDefault, onDescriptor, castPasses, descriptorCastPasses, onSet, finish, jump, doOp}
 use Rattle.scope.proofs.Impossible.{contradiction}
 use Rattle.scope.proofs.Truths.{none-is-not-some, from-both}
 use Rattle.facts_runs.specs.Counting.{makesObject}
@@ -60,6 +63,7 @@ data Other : Outcome → Type 0 where
   is-42 : Other (traps trapNull)
   is-43 : Other (traps trapNullDescriptor)
   is-44 : Other (traps trapCast)
+  is-46 : Other (traps trapOtherNumeric)
 
 same-trap : {n k : ℕ} → _≡_ {A = Outcome} (traps n) (traps k) → n ≡ k
 same-trap e = cc
@@ -72,6 +76,7 @@ other-not-45 is-41 e = let n = same-trap e in omega arith
 other-not-45 is-42 e = let n = same-trap e in omega arith
 other-not-45 is-43 e = let n = same-trap e in omega arith
 other-not-45 is-44 e = let n = same-trap e in omega arith
+other-not-45 is-46 e = let n = same-trap e in omega arith
 
 other-given : {A : Type 0} (o : Option A) {f : A → Outcome} → ((x : A) → Other (f x)) → Other (given o stuck f)
 other-given none k = is-stuck
@@ -97,6 +102,24 @@ other-i32 (number f32 n) f = is-stuck
 other-i32 (number f64 n) f = is-stuck
 other-i32 null f = is-stuck
 other-i32 (object o) f = is-stuck
+
+other-number : (k : Number) (v : Value) {f : ℕ → Outcome} → ((n : ℕ) → Other (f n)) → Other (onNumber k v f)
+other-number k (number j n) f = other-cond (sameNumber j k) (f n) is-stuck
+other-number k null f = is-stuck
+other-number k (object o) f = is-stuck
+
+other-calculate : (m : Machine) (kinds : Numeric) (vs : List Value) (deed : Deed) → Other (calculate m kinds vs deed)
+other-calculate m kinds vs (ofOne f) = other-taken vs (λ v below. other-number (kinds .kind) v (λ a. goes-on))
+other-calculate m kinds vs (ofTwo f) =
+    other-taken vs (λ w others. other-taken others (λ v below. other-number (kinds .kind) w (λ b. other-number (kinds .kind) v (λ a. goes-on))))
+
+other-numeric : (m : Machine) (vs : List Value) (b : ℕ) → Other (doNumeric m vs b)
+unfolding doNumeric
+other-numeric m vs b = go (deedOf b)
+  where
+    go : (o : Option Deed) → Other (given o (traps trapOtherNumeric) (λ deed. given (numericOf b) stuck (λ kinds. calculate m kinds vs deed)))
+    go none = is-46
+    go (some deed) = other-given (numericOf b) (λ kinds. other-calculate m kinds vs deed)
 
 other-null : (r : Option ℕ) {f : ℕ → Outcome} → ((o : ℕ) → Other (f o)) → Other (given r (traps trapNull) f)
 other-null none k = is-42
@@ -246,6 +269,10 @@ other-op p m vs (local-get x) e = other-given (getElem? (m .locals) x) (λ held.
 other-op p m vs (local-set x) e = other-taken vs (λ v below. other-set m x v (λ after. goes-on {m = withOperands after below}))
 other-op p m vs (local-tee x) e = other-taken vs (λ v below. other-set m x v (λ after. goes-on {m = after}))
 other-op p m vs (i32-const n) e = goes-on
+other-op p m vs (i64-const n) e = goes-on
+other-op p m vs (f32-const n) e = goes-on
+other-op p m vs (f64-const n) e = goes-on
+other-op p m vs (numeric b) e = other-numeric m vs b
 other-op p m vs (ref-null h) e = goes-on
 other-op p m vs ref-is-null e = other-taken vs (λ v below. other-reference v (λ r. goes-on))
 other-op p m vs ref-eq e = other-taken vs (λ v others. other-taken others (λ w below. other-reference v (λ r. other-reference w (λ q. goes-on))))
@@ -277,6 +304,10 @@ says-45 p m vs (local-get x) e = absurd (other-not-45 (other-op p m vs (local-ge
 says-45 p m vs (local-set x) e = absurd (other-not-45 (other-op p m vs (local-set x) refl) e)
 says-45 p m vs (local-tee x) e = absurd (other-not-45 (other-op p m vs (local-tee x) refl) e)
 says-45 p m vs (i32-const n) e = absurd (other-not-45 (other-op p m vs (i32-const n) refl) e)
+says-45 p m vs (i64-const n) e = absurd (other-not-45 (other-op p m vs (i64-const n) refl) e)
+says-45 p m vs (f32-const n) e = absurd (other-not-45 (other-op p m vs (f32-const n) refl) e)
+says-45 p m vs (f64-const n) e = absurd (other-not-45 (other-op p m vs (f64-const n) refl) e)
+says-45 p m vs (numeric b) e = absurd (other-not-45 (other-op p m vs (numeric b) refl) e)
 says-45 p m vs (ref-null h) e = absurd (other-not-45 (other-op p m vs (ref-null h) refl) e)
 says-45 p m vs ref-is-null e = absurd (other-not-45 (other-op p m vs ref-is-null refl) e)
 says-45 p m vs ref-eq e = absurd (other-not-45 (other-op p m vs ref-eq refl) e)

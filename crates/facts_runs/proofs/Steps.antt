@@ -12,12 +12,14 @@ use lib.ListN.{length, getElem?, length-append, length-set}
 use lib.Dec.{eqb}
 use Rattle.scope.specs.Reading.{given}
 use Rattle.scope.specs.Refusals.{trapNull}
-use Rattle.scope.specs.Syntax.{Heap, exact, Types, i32, i64, f32, f64}
-use Rattle.scope.specs.Order.{heapBelow}
-use Rattle.scope.specs.Instructions.{Op, unreachable, nop, return, drop-value, br, br-if, local-get, local-set, local-tee, i32-const, ref-null, ref-is-null, ref-eq, ref-as-non-null, struct-new, struct-new-default, struct-get, struct-set, ref-test, ref-cast, br-on-cast, br-on-cast-fail, struct-new-desc, struct-new-default-desc, ref-get-desc, ref-cast-desc-eq, br-on-cast-desc-eq, br-on-cast-desc-eq-fail, Instr, block, loop, end, op}
+use Rattle.scope.specs.Syntax.{Heap, exact, Types, Number, i32, i64, f32, f64}
+use Rattle.scope.specs.Order.{sameNumber, heapBelow}
+use Rattle.scope.specs.Numeric.{Numeric, numericOf}
+use Rattle.scope.specs.Arithmetic.{Deed, ofOne, ofTwo, deedOf}
+use Rattle.scope.specs.Instructions.{Op, unreachable, nop, return, drop-value, br, br-if, local-get, local-set, local-tee, i32-const, i64-const, f32-const, f64-const, numeric, ref-null, ref-is-null, ref-eq, ref-as-non-null, struct-new, struct-new-default, struct-get, struct-set, ref-test, ref-cast, br-on-cast, br-on-cast-fail, struct-new-desc, struct-new-default-desc, ref-get-desc, ref-cast-desc-eq, br-on-cast-desc-eq, br-on-cast-desc-eq-fail, Instr, block, loop, end, op}
 use Rattle.scope.specs.BodyRules.{fieldsOf, holdsOf}
 use Rattle.scope.specs.Bodies.{Code}
-use Rattle.scope.specs.Machine.{Value, number, null, object, Object, Store, objectOf, withNew, Block, openBlock, openLoop, Machine, Program, Outcome, goes, ends, traps, stuck, truth, withControl, onI32, onReference, onObject, onTaken, splitTop, make, hasRoom, defaultsOf, makeGiven, makeDefault, onDescriptor, castPasses, isVery, descriptorCastPasses, finish, jump, branch, doEnd, doOp, doInstr, stepOn, step}
+use Rattle.scope.specs.Machine.{Value, number, null, object, Object, Store, objectOf, withNew, Block, openBlock, openLoop, Machine, Program, Outcome, goes, ends, traps, stuck, truth, withControl, onI32, onNumber, onReference, onObject, onTaken, splitTop, calculate, doNumeric, make, hasRoom, defaultsOf, makeGiven, makeDefault, onDescriptor, castPasses, isVery, descriptorCastPasses, finish, jump, branch, doEnd, doOp, doInstr, stepOn, step}
 use Rattle.facts_runs.specs.Counting.{makesObject, isAllocation, startsWithAllocation, allocates, oneMoreIf}
 use Rattle.facts_runs.proofs.Straight.{Straight, past-no-longer, straight-op, straight-block, straight-no-loop, straight-end, no-loop-open, Seeks, seeks-first, seeks-next, found-block, found-no-loop}
 
@@ -55,6 +57,11 @@ module _ {P Q : Machine → Type 0} where
   on-i32 (number f64 n) f = failing
   on-i32 null f = failing
   on-i32 (object o) f = failing
+
+  on-number : (k : Number) (v : Value) {f : ℕ → Outcome} → ((n : ℕ) → Comes P Q (f n)) → Comes P Q (onNumber k v f)
+  on-number k (number j n) f = on-cond (sameNumber j k) (f n) failing
+  on-number k null f = failing
+  on-number k (object o) f = failing
 
   on-reference : (v : Value) {f : Option ℕ → Outcome} → ((r : Option ℕ) → Comes P Q (f r)) → Comes P Q (onReference v f)
   on-reference (number k n) f = failing
@@ -140,6 +147,16 @@ module _ (p : Program) (m : Machine) where
   makes-default x d vs =
       on-given (fieldsOf (p .types x .form)) failing (λ fs. on-given (defaultsOf (holdsOf fs)) failing (λ values. makes x d values vs))
 
+  -- a numeric instruction: 46, or a result in place of its operands
+  numerically : (b : ℕ) (vs : List Value) → Does false m (doNumeric m vs b)
+  unfolding doNumeric
+  numerically b vs = on-given (deedOf b) trapping (λ deed. on-given (numericOf b) failing (λ kinds. go kinds deed))
+    where
+      go : (kinds : Numeric) (deed : Deed) → Does false m (calculate m kinds vs deed)
+      go kinds (ofOne f) = on-taken vs (λ v below. on-number (kinds .kind) v (λ a. kept))
+      go kinds (ofTwo f) =
+          on-taken vs (λ w others. on-taken others (λ v below. on-number (kinds .kind) w (λ b. on-number (kinds .kind) v (λ a. kept))))
+
   pub op-does : (vs : List Value) (o : Op) → Does (makesObject o) m (doOp p m vs o)
   unfolding doOp
   op-does vs unreachable = trapping
@@ -152,6 +169,10 @@ module _ (p : Program) (m : Machine) where
   op-does vs (local-set x) = on-taken vs (λ v below. on-given (getElem? (m .locals) x) failing (λ old. kept))
   op-does vs (local-tee x) = on-taken vs (λ v below. on-given (getElem? (m .locals) x) failing (λ old. kept))
   op-does vs (i32-const n) = kept
+  op-does vs (i64-const n) = kept
+  op-does vs (f32-const n) = kept
+  op-does vs (f64-const n) = kept
+  op-does vs (numeric b) = numerically b vs
   op-does vs (ref-null h) = kept
   op-does vs ref-is-null = on-taken vs (λ v below. on-reference v (λ r. kept))
   op-does vs ref-eq =

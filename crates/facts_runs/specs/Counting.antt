@@ -4,7 +4,7 @@ use Prim.Native.Nat.{ℕ, zero, suc}
 use mathlib.Core.Bool.{Bool, true, false, not, cond, _&&_}
 use mathlib.Core.List.{List, [], _∷_}
 use Rattle.scope.specs.Lists.{someOf}
-use Rattle.scope.specs.Instructions.{Op, unreachable, nop, return, drop-value, br, br-if, local-get, local-set, local-tee, i32-const, ref-null, ref-is-null, ref-eq, ref-as-non-null, struct-new, struct-new-default, struct-get, struct-set, ref-test, ref-cast, br-on-cast, br-on-cast-fail, struct-new-desc, struct-new-default-desc, ref-get-desc, ref-cast-desc-eq, br-on-cast-desc-eq, br-on-cast-desc-eq-fail, Instr, block, loop, end, op}
+use Rattle.scope.specs.Instructions.{Op, unreachable, nop, return, drop-value, br, br-if, local-get, local-set, local-tee, i32-const, i64-const, f32-const, f64-const, numeric, ref-null, ref-is-null, ref-eq, ref-as-non-null, struct-new, struct-new-default, struct-get, struct-set, ref-test, ref-cast, br-on-cast, br-on-cast-fail, struct-new-desc, struct-new-default-desc, ref-get-desc, ref-cast-desc-eq, br-on-cast-desc-eq, br-on-cast-desc-eq-fail, Instr, block, loop, end, op}
 use Rattle.scope.specs.Judging.{Judged, accepted, rejected}
 use Rattle.scope.specs.Bodies.{Code}
 use Rattle.scope.specs.Machine.{Machine, Program, OutcomeOf, Outcome, goes, ends, traps, stuck, step}
@@ -66,6 +66,10 @@ makesObject (local-get x) = false
 makesObject (local-set x) = false
 makesObject (local-tee x) = false
 makesObject (i32-const n) = false
+makesObject (i64-const n) = false
+makesObject (f32-const n) = false
+makesObject (f64-const n) = false
+makesObject (numeric b) = false
 makesObject (ref-null h) = false
 makesObject ref-is-null = false
 makesObject ref-eq = false
