@@ -7,5 +7,7 @@ pub mod Verdicts
 pub mod AcceptedCode
 pub mod Loopless
 pub mod Trials
+pub mod Trapping
 pub mod NoRoom
+pub mod OtherNumeric
 pub mod Laws

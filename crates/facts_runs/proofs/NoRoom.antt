@@ -10,7 +10,7 @@ use lib.ListN.{length, replicate, length-reverse, getElem?}
 use lib.Dec.{eqb, ltb, leb}
 use borrow.Author.Tests.{ltb-true, ltb-false, leb-true, leb-false}
 use Rattle.scope.specs.Sizes.{mostObjects, mostCells}
-use Rattle.scope.specs.Refusals.{trapUnreachable, trapNull, trapNullDescriptor, trapCast, trapNoRoom, trapOtherNumeric}
+use Rattle.scope.specs.Refusals.{trapNoRoom}
 use Rattle.scope.specs.Reading.{given}
 use Rattle.scope.specs.Syntax.{Heap, Number, i32, i64, f32, f64, Val, Field, Form, struct, func, Types}
 use Rattle.scope.specs.BodyRules.{fieldsOf, holdsOf}
@@ -22,6 +22,7 @@ use Rattle.scope.specs.Machine.{Value, number, null, object, Object, Store, Blo
 use Rattle.scope.proofs.Impossible.{contradiction}
 use Rattle.scope.proofs.Truths.{none-is-not-some, from-both}
 use Rattle.facts_runs.specs.Counting.{makesObject}
+use Rattle.facts_runs.proofs.Trapping.{Other, goes-on, is-stuck, other-trap, told, Each, other-op}
 use Rattle.facts_runs.specs.NoRoom.{Cells, no-cells, more-cells, NoRoom, all-objects, too-few-cells, ComesToRoom, of-new, of-default, of-new-desc, of-default-desc, TrapsNoRoom, FortyFive}
 
 -- room
@@ -55,109 +56,18 @@ room-none heap n full = go (hasRoom heap n) refl full
 
 -- an outcome that is not 45
 
-data Other : Outcome → Type 0 where
-  goes-on : {m : Machine} → Other (goes m)
-  is-done : {m : Machine} → Other (ends m)
-  is-stuck : Other stuck
-  is-41 : Other (traps trapUnreachable)
-  is-42 : Other (traps trapNull)
-  is-43 : Other (traps trapNullDescriptor)
-  is-44 : Other (traps trapCast)
-  is-46 : Other (traps trapOtherNumeric)
+abbrev Not45 : ℕ → Type 0
+Not45 n = n ≡ trapNoRoom → ⊥
 
-same-trap : {n k : ℕ} → _≡_ {A = Outcome} (traps n) (traps k) → n ≡ k
-same-trap e = cc
+each-not-45 : Each Not45
+each-not-45 = record { unreachable = λ e. omega arith; null = λ e. omega arith; nullDescriptor = λ e. omega arith; cast = λ e. omega arith }
 
-other-not-45 : {o : Outcome} → Other o → o ≡ traps trapNoRoom → ⊥
-other-not-45 goes-on e = contradiction cc
-other-not-45 is-done e = contradiction cc
-other-not-45 is-stuck e = contradiction cc
-other-not-45 is-41 e = let n = same-trap e in omega arith
-other-not-45 is-42 e = let n = same-trap e in omega arith
-other-not-45 is-43 e = let n = same-trap e in omega arith
-other-not-45 is-44 e = let n = same-trap e in omega arith
-other-not-45 is-46 e = let n = same-trap e in omega arith
+other-not-45 : {o : Outcome} → Other Not45 o → o ≡ traps trapNoRoom → ⊥
+other-not-45 other e = told other e refl
 
-other-given : {A : Type 0} (o : Option A) {f : A → Outcome} → ((x : A) → Other (f x)) → Other (given o stuck f)
-other-given none k = is-stuck
-other-given (some x) k = k x
-
-other-cond : (t : Bool) {a b : Outcome} → Other a → Other b → Other (cond t a b)
-other-cond true a b = a
-other-cond false a b = b
-
-other-taken : (vs : List Value) {f : Value → List Value → Outcome} → ((v : Value) (below : List Value) → Other (f v below)) → Other (onTaken vs f)
-other-taken [] k = is-stuck
-other-taken (v ∷ vs) k = k v vs
-
-other-reference : (v : Value) {f : Option ℕ → Outcome} → ((r : Option ℕ) → Other (f r)) → Other (onReference v f)
-other-reference (number k n) f = is-stuck
-other-reference null f = f none
-other-reference (object o) f = f (some o)
-
-other-i32 : (v : Value) {f : ℕ → Outcome} → ((n : ℕ) → Other (f n)) → Other (onI32 v f)
-other-i32 (number i32 n) f = f n
-other-i32 (number i64 n) f = is-stuck
-other-i32 (number f32 n) f = is-stuck
-other-i32 (number f64 n) f = is-stuck
-other-i32 null f = is-stuck
-other-i32 (object o) f = is-stuck
-
-other-number : (k : Number) (v : Value) {f : ℕ → Outcome} → ((n : ℕ) → Other (f n)) → Other (onNumber k v f)
-other-number k (number j n) f = other-cond (sameNumber j k) (f n) is-stuck
-other-number k null f = is-stuck
-other-number k (object o) f = is-stuck
-
-other-calculate : (m : Machine) (kinds : Numeric) (vs : List Value) (deed : Deed) → Other (calculate m kinds vs deed)
-other-calculate m kinds vs (ofOne f) = other-taken vs (λ v below. other-number (kinds .kind) v (λ a. goes-on))
-other-calculate m kinds vs (ofTwo f) =
-    other-taken vs (λ w others. other-taken others (λ v below. other-number (kinds .kind) w (λ b. other-number (kinds .kind) v (λ a. goes-on))))
-
-other-numeric : (m : Machine) (vs : List Value) (b : ℕ) → Other (doNumeric m vs b)
-unfolding doNumeric
-other-numeric m vs b = go (deedOf b)
-  where
-    go : (o : Option Deed) → Other (given o (traps trapOtherNumeric) (λ deed. given (numericOf b) stuck (λ kinds. calculate m kinds vs deed)))
-    go none = is-46
-    go (some deed) = other-given (numericOf b) (λ kinds. other-calculate m kinds vs deed)
-
-other-null : (r : Option ℕ) {f : ℕ → Outcome} → ((o : ℕ) → Other (f o)) → Other (given r (traps trapNull) f)
-other-null none k = is-42
-other-null (some o) k = k o
-
-other-object : (os : Store) (v : Value) {f : ℕ → Object → Outcome} → ((o : ℕ) (it : Object) → Other (f o it)) → Other (onObject os trapNull v f)
-other-object os v k = other-reference v (λ r. other-null r (λ o. other-given (getElem? os o) (λ it. k o it)))
-
-other-descriptor : (vs : List Value) {f : ℕ → List Value → Outcome} → ((d : ℕ) (below : List Value) → Other (f d below)) → Other (onDescriptor vs f)
-other-descriptor vs {f} k = other-taken vs (λ v below. other-reference v (λ r. go r below))
-  where
-    go : (r : Option ℕ) (below : List Value) → Other (given r (traps trapNullDescriptor) (λ o. f o below))
-    go none below = is-43
-    go (some o) below = k o below
-
-other-passes : (ts : Types) (os : Store) (n : Bool) (h : Heap) (v : Value) {f : Bool → Outcome} → ((b : Bool) → Other (f b)) → Other (castPasses ts os n h v f)
-other-passes ts os n h (number k m) f = is-stuck
-other-passes ts os n h null f = f n
-other-passes ts os n h (object o) f = other-given (getElem? os o) (λ x. f _)
-
-other-passes-descriptor : (os : Store) (n : Bool) (d : ℕ) (v : Value) {f : Bool → Outcome} → ((b : Bool) → Other (f b)) → Other (descriptorCastPasses os n d v f)
-other-passes-descriptor os n d (number k m) f = is-stuck
-other-passes-descriptor os n d null f = f n
-other-passes-descriptor os n d (object o) f = other-given (getElem? os o) (λ x. f _)
-
-other-finish : (p : Program) (m : Machine) (vs : List Value) → Other (finish p m vs)
-other-finish p m vs = other-given (splitTop (p .results) vs) (λ s. is-done)
-
-other-jump : (p : Program) (m : Machine) (l : ℕ) (bs : List Block) (vs : List Value) (k : ℕ) → Other (jump p m l bs vs k)
-unfolding jump
-other-jump p m l [] vs zero = other-finish p m vs
-other-jump p m l [] vs (suc k) = is-stuck
-other-jump p m l (openBlock at n below ∷ bs) vs zero = other-given (splitTop n vs) (λ s. goes-on)
-other-jump p m l (openLoop at below again ∷ bs) vs zero = goes-on
-other-jump p m l (b ∷ bs) vs (suc k) = other-jump p m l bs vs k
-
-other-set : (m : Machine) (x : ℕ) (v : Value) {f : Machine → Outcome} → ((after : Machine) → Other (f after)) → Other (onSet m x v f)
-other-set m x v k = other-given (getElem? (m .locals) x) (λ old. k _)
+not-45 : (p : Program) (m : Machine) (vs : List Value) (o : Op) → makesObject o ≡ false → doOp p m vs o ≡ traps trapNoRoom → ⊥
+not-45 p m vs o none-made e =
+    other-not-45 (other-op each-not-45 p m vs o (λ makes. absurd (false≢true (sym none-made ∙ makes))) (λ b is no-line f. omega arith)) e
 
 -- what is made
 
@@ -247,85 +157,50 @@ default-45 p m x d vs e = go (p .types x .form) refl e
 desc-45 : (p : Program) (m : Machine) (x : ℕ) (vs : List Value) → onDescriptor vs (λ d below. makeGiven p m x (some d) below) ≡ traps trapNoRoom → TrapsNoRoom p (m .heap) vs (struct-new-desc x)
 desc-45 p m x [] e = absurd (other-not-45 is-stuck e)
 desc-45 p m x (number k n ∷ vs) e = absurd (other-not-45 is-stuck e)
-desc-45 p m x (null ∷ vs) e = absurd (other-not-45 is-43 e)
+desc-45 p m x (null ∷ vs) e = absurd (other-not-45 (other-trap (each-not-45 .nullDescriptor)) e)
 desc-45 p m x (object d ∷ vs) e = let g = given-45 p m x (some d) vs e in record { fields = length (g .fs); comes = of-new-desc (g .form) (g .there); noRoom = g .full }
 
 desc-default-45 : (p : Program) (m : Machine) (x : ℕ) (vs : List Value) → onDescriptor vs (λ d below. makeDefault p m x (some d) below) ≡ traps trapNoRoom → TrapsNoRoom p (m .heap) vs (struct-new-default-desc x)
 desc-default-45 p m x [] e = absurd (other-not-45 is-stuck e)
 desc-default-45 p m x (number k n ∷ vs) e = absurd (other-not-45 is-stuck e)
-desc-default-45 p m x (null ∷ vs) e = absurd (other-not-45 is-43 e)
+desc-default-45 p m x (null ∷ vs) e = absurd (other-not-45 (other-trap (each-not-45 .nullDescriptor)) e)
 desc-default-45 p m x (object d ∷ vs) e = let g = default-45 p m x (some d) vs e in record { fields = length (g .fs); comes = of-default-desc (g .form) (g .there); noRoom = g .full }
 
 -- an instruction that is no allocation says something else
-other-op : (p : Program) (m : Machine) (vs : List Value) (o : Op) → makesObject o ≡ false → Other (doOp p m vs o)
-unfolding doOp
-other-op p m vs unreachable e = is-41
-other-op p m vs nop e = goes-on
-other-op p m vs return e = other-finish p m vs
-other-op p m vs drop-value e = other-taken vs (λ v below. goes-on)
-other-op p m vs (br l) e = other-jump p m l (m .blocks) vs l
-other-op p m vs (br-if l) e = other-taken vs (λ v below. other-i32 v (λ n. other-cond (eqb n 0) (goes-on {m = withOperands m below}) (other-jump p m l (m .blocks) below l)))
-other-op p m vs (local-get x) e = other-given (getElem? (m .locals) x) (λ held. other-given held (λ v. goes-on))
-other-op p m vs (local-set x) e = other-taken vs (λ v below. other-set m x v (λ after. goes-on {m = withOperands after below}))
-other-op p m vs (local-tee x) e = other-taken vs (λ v below. other-set m x v (λ after. goes-on {m = after}))
-other-op p m vs (i32-const n) e = goes-on
-other-op p m vs (i64-const n) e = goes-on
-other-op p m vs (f32-const n) e = goes-on
-other-op p m vs (f64-const n) e = goes-on
-other-op p m vs (numeric b) e = other-numeric m vs b
-other-op p m vs (ref-null h) e = goes-on
-other-op p m vs ref-is-null e = other-taken vs (λ v below. other-reference v (λ r. goes-on))
-other-op p m vs ref-eq e = other-taken vs (λ v others. other-taken others (λ w below. other-reference v (λ r. other-reference w (λ q. goes-on))))
-other-op p m vs ref-as-non-null e = other-taken vs (λ v below. other-reference v (λ r. other-null r (λ o. goes-on)))
-other-op p m vs (struct-new x) e = absurd (false≢true (sym e))
-other-op p m vs (struct-new-default x) e = absurd (false≢true (sym e))
-other-op p m vs (struct-get x i) e = other-taken vs (λ v below. other-object (m .heap) v (λ o it. other-given (getElem? (it .fields) i) (λ held. goes-on)))
-other-op p m vs (struct-set x i) e = other-taken vs (λ new others. other-taken others (λ v below. other-object (m .heap) v (λ o it. other-given (getElem? (it .fields) i) (λ old. goes-on))))
-other-op p m vs (ref-test n h) e = other-taken vs (λ v below. other-passes (p .types) (m .heap) n h v (λ b. goes-on {m = withOperands m (truth b ∷ below)}))
-other-op p m vs (ref-cast n h) e = other-taken vs (λ v below. other-passes (p .types) (m .heap) n h v (λ b. other-cond b (goes-on {m = withOperands m (v ∷ below)}) is-44))
-other-op p m vs (br-on-cast k) e = other-taken vs (λ v below. other-passes (p .types) (m .heap) (k .targetNull) (k .target) v (λ b. other-cond b (other-jump p m (k .label) (m .blocks) vs (k .label)) (goes-on {m = m})))
-other-op p m vs (br-on-cast-fail k) e = other-taken vs (λ v below. other-passes (p .types) (m .heap) (k .targetNull) (k .target) v (λ b. other-cond b (goes-on {m = m}) (other-jump p m (k .label) (m .blocks) vs (k .label))))
-other-op p m vs (struct-new-desc x) e = absurd (false≢true (sym e))
-other-op p m vs (struct-new-default-desc x) e = absurd (false≢true (sym e))
-other-op p m vs (ref-get-desc x) e = other-taken vs (λ v below. other-object (m .heap) v (λ o it. other-given (it .descriptor) (λ d. goes-on)))
-other-op p m vs (ref-cast-desc-eq n h) e = other-descriptor vs (λ d others. other-taken others (λ v below. other-passes-descriptor (m .heap) n d v (λ b. other-cond b (goes-on {m = withOperands m others}) is-44)))
-other-op p m vs (br-on-cast-desc-eq k) e = other-descriptor vs (λ d others. other-taken others (λ v below. other-passes-descriptor (m .heap) (k .targetNull) d v (λ b. other-cond b (other-jump p m (k .label) (m .blocks) others (k .label)) (goes-on {m = withOperands m others}))))
-other-op p m vs (br-on-cast-desc-eq-fail k) e = other-descriptor vs (λ d others. other-taken others (λ v below. other-passes-descriptor (m .heap) (k .targetNull) d v (λ b. other-cond b (goes-on {m = withOperands m others}) (other-jump p m (k .label) (m .blocks) others (k .label)))))
-
 says-45 : (p : Program) (m : Machine) (vs : List Value) (o : Op) → doOp p m vs o ≡ traps trapNoRoom → TrapsNoRoom p (m .heap) vs o
 unfolding doOp
-says-45 p m vs unreachable e = absurd (other-not-45 (other-op p m vs unreachable refl) e)
-says-45 p m vs nop e = absurd (other-not-45 (other-op p m vs nop refl) e)
-says-45 p m vs return e = absurd (other-not-45 (other-op p m vs return refl) e)
-says-45 p m vs drop-value e = absurd (other-not-45 (other-op p m vs drop-value refl) e)
-says-45 p m vs (br l) e = absurd (other-not-45 (other-op p m vs (br l) refl) e)
-says-45 p m vs (br-if l) e = absurd (other-not-45 (other-op p m vs (br-if l) refl) e)
-says-45 p m vs (local-get x) e = absurd (other-not-45 (other-op p m vs (local-get x) refl) e)
-says-45 p m vs (local-set x) e = absurd (other-not-45 (other-op p m vs (local-set x) refl) e)
-says-45 p m vs (local-tee x) e = absurd (other-not-45 (other-op p m vs (local-tee x) refl) e)
-says-45 p m vs (i32-const n) e = absurd (other-not-45 (other-op p m vs (i32-const n) refl) e)
-says-45 p m vs (i64-const n) e = absurd (other-not-45 (other-op p m vs (i64-const n) refl) e)
-says-45 p m vs (f32-const n) e = absurd (other-not-45 (other-op p m vs (f32-const n) refl) e)
-says-45 p m vs (f64-const n) e = absurd (other-not-45 (other-op p m vs (f64-const n) refl) e)
-says-45 p m vs (numeric b) e = absurd (other-not-45 (other-op p m vs (numeric b) refl) e)
-says-45 p m vs (ref-null h) e = absurd (other-not-45 (other-op p m vs (ref-null h) refl) e)
-says-45 p m vs ref-is-null e = absurd (other-not-45 (other-op p m vs ref-is-null refl) e)
-says-45 p m vs ref-eq e = absurd (other-not-45 (other-op p m vs ref-eq refl) e)
-says-45 p m vs ref-as-non-null e = absurd (other-not-45 (other-op p m vs ref-as-non-null refl) e)
+says-45 p m vs unreachable e = absurd (not-45 p m vs unreachable refl e)
+says-45 p m vs nop e = absurd (not-45 p m vs nop refl e)
+says-45 p m vs return e = absurd (not-45 p m vs return refl e)
+says-45 p m vs drop-value e = absurd (not-45 p m vs drop-value refl e)
+says-45 p m vs (br l) e = absurd (not-45 p m vs (br l) refl e)
+says-45 p m vs (br-if l) e = absurd (not-45 p m vs (br-if l) refl e)
+says-45 p m vs (local-get x) e = absurd (not-45 p m vs (local-get x) refl e)
+says-45 p m vs (local-set x) e = absurd (not-45 p m vs (local-set x) refl e)
+says-45 p m vs (local-tee x) e = absurd (not-45 p m vs (local-tee x) refl e)
+says-45 p m vs (i32-const n) e = absurd (not-45 p m vs (i32-const n) refl e)
+says-45 p m vs (i64-const n) e = absurd (not-45 p m vs (i64-const n) refl e)
+says-45 p m vs (f32-const n) e = absurd (not-45 p m vs (f32-const n) refl e)
+says-45 p m vs (f64-const n) e = absurd (not-45 p m vs (f64-const n) refl e)
+says-45 p m vs (numeric b) e = absurd (not-45 p m vs (numeric b) refl e)
+says-45 p m vs (ref-null h) e = absurd (not-45 p m vs (ref-null h) refl e)
+says-45 p m vs ref-is-null e = absurd (not-45 p m vs ref-is-null refl e)
+says-45 p m vs ref-eq e = absurd (not-45 p m vs ref-eq refl e)
+says-45 p m vs ref-as-non-null e = absurd (not-45 p m vs ref-as-non-null refl e)
 says-45 p m vs (struct-new x) e = let g = given-45 p m x none vs e in record { fields = length (g .fs); comes = of-new (g .form) (g .there); noRoom = g .full }
 says-45 p m vs (struct-new-default x) e = let g = default-45 p m x none vs e in record { fields = length (g .fs); comes = of-default (g .form) (g .there); noRoom = g .full }
-says-45 p m vs (struct-get x i) e = absurd (other-not-45 (other-op p m vs (struct-get x i) refl) e)
-says-45 p m vs (struct-set x i) e = absurd (other-not-45 (other-op p m vs (struct-set x i) refl) e)
-says-45 p m vs (ref-test n h) e = absurd (other-not-45 (other-op p m vs (ref-test n h) refl) e)
-says-45 p m vs (ref-cast n h) e = absurd (other-not-45 (other-op p m vs (ref-cast n h) refl) e)
-says-45 p m vs (br-on-cast k) e = absurd (other-not-45 (other-op p m vs (br-on-cast k) refl) e)
-says-45 p m vs (br-on-cast-fail k) e = absurd (other-not-45 (other-op p m vs (br-on-cast-fail k) refl) e)
+says-45 p m vs (struct-get x i) e = absurd (not-45 p m vs (struct-get x i) refl e)
+says-45 p m vs (struct-set x i) e = absurd (not-45 p m vs (struct-set x i) refl e)
+says-45 p m vs (ref-test n h) e = absurd (not-45 p m vs (ref-test n h) refl e)
+says-45 p m vs (ref-cast n h) e = absurd (not-45 p m vs (ref-cast n h) refl e)
+says-45 p m vs (br-on-cast k) e = absurd (not-45 p m vs (br-on-cast k) refl e)
+says-45 p m vs (br-on-cast-fail k) e = absurd (not-45 p m vs (br-on-cast-fail k) refl e)
 says-45 p m vs (struct-new-desc x) e = desc-45 p m x vs e
 says-45 p m vs (struct-new-default-desc x) e = desc-default-45 p m x vs e
-says-45 p m vs (ref-get-desc x) e = absurd (other-not-45 (other-op p m vs (ref-get-desc x) refl) e)
-says-45 p m vs (ref-cast-desc-eq n h) e = absurd (other-not-45 (other-op p m vs (ref-cast-desc-eq n h) refl) e)
-says-45 p m vs (br-on-cast-desc-eq k) e = absurd (other-not-45 (other-op p m vs (br-on-cast-desc-eq k) refl) e)
-says-45 p m vs (br-on-cast-desc-eq-fail k) e = absurd (other-not-45 (other-op p m vs (br-on-cast-desc-eq-fail k) refl) e)
+says-45 p m vs (ref-get-desc x) e = absurd (not-45 p m vs (ref-get-desc x) refl e)
+says-45 p m vs (ref-cast-desc-eq n h) e = absurd (not-45 p m vs (ref-cast-desc-eq n h) refl e)
+says-45 p m vs (br-on-cast-desc-eq k) e = absurd (not-45 p m vs (br-on-cast-desc-eq k) refl e)
+says-45 p m vs (br-on-cast-desc-eq-fail k) e = absurd (not-45 p m vs (br-on-cast-desc-eq-fail k) refl e)
 
 -- and back
 
