@@ -70,7 +70,7 @@ module _ {section s : List ℕ} {x : ℕ} {rows codes work rows′ codes′ work
 
 -- the trial run
 
--- done or a trap of 41 to 45, within so many steps
+-- done or a trap of 41 to 46, within so many steps
 pub data Stops (most : ℕ) : Ran → Type 0 where
   stops-done : {steps results : ℕ} → steps ≤ most → Stops most (Ran.the-variants.Done steps results)
   stops-at-trap : {number place steps : ℕ} → Trap number → steps ≤ most → Stops most (Ran.the-variants.Trapped number place steps)
