@@ -1,19 +1,19 @@
 -- lt and eq are what the core standard's lines say, both ways; where a NaN stands only ne holds; and where none stands le is
 -- what gt is not, and ge what lt is not.
-use Prim.Native.Nat.{ℕ, zero, suc, _+_, _*_, _%_, _≤_, _<_}
-use native.Mathlib.Nat.{le-refl, le-of-lt, le-of-eq, lt-of-lt-of-le, zero-lt-suc, eq-zero-or-pos, eq-or-lt-of-le, lt-irrefl}
+use Prim.Native.Nat.{ℕ, _+_, _*_, _≤_, _<_}
+use native.Mathlib.Nat.{le-refl, le-of-lt, eq-zero-or-pos, eq-or-lt-of-le, lt-irrefl}
 use native.Mathlib.Omega.{arith}
-use mathlib.Core.Path.{_≡_, refl, sym, ap, _∙_, subst}
-use mathlib.Core.Bool.{Bool, true, false, cond, not, _&&_, _||_, Bool·beq}
+use mathlib.Core.Path.{_≡_, refl, sym, ap, _∙_}
+use mathlib.Core.Bool.{Bool, true, false, not, _&&_, _||_, Bool·beq}
 use mathlib.Core.Logic.{_⊎_, inl, inr}
 use lib.Dec.{eqb, ltb}
-use borrow.Author.Tests.{le-ltb, lt-ltb, eq-eqb, ne-eqb, ltb-true, ltb-false, eqb-true, eqb-false}
-use Rattle.scope.specs.Numbers.{Whole, plus, minus}
+use borrow.Author.Tests.{le-ltb, lt-ltb, eq-eqb, ne-eqb, eqb-true}
 use Rattle.scope.specs.Rounding.{Width, signBit, infinite, units}
-use Rattle.scope.specs.Floats.{negative, magnitude, withSign, unitsOf, isNan, eitherNan, lessSigned, sameSigned, floatEqual, floatUnequal, floatLess, floatGreater, floatAtMost, floatAtLeast}
-use Rattle.scope.proofs.Impossible.{contradiction, impossible}
+use Rattle.scope.specs.Floats.{negative, withSign, unitsOf, isNan, lessSigned, sameSigned, floatEqual, floatUnequal, floatLess, floatGreater, floatAtMost, floatAtLeast}
+use Rattle.scope.proofs.Impossible.{impossible}
 use Rattle.facts_floats.specs.Standard.{Proper, zeroOf, infinity, nanOf, Payload, Form, is-nan, is-infinity, is-number}
 use Rattle.facts_floats.specs.Comparing.{counted, Less, Equal}
+use Rattle.facts_floats.proofs.Signs.{or-true, same-sign, signs-both-ways}
 use Rattle.facts_floats.proofs.Wholes.{wholeTest, whole-tested, tested-whole}
 use Rattle.facts_floats.proofs.Units.{lt-or-le, units-lt}
 use Rattle.facts_floats.proofs.Forms.{infinite-below, magnitude-is, nan-nan, infinity-sign, infinity-no-nan, number-sign, number-magnitude, number-no-nan, infinite-pos, units-zero, units-pos, form}
@@ -23,14 +23,6 @@ signed-tested true true m n = refl
 signed-tested true false m n = refl
 signed-tested false true m n = refl
 signed-tested false false m n = refl
-
-or-true : (x : Bool) → (x || true) ≡ true
-or-true true = refl
-or-true false = refl
-
-same-sign : (s : Bool) → Bool·beq s s ≡ true
-same-sign true = refl
-same-sign false = refl
 
 -- a magnitude u beside a greater one v
 module _ (u v : ℕ) (l : u < v) where
@@ -284,16 +276,10 @@ same-both-ways : (s t : Bool) (m n : ℕ) → sameSigned s m t n ≡ sameSigned 
 same-both-ways s t m n = elim (lt-or-le m n) [
   | inl l ↦ rw (ne-eqb m n (λ e. omega arith), ne-eqb n m (λ e. omega arith))
   | inr g ↦ elim (eq-or-lt-of-le g) [
-    | inl e ↦ rw (e, turn s t)
+    | inl e ↦ rw (e, signs-both-ways s t)
     | inr l ↦ rw (ne-eqb m n (λ e. omega arith), ne-eqb n m (λ e. omega arith))
   ]
 ]
-  where
-    turn : (s t : Bool) → Bool·beq s t ≡ Bool·beq t s
-    turn true true = refl
-    turn true false = refl
-    turn false true = refl
-    turn false false = refl
 
 module _ (w : Width) (a b : ℕ) (h : isNan w a ≡ false) (k : isNan w b ≡ false) where
   pub at-most-not-greater : floatAtMost w a b ≡ not (floatGreater w a b)

@@ -1,24 +1,18 @@
 -- The parts of a pattern that is written out by sign and magnitude, and what each test of scope says of it; every pattern
 -- is written out so.
-use Prim.Native.Nat.{ℕ, zero, suc, _+_, _-_, _*_, _/_, _%_, _^_, _≤_, _<_}
-use native.Mathlib.Nat.{le-refl, le-of-lt, le-of-eq, lt-of-lt-of-le, lt-irrefl, zero-add, add-zero, suc-mul, mul-pos, mod-lt, mod-eq-of-lt, add-mod-left, eq-or-lt-of-le, pow-succ'}
+use Prim.Native.Nat.{ℕ, zero, suc, _+_, _-_, _*_, _%_, _^_, _≤_, _<_}
+use native.Mathlib.Nat.{le-refl, le-of-lt, lt-of-lt-of-le, lt-irrefl, zero-add, suc-mul, mul-pos, mod-lt, mod-eq-of-lt, add-mod-left, eq-or-lt-of-le, pow-succ'}
 use native.Mathlib.Omega.{arith}
 use mathlib.Core.Path.{_≡_, refl, sym, ap, _∙_, subst}
-use mathlib.Core.Bool.{Bool, true, false, cond, not, _||_}
-use mathlib.Core.Logic.{_⊎_, inl, inr}
-use lib.Dec.{eqb, ltb, leb}
+use mathlib.Core.Bool.{Bool, true, false, cond}
+use mathlib.Core.Logic.{inl, inr}
+use lib.Dec.{eqb, leb}
 use lib.Pow.{pow-pos}
 use borrow.Author.Tests.{le-leb, lt-leb, le-ltb, lt-ltb, eq-eqb, ne-eqb, leb-true, leb-false}
 use Rattle.scope.specs.Rounding.{Width, lead, signBit, infinite, units}
-use Rattle.scope.specs.Floats.{negative, magnitude, withSign, isNan, isInfinite, isZero, unlike}
-use Rattle.facts_floats.specs.Standard.{Proper, zeroOf, infinity, nanOf, Payload, Nonzero, Form, is-nan, is-infinity, is-number, signOf}
+use Rattle.scope.specs.Floats.{negative, magnitude, withSign, isNan, isInfinite, isZero}
+use Rattle.facts_floats.specs.Standard.{Proper, zeroOf, infinity, nanOf, Payload, Nonzero, Form, is-nan, is-infinity, is-number}
 use Rattle.facts_floats.proofs.Units.{lt-or-le, units-low, units-lt}
-
-pub unlike-sign : (s t : Bool) → unlike s t ≡ signOf s t
-unlike-sign true true = refl
-unlike-sign true false = refl
-unlike-sign false true = refl
-unlike-sign false false = refl
 
 parts : (c : ℕ) (s : Bool) (m : ℕ) → m < c → (leb c (cond s c 0 + m) ≡ s) × ((cond s c 0 + m) % c ≡ m)
 parts c true m h = (le-leb c (c + m) (omega arith), add-mod-left c m ∙ mod-eq-of-lt h)
@@ -26,7 +20,7 @@ parts c false m h = (lt-leb c (0 + m) (omega arith), rw (zero-add m) (mod-eq-of-
 
 module _ (w : Width) where
   -- the sign weighs one step of the exponent's field more than an infinity
-  top : signBit w ≡ infinite w + lead w
+  pub top : signBit w ≡ infinite w + lead w
   top = go (2 ^ (w .exponent)) (pow-pos (w .exponent))
     where
       less-one : (x : ℕ) → suc x - 1 ≡ x

@@ -1,13 +1,13 @@
 -- Nearest by all magnitudes and nearest by the two half-way points are the same. One way the two neighbours are looked at;
 -- the other way a magnitude further off is no nearer than the neighbour on its side.
-use Prim.Native.Nat.{ℕ, zero, suc, _+_, _-_, _*_, _%_, _≤_, _<_}
-use native.Mathlib.Nat.{le-refl, le-of-lt, eq-or-lt-of-le, add-mul, mul-lt-mul-of-pos-right, mul-le-mul-right}
+use Prim.Native.Nat.{ℕ, zero, suc, _+_, _*_, _%_, _≤_, _<_}
+use native.Mathlib.Nat.{le-refl, le-of-lt, eq-or-lt-of-le, add-mul, mul-lt-mul-of-pos-right}
 use native.Mathlib.Omega.{arith}
-use mathlib.Core.Path.{_≡_, refl, sym, ap, _∙_}
-use mathlib.Core.Logic.{_⊎_, inl, inr}
+use mathlib.Core.Path.{_≡_, refl, sym, _∙_}
+use mathlib.Core.Logic.{inl, inr}
 use Rattle.scope.specs.Rounding.{Width, infinite, units, gap, Nearest, rounded}
 use Rattle.facts_floats.specs.Halfway.{Halfway, twiceHalfway}
-use Rattle.facts_floats.proofs.Units.{lt-or-le, units-lt, units-le}
+use Rattle.facts_floats.proofs.Units.{lt-or-le, units-lt}
 use Rattle.facts_floats.proofs.Rounds.{rounded-nearest}
 
 -- n, between x and y: nearer to x exactly below the half

@@ -1,14 +1,14 @@
 -- Integers, over the width in bits. The signed test and the order of what patterns stand for agree: with the highest bit
 -- turned, the lower half stands above the upper half, and each half in its order. Sums and differences wrap around.
-use Prim.Native.Nat.{ℕ, zero, suc, _+_, _-_, _*_, _%_, _^_, _≤_, _<_}
-use native.Mathlib.Nat.{le-of-lt, zero-add, add-zero, add-comm, add-assoc, mod-lt, mod-eq-of-lt, add-mod-left, two-pow-succ}
+use Prim.Native.Nat.{ℕ, suc, _+_, _-_, _%_, _^_, _≤_, _<_}
+use native.Mathlib.Nat.{mod-lt, mod-eq-of-lt, add-mod-left, two-pow-succ}
 use native.Mathlib.Omega.{arith}
-use mathlib.Core.Path.{_≡_, refl, sym, ap, _∙_, subst}
-use mathlib.Core.Bool.{Bool, true, false, cond, not}
-use mathlib.Core.Logic.{_⊎_, inl, inr}
-use lib.Dec.{eqb, ltb, leb}
+use mathlib.Core.Path.{_≡_, sym, ap, _∙_, subst}
+use mathlib.Core.Bool.{true, cond, not}
+use mathlib.Core.Logic.{inl, inr}
+use lib.Dec.{ltb, leb}
 use lib.Pow.{pow-pos}
-use borrow.Author.Tests.{le-ltb, lt-ltb, le-leb, lt-leb, ltb-true, ltb-false}
+use borrow.Author.Tests.{le-ltb, lt-ltb, le-leb, lt-leb}
 use Rattle.scope.specs.Numbers.{Whole, plus, minus, bits32, withinSigned}
 use Rattle.scope.specs.Integers.{intAdd, intSub, standsFor, WholeLess, topTurned, intLessSigned, intAtMostSigned, intGreaterSigned}
 use Rattle.facts_floats.proofs.Units.{lt-or-le}

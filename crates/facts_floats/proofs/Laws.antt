@@ -1,5 +1,5 @@
 -- The page of specs/Laws.antt, cited from what proves each.
-use Prim.Native.Nat.{ℕ, suc, _<_}
+use Prim.Native.Nat.{ℕ, suc}
 use native.Mathlib.Omega.{arith}
 use Rattle.scope.specs.Rounding.{Width, single, double}
 use Rattle.facts_floats.specs.Standard.{Proper}
@@ -7,8 +7,10 @@ use Rattle.facts_floats.specs.Laws.{FloatLaws, IntegerLaws}
 use Rattle.facts_floats.proofs.Rounds.{rounded-nearest, nearest-unique}
 use Rattle.facts_floats.proofs.Halfway.{nearest-halfway, halfway-nearest}
 use Rattle.facts_floats.proofs.Sums.{sum-is, sum-only}
-use Rattle.facts_floats.proofs.Negations.{negation-is, negation-only, difference-is, difference-only}
+use Rattle.facts_floats.proofs.Negations.{neg-fits, negation-is, negation-only, difference-is, difference-only}
 use Rattle.facts_floats.proofs.Products.{product-is, product-only, quotient-is, quotient-only}
+use Rattle.facts_floats.proofs.Finite.{sum-once-alike, sum-once-first, sum-once-second, product-once, quotient-once}
+use Rattle.facts_floats.proofs.Fits as Fits
 use Rattle.facts_floats.proofs.Comparisons.{less-true, true-less, equal-true, true-equal, at-most-not-greater, at-least-not-less}
 use Rattle.facts_floats.proofs.Integers.{add-fits, add-within, add-around, sub-fits, sub-within, sub-around, signed-less, less-signed, at-most-signed}
 
@@ -23,6 +25,16 @@ float-laws w proper =
       differences = record { said = λ a b h k. difference-is w proper h k; only = λ a b r l. difference-only w proper l };
       products = record { said = λ a b h k. product-is w proper h k; only = λ a b r l. product-only w proper l };
       quotients = record { said = λ a b h k. quotient-is w proper h k; only = λ a b r l. quotient-only w proper l };
+      sum-alike = λ a b f g e. sum-once-alike w proper f g e;
+      sum-first = λ a b f g e l. sum-once-first w proper f g e l;
+      sum-second = λ a b f g e l. sum-once-second w proper f g e l;
+      product = λ a b f g. product-once w proper f g;
+      quotient = λ a b f g z. quotient-once w proper f g z;
+      add-fits = λ a b h k. Fits.add-fits w proper h k;
+      sub-fits = λ a b h k. Fits.sub-fits w proper h k;
+      mul-fits = λ a b h k. Fits.mul-fits w proper h k;
+      div-fits = λ a b h k. Fits.div-fits w proper h k;
+      neg-fits = λ b. neg-fits w b;
       negations = λ b h. negation-is w h;
       one-negation = λ b r l. negation-only w l;
       equals = record { holds = λ a b l. equal-true w proper l; said = λ a b h k e. true-equal w proper h k e };

@@ -1,11 +1,14 @@
 pub mod Units
 pub mod Rounds
 pub mod Halfway
+pub mod Signs
 pub mod Forms
 pub mod Once
 pub mod Sums
 pub mod Negations
 pub mod Products
+pub mod Finite
+pub mod Fits
 pub mod Wholes
 pub mod Comparisons
 pub mod Integers

@@ -1,17 +1,18 @@
 -- "neg only turns the sign bit", of every pattern, a NaN's too; and sub is the sum with the second operand negated.
-use Prim.Native.Nat.{ℕ, _+_, _*_, _%_, _<_}
+use Prim.Native.Nat.{ℕ, _+_, _*_, _<_}
 use native.Mathlib.Nat.{mul-pos, mod-lt}
 use native.Mathlib.Omega.{arith}
-use mathlib.Core.Path.{_≡_, refl, sym, ap, _∙_, subst}
+use mathlib.Core.Path.{_≡_, sym, ap, _∙_, subst}
 use mathlib.Core.Bool.{Bool, true, false, cond, not}
 use lib.Pow.{pow-pos}
-use Rattle.scope.specs.Rounding.{Width, signBit, infinite}
+use Rattle.scope.specs.Rounding.{Width, signBit}
 use Rattle.scope.specs.Floats.{negative, magnitude, withSign, floatNeg, floatAdd, floatSub}
-use Rattle.facts_floats.specs.Standard.{Proper, nanOf, Payload, Negation, turned, Sum, Difference, less-by}
+use Rattle.facts_floats.specs.Standard.{Proper, nanOf, Payload, Negation, turned, Difference, less-by}
+use Rattle.facts_floats.proofs.Signs.{not-not}
 use Rattle.facts_floats.proofs.Forms.{sign-is, magnitude-is, nan-below, lead-pos, written}
 use Rattle.facts_floats.proofs.Sums.{sum-is, sum-only}
 
-sign-fits : (c : ℕ) (s : Bool) (m : ℕ) → m < c → cond s c 0 + m < 2 * c
+pub sign-fits : (c : ℕ) (s : Bool) (m : ℕ) → m < c → cond s c 0 + m < 2 * c
 sign-fits c true m h = omega arith
 sign-fits c false m h = omega arith
 
@@ -42,10 +43,6 @@ module _ (w : Width) where
   pub neg-twice : {b : ℕ} → b < 2 * signBit w → floatNeg w (floatNeg w b) ≡ b
   unfolding floatNeg
   neg-twice {b} h = rw (sign-is w (not (negative w b)) (magnitude-below b), magnitude-is w (not (negative w b)) (magnitude-below b), not-not (negative w b)) (sym (written w b h))
-    where
-      not-not : (s : Bool) → not (not s) ≡ s
-      not-not true = refl
-      not-not false = refl
 
   module _ (proper : Proper w) where
     pub difference-only : {a b r : ℕ} → Difference w a b r → r ≡ floatSub w a b

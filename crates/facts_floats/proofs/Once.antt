@@ -1,10 +1,10 @@
 -- "Each float result is rounded once": what is rounded has one result, and it is that of `rounded`; a magnitude that needs no
 -- rounding stays as it is.
-use Prim.Native.Nat.{ℕ, zero, suc, _*_, _≤_, _<_}
-use native.Mathlib.Nat.{zero-lt-suc, mul-one, le-of-lt}
+use Prim.Native.Nat.{ℕ, _*_, _≤_, _<_}
+use native.Mathlib.Nat.{zero-lt-suc, mul-one}
 use mathlib.Core.Path.{_≡_, refl, sym, ap, _∙_}
 use mathlib.Core.Bool.{Bool}
-use Rattle.scope.specs.Rounding.{Width, infinite, units, one, Nearest, rounded}
+use Rattle.scope.specs.Rounding.{Width, infinite, units, rounded}
 use Rattle.scope.specs.Floats.{withSign, RoundedOnce}
 use Rattle.facts_floats.specs.Standard.{Proper}
 use Rattle.facts_floats.proofs.Rounds.{rounded-nearest, nearest-unique, rounded-exact}

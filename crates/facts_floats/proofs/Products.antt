@@ -1,21 +1,17 @@
 -- mul and div are what the core standard's lines say, both ways. Each line is an equation of `floatMul` or `floatDiv`; every
 -- two patterns fall under a line, and no two lines differ.
-use Prim.Native.Nat.{ℕ, zero, suc, _+_, _-_, _*_, _%_, _^_, _≤_, _<_}
+use Prim.Native.Nat.{ℕ, _*_, _<_}
 use native.Mathlib.Nat.{le-of-lt, zero-mul, mul-zero, eq-zero-or-pos}
-use native.Mathlib.Omega.{arith}
-use mathlib.Core.Path.{_≡_, refl, sym, ap, _∙_, subst}
-use mathlib.Core.Bool.{Bool, true, false, cond, not, _&&_, _||_, Bool·beq}
-use mathlib.Core.Logic.{_⊎_, inl, inr}
+use mathlib.Core.Path.{_≡_, sym, ap, _∙_, subst}
+use mathlib.Core.Bool.{Bool, true, false}
+use mathlib.Core.Logic.{inl, inr}
 use lib.Pow.{pow-pos}
 use Rattle.scope.specs.Rounding.{Width, signBit, infinite, units, one, rounded}
-use Rattle.scope.specs.Floats.{withSign, isNan, isInfinite, isZero, canonicalNan, unlike, floatMul, floatDiv, RoundedOnce}
+use Rattle.scope.specs.Floats.{withSign, isNan, isZero, canonicalNan, floatMul, floatDiv}
 use Rattle.facts_floats.specs.Standard.{Proper, zeroOf, infinity, nanOf, Payload, Nonzero, Form, is-nan, is-infinity, is-number, signOf, Product, Quotient}
-use Rattle.facts_floats.proofs.Forms.{unlike-sign, infinite-below, nan-nan, infinity-sign, infinity-no-nan, infinity-infinite, number-sign, number-magnitude, number-no-nan, number-finite, infinite-pos, infinity-no-zero, zero-zero, nonzero-no-zero, units-zero, units-pos, form}
+use Rattle.facts_floats.proofs.Signs.{or-true, unlike-sign}
+use Rattle.facts_floats.proofs.Forms.{nan-nan, infinity-sign, infinity-no-nan, infinity-infinite, number-sign, number-magnitude, number-no-nan, number-finite, infinite-pos, infinity-no-zero, zero-zero, nonzero-no-zero, units-zero, units-pos, form}
 use Rattle.facts_floats.proofs.Once.{once, once-only, exactly}
-
-or-true : (x : Bool) → (x || true) ≡ true
-or-true true = refl
-or-true false = refl
 
 module _ (w : Width) where
   -- so many units are 1, and that is not none

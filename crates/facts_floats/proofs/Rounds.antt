@@ -1,10 +1,10 @@
 -- `rounded` is the nearest magnitude, ties to even, and there is only one such. The quotient is off by less than its step, so
 -- one of two neighbours is nearest; any other magnitude counts less than the lower or more than the upper one.
-use Prim.Native.Nat.{ℕ, zero, suc, _+_, _-_, _*_, _/_, _%_, _^_, _≤_, _<_, min, compare, Ordering, Ordering·lt, Ordering·eq, Ordering·gt}
-use native.Mathlib.Nat.{le-refl, le-trans, le-of-eq, le-of-lt, lt-of-lt-of-le, lt-of-le-of-lt, le-of-suc-le-suc, eq-or-lt-of-le, zero-lt-suc, add-zero, zero-add, add-assoc, suc-mul, mul-one, mul-comm, mul-assoc, mul-left-comm, mul-right-comm, mul-pos, mul-le-mul-right, mul-lt-mul-of-pos-right, pow-suc, pow-succ', div-add-mod', mod-lt, div-div-eq-div-mul, le-div-iff-mul-le, min-eq-left, min-eq-right, le-antisymm, lt-irrefl, two-pow-succ, eq-zero-or-pos}
+use Prim.Native.Nat.{ℕ, zero, suc, _+_, _-_, _*_, _/_, _%_, _^_, _≤_, _<_, compare, Ordering, Ordering·lt, Ordering·eq, Ordering·gt}
+use native.Mathlib.Nat.{le-refl, le-trans, le-of-eq, le-of-lt, lt-of-lt-of-le, eq-or-lt-of-le, add-zero, suc-mul, mul-comm, mul-assoc, mul-left-comm, mul-pos, mul-le-mul-right, mul-lt-mul-of-pos-right, pow-succ', div-add-mod', mod-lt, div-div-eq-div-mul, le-div-iff-mul-le, min-eq-left, min-eq-right, le-antisymm, lt-irrefl, two-pow-succ, eq-zero-or-pos}
 use native.Mathlib.Omega.{arith}
 use mathlib.Core.Path.{_≡_, refl, sym, ap, _∙_, subst}
-use mathlib.Core.Bool.{Bool, true, false, cond}
+use mathlib.Core.Bool.{true, false}
 use mathlib.Core.Logic.{_⊎_, inl, inr, ⊎-elim}
 use lib.Dec.{isLe, isEq}
 use lib.Pow.{pow-pos, pow-add}

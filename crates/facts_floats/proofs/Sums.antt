@@ -1,40 +1,19 @@
 -- add and sub are what the core standard's lines say, both ways. Each line is an equation of `floatAdd`; every two patterns
 -- fall under a line, and no two lines differ.
-use Prim.Native.Nat.{ℕ, zero, suc, _+_, _-_, _*_, _%_, _≤_, _<_}
-use native.Mathlib.Nat.{le-refl, le-of-lt, le-of-eq, zero-lt-suc, zero-add, add-zero, sub-self, eq-zero-or-pos, eq-or-lt-of-le}
+use Prim.Native.Nat.{ℕ, _+_, _-_, _*_, _<_}
+use native.Mathlib.Nat.{le-refl, le-of-lt, zero-lt-suc, zero-add, add-zero, sub-self, eq-zero-or-pos, eq-or-lt-of-le}
 use native.Mathlib.Omega.{arith}
-use mathlib.Core.Path.{_≡_, refl, sym, ap, _∙_, subst}
-use mathlib.Core.Bool.{Bool, true, false, cond, not, _&&_, _||_, Bool·beq}
-use mathlib.Core.Logic.{_⊎_, inl, inr}
-use lib.Dec.{ltb}
+use mathlib.Core.Path.{_≡_, sym, ap, _∙_, subst}
+use mathlib.Core.Bool.{Bool, true, false, not}
+use mathlib.Core.Logic.{inl, inr}
 use borrow.Author.Tests.{le-ltb, lt-ltb}
 use Rattle.scope.specs.Rounding.{Width, signBit, infinite, units, rounded}
-use Rattle.scope.specs.Floats.{negative, magnitude, withSign, isNan, canonicalNan, sumOf, floatNeg, floatAdd, floatSub, RoundedOnce}
-use Rattle.facts_floats.specs.Standard.{Proper, zeroOf, infinity, nanOf, Payload, Nonzero, Form, is-nan, is-infinity, is-number, Negation, turned, Sum, Difference, less-by}
-use Rattle.facts_floats.specs.Standard
+use Rattle.scope.specs.Floats.{withSign, isNan, canonicalNan, sumOf, floatAdd}
+use Rattle.facts_floats.specs.Standard.{Proper, zeroOf, infinity, nanOf, Payload, Nonzero, Form, is-nan, is-infinity, is-number, Sum}
+use Rattle.facts_floats.proofs.Signs.{or-true, and-true, and-false, same-sign, other-sign}
 use Rattle.facts_floats.proofs.Units.{lt-or-le, units-lt}
-use Rattle.facts_floats.proofs.Forms.{infinite-below, number-below, nan-below, sign-is, magnitude-is, nan-nan, infinity-sign, infinity-no-nan, infinity-infinite, number-sign, number-magnitude, number-no-nan, number-finite, infinite-pos, units-zero, units-pos, form}
+use Rattle.facts_floats.proofs.Forms.{nan-nan, infinity-sign, infinity-no-nan, infinity-infinite, number-sign, number-magnitude, number-no-nan, number-finite, infinite-pos, units-zero, units-pos, form}
 use Rattle.facts_floats.proofs.Once.{once, once-only, exactly-whole}
-
-or-true : (x : Bool) → (x || true) ≡ true
-or-true true = refl
-or-true false = refl
-
-and-true : (s : Bool) → (s && true) ≡ s
-and-true true = refl
-and-true false = refl
-
-and-false : (s : Bool) → (s && false) ≡ false
-and-false true = refl
-and-false false = refl
-
-same-sign : (s : Bool) → Bool·beq s s ≡ true
-same-sign true = refl
-same-sign false = refl
-
-other-sign : (s : Bool) → Bool·beq s (not s) ≡ false
-other-sign true = refl
-other-sign false = refl
 
 module _ (w : Width) where
   -- "a NaN from add .. is written as the positive canonical pattern"

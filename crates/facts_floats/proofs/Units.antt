@@ -1,11 +1,11 @@
 -- What a magnitude counts in units: by its field and its digits; and a greater magnitude counts more.
 use Prim.Native.Nat.{ℕ, zero, suc, _+_, _-_, _*_, _/_, _%_, _^_, _≤_, _<_}
-use native.Mathlib.Nat.{le-refl, le-trans, le-of-eq, le-of-lt, lt-of-lt-of-le, lt-of-le-of-lt, lt-trans, le-of-suc-le-suc, eq-or-lt-of-le, zero-lt-suc, not-suc-le-zero, add-zero, zero-add, add-assoc, suc-mul, zero-mul, mul-one, mul-comm, mul-assoc, mul-lt-mul-of-pos-right, pow-suc, pow-succ', div-eq-of-lt, div-add-mod', mod-lt}
+use native.Mathlib.Nat.{le-of-eq, le-of-lt, lt-trans, le-of-suc-le-suc, eq-or-lt-of-le, not-suc-le-zero, add-zero, zero-add, add-assoc, suc-mul, zero-mul, mul-one, mul-assoc, pow-succ', div-eq-of-lt, div-add-mod', mod-lt}
 use native.Mathlib.Omega.{arith}
-use mathlib.Core.Path.{_≡_, refl, sym, ap, _∙_, subst}
-use mathlib.Core.Bool.{Bool, true, false, cond}
+use mathlib.Core.Path.{_≡_, refl, sym, ap, _∙_}
+use mathlib.Core.Bool.{Bool, true, false}
 use mathlib.Core.Logic.{_⊎_, inl, inr, ⊎-elim}
-use lib.Dec.{eqb, ltb, eqb·suc-zero}
+use lib.Dec.{ltb, eqb·suc-zero}
 use lib.Arith.{digits-div, digits-mod}
 use lib.Pow.{pow-pos}
 use borrow.Author.Tests.{eq-eqb, ltb-true, ltb-false}

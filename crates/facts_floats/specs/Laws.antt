@@ -1,13 +1,13 @@
 -- What is proved of the numbers of change request 1, on one page: of floats over the width, of integers over the width in
 -- bits. A pattern is below two sign bits.
-use Prim.Native.Nat.{ℕ, suc, _+_, _*_, _^_, _≤_, _<_}
+use Prim.Native.Nat.{ℕ, suc, _+_, _-_, _*_, _^_, _≤_, _<_}
 use mathlib.Core.Path.{_≡_}
-use mathlib.Core.Bool.{Bool, true, false, not}
-use Rattle.scope.specs.Rounding.{Width, signBit, Nearest, rounded}
-use Rattle.scope.specs.Floats.{isNan, floatNeg, floatAdd, floatSub, floatMul, floatDiv, floatEqual, floatLess, floatGreater, floatAtMost, floatAtLeast}
+use mathlib.Core.Bool.{Bool, true, false, not, Bool·beq}
+use Rattle.scope.specs.Rounding.{Width, signBit, one, Nearest, rounded}
+use Rattle.scope.specs.Floats.{negative, unitsOf, isNan, isZero, Finite, RoundedOnce, floatNeg, floatAdd, floatSub, floatMul, floatDiv, floatEqual, floatLess, floatGreater, floatAtMost, floatAtLeast}
 use Rattle.scope.specs.Integers.{intAdd, intSub, standsFor, WholeLess, intLessSigned, intGreaterSigned, intAtMostSigned}
 use Rattle.facts_floats.specs.Halfway.{Halfway}
-use Rattle.facts_floats.specs.Standard.{Negation, Sum, Difference, Product, Quotient}
+use Rattle.facts_floats.specs.Standard.{signOf, Negation, Sum, Difference, Product, Quotient}
 use Rattle.facts_floats.specs.Comparing.{Less, Equal}
 
 -- an operation gives what the lines say, and the lines say nothing else
@@ -31,6 +31,23 @@ pub record FloatLaws (w : Width) : Type 0 where
   pub differences : Exactly w (Difference w) (floatSub w)
   pub products : Exactly w (Product w) (floatMul w)
   pub quotients : Exactly w (Quotient w) (floatDiv w)
+  -- "Each float result is rounded once": of numbers, zeros among them
+  pub sum-alike : (a b : ℕ) → Finite w a → Finite w b → Bool·beq (negative w a) (negative w b) ≡ true
+      → RoundedOnce w (negative w a) (unitsOf w a + unitsOf w b) 1 (floatAdd w a b)
+  pub sum-first : (a b : ℕ) → Finite w a → Finite w b → Bool·beq (negative w a) (negative w b) ≡ false → unitsOf w b < unitsOf w a
+      → RoundedOnce w (negative w a) (unitsOf w a - unitsOf w b) 1 (floatAdd w a b)
+  pub sum-second : (a b : ℕ) → Finite w a → Finite w b → Bool·beq (negative w a) (negative w b) ≡ false → unitsOf w a < unitsOf w b
+      → RoundedOnce w (negative w b) (unitsOf w b - unitsOf w a) 1 (floatAdd w a b)
+  pub product : (a b : ℕ) → Finite w a → Finite w b
+      → RoundedOnce w (signOf (negative w a) (negative w b)) (unitsOf w a * unitsOf w b) (one w) (floatMul w a b)
+  pub quotient : (a b : ℕ) → Finite w a → Finite w b → isZero w b ≡ false
+      → RoundedOnce w (signOf (negative w a) (negative w b)) (unitsOf w a * one w) (unitsOf w b) (floatDiv w a b)
+  -- every result is a pattern of the width
+  pub add-fits : (a b : ℕ) → a < 2 * signBit w → b < 2 * signBit w → floatAdd w a b < 2 * signBit w
+  pub sub-fits : (a b : ℕ) → a < 2 * signBit w → b < 2 * signBit w → floatSub w a b < 2 * signBit w
+  pub mul-fits : (a b : ℕ) → a < 2 * signBit w → b < 2 * signBit w → floatMul w a b < 2 * signBit w
+  pub div-fits : (a b : ℕ) → a < 2 * signBit w → b < 2 * signBit w → floatDiv w a b < 2 * signBit w
+  pub neg-fits : (b : ℕ) → floatNeg w b < 2 * signBit w
   -- neg
   pub negations : (b : ℕ) → b < 2 * signBit w → Negation w b (floatNeg w b)
   pub one-negation : (b r : ℕ) → Negation w b r → r ≡ floatNeg w b

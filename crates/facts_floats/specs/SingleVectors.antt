@@ -3,7 +3,7 @@
 -- two magnitudes beside it; no processor's float was asked.
 use mathlib.Core.List.{List, [], _∷_}
 use Rattle.scope.specs.Floats.{floatAdd, floatSub, floatMul, floatDiv}
-use Rattle.facts_floats.specs.Vectors.{Case, gives, Turned, turns, Ordered, less, equal, greater, unordered, Compared, compares}
+use Rattle.facts_floats.specs.Vectors.{Case, gives, Turned, turns, less, equal, greater, unordered, Compared, compares}
 
 abbrev pub singleCases : List Case
 singleCases =

@@ -1,6 +1,7 @@
 -- The core standard's fadd, fsub, fmul, fdiv and fneg, a constructor for each of its lines, over patterns written out by
 -- sign and magnitude. Where the standard leaves a NaN open, change request 1 says: "a NaN from add, sub, mul or div is written
--- as the positive canonical pattern". A line's constructor takes no word of the tests that the definitions of scope make.
+-- as the positive canonical pattern". No line uses a test of scope's definitions; what they share (the weight of the sign, the
+-- magnitude of an infinity, units, the canonical pattern) is pinned by the vectors.
 use Prim.Native.Nat.{ℕ, _+_, _*_, _<_}
 use mathlib.Core.Path.{_≡_}
 use mathlib.Core.Bool.{Bool, true, false, not}

@@ -1,6 +1,6 @@
 -- What a vector is, and when it holds.
 use Prim.Native.Nat.{ℕ}
-use mathlib.Core.Bool.{Bool, true, false, not, _&&_, Bool·beq}
+use mathlib.Core.Bool.{Bool, not, _&&_, Bool·beq}
 use lib.Dec.{eqb}
 use Rattle.scope.specs.Rounding.{Width}
 use Rattle.scope.specs.Floats.{floatNeg, floatEqual, floatUnequal, floatLess, floatGreater, floatAtMost, floatAtLeast}
