@@ -12,7 +12,7 @@ use Rattle.scope.specs.Rounding.{Width, signBit, infinite, units}
 use Rattle.scope.specs.Floats.{negative, withSign, unitsOf, isNan, lessSigned, sameSigned, floatEqual, floatUnequal, floatLess, floatGreater, floatAtMost, floatAtLeast}
 use Rattle.scope.proofs.Impossible.{impossible}
 use Rattle.facts_floats.specs.Standard.{Proper, zeroOf, infinity, nanOf, Payload, Form, is-nan, is-infinity, is-number}
-use Rattle.facts_floats.specs.Comparing.{counted, Less, Equal}
+use Rattle.facts_floats.specs.Comparing.{counted, Less, Equal, OnlyUnequal}
 use Rattle.facts_floats.proofs.Signs.{or-true, same-sign, signs-both-ways}
 use Rattle.facts_floats.proofs.Wholes.{wholeTest, whole-tested, tested-whole}
 use Rattle.facts_floats.proofs.Units.{lt-or-le, units-lt}
@@ -119,22 +119,14 @@ module _ (w : Width) where
     pub nan-differs-from-itself : floatUnequal w (nanOf w s p) (nanOf w s p) ≡ true
     nan-differs-from-itself = ap not (nan-not-equal (nanOf w s p))
 
-  pub record OnlyUnequal (a b : ℕ) : Type 0 where
-    pub eq : floatEqual w a b ≡ false
-    pub ne : floatUnequal w a b ≡ true
-    pub lt : floatLess w a b ≡ false
-    pub gt : floatGreater w a b ≡ false
-    pub le : floatAtMost w a b ≡ false
-    pub ge : floatAtLeast w a b ≡ false
-
-  pub only-unequal-first : (s : Bool) {p : ℕ} → Payload w p → (b : ℕ) → OnlyUnequal (nanOf w s p) b
+  pub only-unequal-first : (s : Bool) {p : ℕ} → Payload w p → (b : ℕ) → OnlyUnequal w (nanOf w s p) b
   only-unequal-first s h b =
       let e = nan-not-equal s h b in
       let l = nan-not-less s h b in
       let g = not-less-than-nan s h b in
       record { eq = e; ne = ap not e; lt = l; gt = g; le = rw (l, e); ge = rw (g, e) }
 
-  pub only-unequal-second : (s : Bool) {p : ℕ} → Payload w p → (a : ℕ) → OnlyUnequal a (nanOf w s p)
+  pub only-unequal-second : (s : Bool) {p : ℕ} → Payload w p → (a : ℕ) → OnlyUnequal w a (nanOf w s p)
   only-unequal-second s h a =
       let e = not-equal-to-nan s h a in
       let l = not-less-than-nan s h a in

@@ -6,12 +6,13 @@ use Rattle.facts_floats.specs.Standard.{Proper}
 use Rattle.facts_floats.specs.Laws.{FloatLaws, IntegerLaws}
 use Rattle.facts_floats.proofs.Rounds.{rounded-nearest, nearest-unique}
 use Rattle.facts_floats.proofs.Halfway.{nearest-halfway, halfway-nearest}
+use Rattle.facts_floats.proofs.Bounds.{overflows, overflows-only, vanishes, vanishes-only}
 use Rattle.facts_floats.proofs.Sums.{sum-is, sum-only}
 use Rattle.facts_floats.proofs.Negations.{neg-fits, negation-is, negation-only, difference-is, difference-only}
 use Rattle.facts_floats.proofs.Products.{product-is, product-only, quotient-is, quotient-only}
 use Rattle.facts_floats.proofs.Finite.{sum-once-alike, sum-once-first, sum-once-second, product-once, quotient-once}
 use Rattle.facts_floats.proofs.Fits as Fits
-use Rattle.facts_floats.proofs.Comparisons.{less-true, true-less, equal-true, true-equal, at-most-not-greater, at-least-not-less}
+use Rattle.facts_floats.proofs.Comparisons.{less-true, true-less, equal-true, true-equal, only-unequal-first, only-unequal-second, at-most-not-greater, at-least-not-less}
 use Rattle.facts_floats.proofs.Integers.{add-fits, add-within, add-around, sub-fits, sub-within, sub-around, signed-less, less-signed, at-most-signed}
 
 pub float-laws : (w : Width) → Proper w → FloatLaws w
@@ -21,6 +22,10 @@ float-laws w proper =
       one-nearest = λ n d r s h p q. nearest-unique w n d h (proper .some-digit) p q;
       halfway = λ n d r h p. nearest-halfway w n d h p;
       by-halfway = λ n d r h p. halfway-nearest w n d h p;
+      overflow = λ n d D h. overflows w proper n d D h;
+      overflow-only = λ n d D e. overflows-only w proper n d D e;
+      vanish = λ n d D h. vanishes w proper n d D h;
+      vanish-only = λ n d D e. vanishes-only w proper n d D e;
       sums = record { said = λ a b h k. sum-is w proper h k; only = λ a b r l. sum-only w proper l };
       differences = record { said = λ a b h k. difference-is w proper h k; only = λ a b r l. difference-only w proper l };
       products = record { said = λ a b h k. product-is w proper h k; only = λ a b r l. product-only w proper l };
@@ -39,6 +44,8 @@ float-laws w proper =
       one-negation = λ b r l. negation-only w l;
       equals = record { holds = λ a b l. equal-true w proper l; said = λ a b h k e. true-equal w proper h k e };
       lesses = record { holds = λ a b l. less-true w proper l; said = λ a b h k e. true-less w proper h k e };
+      nan-first = λ s p b h. only-unequal-first w s h b;
+      nan-second = λ s p a h. only-unequal-second w s h a;
       at-most = λ a b h k. at-most-not-greater w a b h k;
       at-least = λ a b h k. at-least-not-less w a b h k;
     }

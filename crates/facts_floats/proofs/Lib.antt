@@ -3,6 +3,7 @@ pub mod Rounds
 pub mod Halfway
 pub mod Signs
 pub mod Forms
+pub mod Bounds
 pub mod Once
 pub mod Sums
 pub mod Negations

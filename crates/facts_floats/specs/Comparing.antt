@@ -2,10 +2,11 @@
 -- equals +0. Where a NaN stands only ne holds." A NaN is in none of them. fgt, fle and fge are made of these two, fne is what
 -- feq is not.
 use Prim.Native.Nat.{ℕ, _<_}
+use mathlib.Core.Path.{_≡_}
 use mathlib.Core.Bool.{Bool, true, false}
 use Rattle.scope.specs.Numbers.{Whole, plus, minus}
 use Rattle.scope.specs.Rounding.{Width, infinite, units}
-use Rattle.scope.specs.Floats.{withSign}
+use Rattle.scope.specs.Floats.{withSign, floatEqual, floatUnequal, floatLess, floatGreater, floatAtMost, floatAtLeast}
 use Rattle.scope.specs.Integers.{WholeLess}
 use Rattle.facts_floats.specs.Standard.{zeroOf, infinity}
 
@@ -25,3 +26,12 @@ pub data Equal (w : Width) : ℕ → ℕ → Type 0 where
   zeros : (s t : Bool) → Equal w (zeroOf w s) (zeroOf w t)
   same-number : (s : Bool) (m : ℕ) → m < infinite w → Equal w (withSign w s m) (withSign w s m)
   same-infinity : (s : Bool) → Equal w (infinity w s) (infinity w s)
+
+-- "Where a NaN stands only ne holds"
+pub record OnlyUnequal (w : Width) (a b : ℕ) : Type 0 where
+  pub eq : floatEqual w a b ≡ false
+  pub ne : floatUnequal w a b ≡ true
+  pub lt : floatLess w a b ≡ false
+  pub gt : floatGreater w a b ≡ false
+  pub le : floatAtMost w a b ≡ false
+  pub ge : floatAtLeast w a b ≡ false

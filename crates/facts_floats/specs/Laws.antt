@@ -3,12 +3,12 @@
 use Prim.Native.Nat.{ℕ, suc, _+_, _-_, _*_, _^_, _≤_, _<_}
 use mathlib.Core.Path.{_≡_}
 use mathlib.Core.Bool.{Bool, true, false, not, Bool·beq}
-use Rattle.scope.specs.Rounding.{Width, signBit, one, Nearest, rounded}
+use Rattle.scope.specs.Rounding.{Width, signBit, infinite, one, Nearest, rounded}
 use Rattle.scope.specs.Floats.{negative, unitsOf, isNan, isZero, Finite, RoundedOnce, floatNeg, floatAdd, floatSub, floatMul, floatDiv, floatEqual, floatLess, floatGreater, floatAtMost, floatAtLeast}
 use Rattle.scope.specs.Integers.{intAdd, intSub, standsFor, WholeLess, intLessSigned, intGreaterSigned, intAtMostSigned}
-use Rattle.facts_floats.specs.Halfway.{Halfway}
-use Rattle.facts_floats.specs.Standard.{signOf, Negation, Sum, Difference, Product, Quotient}
-use Rattle.facts_floats.specs.Comparing.{Less, Equal}
+use Rattle.facts_floats.specs.Halfway.{Halfway, twiceHalfway}
+use Rattle.facts_floats.specs.Standard.{nanOf, Payload, signOf, Negation, Sum, Difference, Product, Quotient}
+use Rattle.facts_floats.specs.Comparing.{Less, Equal, OnlyUnequal}
 
 -- an operation gives what the lines say, and the lines say nothing else
 pub record Exactly (w : Width) (lines : ℕ → ℕ → ℕ → Type 0) (operation : ℕ → ℕ → ℕ) : Type 0 where
@@ -26,6 +26,11 @@ pub record FloatLaws (w : Width) : Type 0 where
   pub one-nearest : (n d r s : ℕ) → 0 < d → Nearest w n d r → Nearest w n d s → r ≡ s
   pub halfway : (n d r : ℕ) → 0 < d → Nearest w n d r → Halfway w n d r
   pub by-halfway : (n d r : ℕ) → 0 < d → Halfway w n d r → Nearest w n d r
+  -- overflow: exactly from half a step past the greatest value on; and to zero: exactly up to half a unit
+  pub overflow : (n d : ℕ) → 0 < d → twiceHalfway w d (infinite w - 1) ≤ n * 2 → rounded w n d ≡ infinite w
+  pub overflow-only : (n d : ℕ) → 0 < d → rounded w n d ≡ infinite w → twiceHalfway w d (infinite w - 1) ≤ n * 2
+  pub vanish : (n d : ℕ) → 0 < d → n * 2 ≤ d → rounded w n d ≡ 0
+  pub vanish-only : (n d : ℕ) → 0 < d → rounded w n d ≡ 0 → n * 2 ≤ d
   -- add, sub, mul, div
   pub sums : Exactly w (Sum w) (floatAdd w)
   pub differences : Exactly w (Difference w) (floatSub w)
@@ -54,6 +59,8 @@ pub record FloatLaws (w : Width) : Type 0 where
   -- eq and lt; ne is what eq is not and gt is lt turned round, by definition; le and ge
   pub equals : ExactlyWhere w (Equal w) (floatEqual w)
   pub lesses : ExactlyWhere w (Less w) (floatLess w)
+  pub nan-first : (s : Bool) (p b : ℕ) → Payload w p → OnlyUnequal w (nanOf w s p) b
+  pub nan-second : (s : Bool) (p a : ℕ) → Payload w p → OnlyUnequal w a (nanOf w s p)
   pub at-most : (a b : ℕ) → isNan w a ≡ false → isNan w b ≡ false → floatAtMost w a b ≡ not (floatGreater w a b)
   pub at-least : (a b : ℕ) → isNan w a ≡ false → isNan w b ≡ false → floatAtLeast w a b ≡ not (floatLess w a b)
 
