@@ -8,6 +8,7 @@ use mathlib.Core.List.{List}
 use native.Mathlib.Omega.{arith}
 use native.Mathlib.Nat.{mul-add, mul-assoc, add-assoc, mul-le-mul-left, mul-le-mul, zero-add, one-mul}
 use lib.ListN.{length, getElem?}
+use lib.Pow.{pow-add, pow-mono}
 use lib.Dec.{T, ltb, lit≤, lit<}
 use borrow.Author.Tests.{lt-ltb, le-ltb}
 use mir.Syntax.{w64}
@@ -19,13 +20,7 @@ use Rattle.number.specs.declared.Byte.{Byte}
 use Rattle.number.specs.declared.Byte
 use Rattle.number.specs.declared.Leb.{Leb}
 use Rattle.number.specs.declared.Leb
-use Rattle.number.specs.Answers.{byteIs, byteLimit, lebIs, ByteAt, GoesOn, Few, BitsRead}
-
--- v of weight w, from k bytes, put below what follows
-abbrev pub above : ℕ → ℕ → ℕ → Bits → Bits
-above v w k (bits u j next) = bits (v + w * u) (k + j) next
-above v w k cut = cut
-above v w k long = long
+use Rattle.number.specs.Answers.{byteIs, byteLimit, above, ByteAt, MostBytes, GoesOn, Few, BitsRead}
 
 above-none : (r : Bits) → r ≡ above 0 1 0 r
 above-none (bits u j next) = let p : 0 + 1 * u ≡ u = omega arith in let q : 0 + j ≡ j = omega arith in cc
@@ -48,7 +43,7 @@ pub bits-last : (room : ℕ) (s : List ℕ) (at : ℕ) {b : ℕ} → getElem? s 
 unfolding bitsAt
 bits-last room s at {b} e h = rw (e, lt-ltb b 128 h)
 
-bits-more : (room : ℕ) (s : List ℕ) (at : ℕ) {b : ℕ} → getElem? s at ≡ some b → 128 ≤ b → bitsAt (suc room) s at ≡ under b (bitsAt room s (at + 1))
+pub bits-more : (room : ℕ) (s : List ℕ) (at : ℕ) {b : ℕ} → getElem? s at ≡ some b → 128 ≤ b → bitsAt (suc room) s at ≡ under b (bitsAt room s (at + 1))
 unfolding bitsAt
 bits-more room s at {b} e h = rw (e, le-ltb b 128 h)
 
@@ -66,128 +61,89 @@ pub byte-none : (o : Option ℕ) {r : Byte} → r ≡ byteIs o → r ≡ Byte.th
 byte-none none p q = refl
 byte-none (some x) p q = impossible cc
 
--- what the loop holds: `left` bytes may still follow
+-- what the loop holds after `count` bytes that all go on
 
-pub record Part (s : List ℕ) (at value weight next left : ℕ) : Type 0 where
-  pub fewer : left ≤ 5
-  pub weighs : weight ≡ 128 ^ (5 - left)
+pub record Part (most : ℕ) (s : List ℕ) (at value weight next count : ℕ) : Type 0 where
+  pub few : count ≤ most
+  pub weighs : weight ≡ 2 ^ (7 * count)
   pub small : value < weight
-  pub same : bitsAt 5 s at ≡ above value weight (5 - left) (bitsAt left s next)
+  pub same : (more : ℕ) → bitsAt (most + more) s at ≡ above value weight count (bitsAt (most + more - count) s next)
 
-pub part-first : (s : List ℕ) (at : ℕ) → Part s at 0 1 at 5
-part-first s at = record { fewer = omega arith; weighs = refl; small = omega arith; same = above-none (bitsAt 5 s at) }
+part-first : (most : ℕ) (s : List ℕ) (at : ℕ) → Part most s at 0 1 at 0
+part-first most s at =
+    record { few = omega arith; weighs = refl; small = omega arith; same = λ more. above-none (bitsAt (most + more) s at) ∙ ap (λ (n : ℕ). above 0 1 0 (bitsAt n s at)) (let e : most + more ≡ most + more - 0 = omega arith in e) }
 
--- what holds at each of the five bytes
-at-each : (P : ℕ → Type 0) → P 1 → P 2 → P 3 → P 4 → P 5 → (left : ℕ) → 0 < left → left ≤ 5 → P left
-at-each P a b c d e zero p q = absurd (omega arith)
-at-each P a b c d e (suc zero) p q = a
-at-each P a b c d e (suc (suc zero)) p q = b
-at-each P a b c d e (suc (suc (suc zero))) p q = c
-at-each P a b c d e (suc (suc (suc (suc zero)))) p q = d
-at-each P a b c d e (suc (suc (suc (suc (suc zero))))) p q = e
-at-each P a b c d e (suc (suc (suc (suc (suc (suc n)))))) p q = absurd (omega arith)
+seven-more : (k : ℕ) → 2 ^ (7 * k) * 128 ≡ 2 ^ (7 * (k + 1))
+seven-more k = sym (pow-add 2 (7 * k) 7) ∙ ap (λ (x : ℕ). 2 ^ x) (let e : 7 * k + 7 ≡ 7 * (k + 1) = omega arith in e)
 
-weight-grows : (left : ℕ) → 0 < left → left ≤ 5 → 128 ^ (5 - left) * 128 ≡ 128 ^ (5 - (left - 1))
-weight-grows = at-each (λ left. 128 ^ (5 - left) * 128 ≡ 128 ^ (5 - (left - 1))) refl refl refl refl refl
+module _ {most : ℕ} (fit : MostBytes most) {s : List ℕ} {at value weight next count : ℕ} (p : Part most s at value weight next count) (left : count < most) where
+  pub weight-bound : weight ≤ 2 ^ 56
+  weight-bound = rw (p .weighs) (pow-mono {i = 7 * count} {j = 56} (let h : most ≤ 9 = fit .fit in omega arith))
 
-seven-bits : (left : ℕ) → 0 < left → left ≤ 5 → 128 ^ (5 - left) * 128 ≡ 2 ^ (7 * (6 - left))
-seven-bits = at-each (λ left. 128 ^ (5 - left) * 128 ≡ 2 ^ (7 * (6 - left))) refl refl refl refl refl
-
-weight-small : (left : ℕ) → 0 < left → left ≤ 5 → 128 ^ (5 - left) ≤ 2 ^ 28
-weight-small = at-each (λ left. 128 ^ (5 - left) ≤ 2 ^ 28) (lit≤ tt) (lit≤ tt) (lit≤ tt) (lit≤ tt) (lit≤ tt)
-
-module _ {s : List ℕ} {at value weight next left : ℕ} (p : Part s at value weight next left) (more : 0 < left) where
-  pub weight-bound : weight ≤ 2 ^ 28
-  weight-bound = rw (p .weighs) (weight-small left more (p .fewer))
-
-  pub times-bound : {b : ℕ} → b < 128 → weight * b ≤ weight * 127
+  times-bound : {b : ℕ} → b < 128 → weight * b ≤ weight * 127
   times-bound h = mul-le-mul-left weight (omega arith)
 
   turn-value : {b : ℕ} → b < byteLimit → value + weight * (b - 128) < weight * 128
   turn-value {b} h = let t : weight * (b - 128) ≤ weight * 127 = mul-le-mul-left weight (omega arith) in let q : value < weight = p .small in omega arith
 
+  -- how many bytes may still follow: one at least
+  room : (more : ℕ) → most + more - count ≡ suc (most + more - (count + 1))
+  room more = omega arith
+
   -- a byte that goes on: seven bits more
-  pub part-turn : {r : Byte} {b : ℕ} → ByteAt s next r → r ≡ Byte.the-variants.Is b → 128 ≤ b → Part s at (value + weight * (b - 128)) (weight * 128) (next + 1) (left - 1)
+  pub part-turn : {r : Byte} {b : ℕ} → ByteAt s next r → r ≡ Byte.the-variants.Is b → 128 ≤ b → Part most s at (value + weight * (b - 128)) (weight * 128) (next + 1) (count + 1)
   part-turn {r} {b} a e h =
       record {
-        fewer = omega (arith, p .fewer);
-        weighs = ap (λ (w : ℕ). w * 128) (p .weighs) ∙ weight-grows left more (p .fewer);
+        few = omega arith;
+        weighs = ap (λ (w : ℕ). w * 128) (p .weighs) ∙ seven-more count;
         small = turn-value (a .small b e .0);
-        same =
-            p .same
-            ∙ ap (above value weight (5 - left)) (go left more)
-            ∙ above-under value weight (5 - left) b (bitsAt (left - 1) s (next + 1))
-            ∙ ap (λ (k : ℕ). above (value + weight * (b - 128)) (weight * 128) k (bitsAt (left - 1) s (next + 1))) (let q : left ≤ 5 = p .fewer in omega arith);
+        same = λ more.
+            p .same more
+            ∙ ap (λ (n : ℕ). above value weight count (bitsAt n s next)) (room more)
+            ∙ ap (above value weight count) (bits-more (most + more - (count + 1)) s next (byte-got (getElem? s next) (a .is) e) h)
+            ∙ above-under value weight count b (bitsAt (most + more - (count + 1)) s (next + 1));
       }
-    where
-      go : (n : ℕ) → 0 < n → bitsAt n s next ≡ under b (bitsAt (n - 1) s (next + 1))
-      go zero q = absurd (omega arith)
-      go (suc n) q = let same : suc n - 1 ≡ n = omega arith in rw same (bits-more n s next (byte-got (getElem? s next) (a .is) e) h)
 
   -- the last byte
-  pub part-last : {r : Byte} {b : ℕ} → ByteAt s next r → r ≡ Byte.the-variants.Is b → b < 128 → BitsRead s at (Leb.the-variants.Bits (value + weight * b) (6 - left) (next + 1))
+  pub part-last : {r : Byte} {b : ℕ} → ByteAt s next r → r ≡ Byte.the-variants.Is b → b < 128 → BitsRead most s at (Leb.the-variants.Bits (value + weight * b) (count + 1) (next + 1))
   part-last {r} {b} a e h =
       record {
-        is = let count : 6 - left ≡ 5 - left + 1 = (let q : left ≤ 5 = p .fewer in omega arith) in rw (p .same, go left more, count);
-        small = λ v k n q.
+        ended = λ v k n q.
             let same : value + weight * b ≡ v = cc in
-            let count : 6 - left ≡ k = cc in
+            let many : count + 1 ≡ k = cc in
+            let after : next + 1 ≡ n = cc in
             let t : weight * b ≤ weight * 127 = times-bound h in
             let y : value < weight = p .small in
-            let u : left ≤ 5 = p .fewer in
-            let w : weight * 128 ≡ 2 ^ (7 * k) = ap (λ (x : ℕ). x * 128) (p .weighs) ∙ seven-bits left more u ∙ ap (λ (x : ℕ). 2 ^ (7 * x)) count in
-            record { some = omega arith; most = omega arith; seven = omega arith };
+            let w : weight * 128 ≡ 2 ^ (7 * k) = ap (λ (x : ℕ). x * 128) (p .weighs) ∙ seven-more count ∙ ap (λ (x : ℕ). 2 ^ (7 * x)) many in (
+              record { some = omega arith; few = omega arith; seven = omega arith },
+              λ more. rw (← same, ← many, ← after) (p .same more ∙ ap (λ (n : ℕ). above value weight count (bitsAt n s next)) (room more) ∙ ap (above value weight count) (bits-last (most + more - (count + 1)) s next (byte-got (getElem? s next) (a .is) e) h)),
+            );
+        lacking = λ q. impossible cc;
+        going = λ v n q. impossible cc;
       }
-    where
-      go : (n : ℕ) → 0 < n → bitsAt n s next ≡ bits b 1 (next + 1)
-      go zero q = absurd (omega arith)
-      go (suc n) q = bits-last n s next (byte-got (getElem? s next) (a .is) e) h
 
   -- the bytes end
-  pub part-cut : {r : Byte} → ByteAt s next r → r ≡ Byte.the-variants.Missing → BitsRead s at Leb.the-variants.Cut
+  pub part-cut : {r : Byte} → ByteAt s next r → r ≡ Byte.the-variants.Missing → BitsRead most s at Leb.the-variants.Cut
   part-cut {r} a e =
-      record { is = rw (p .same, go left more); small = λ v k n q. impossible cc }
-    where
-      go : (n : ℕ) → 0 < n → bitsAt n s next ≡ cut
-      go zero q = absurd (omega arith)
-      go (suc n) q = bits-cut n s next (byte-none (getElem? s next) (a .is) e)
+      record {
+        ended = λ v k n q. impossible cc;
+        lacking = λ q more.
+            p .same more
+            ∙ ap (λ (n : ℕ). above value weight count (bitsAt n s next)) (room more)
+            ∙ ap (above value weight count) (bits-cut (most + more - (count + 1)) s next (byte-none (getElem? s next) (a .is) e));
+        going = λ v n q. impossible cc;
+      }
 
--- five bytes that all go on
-bits-long : (s : List ℕ) (at n : ℕ) → n ≤ 0 → bitsAt n s at ≡ long
-unfolding bitsAt
-bits-long s at zero h = refl
-bits-long s at (suc n) h = absurd (omega arith)
+  -- no sum and no product of the loop wraps
 
-pub part-long : {s : List ℕ} {at value weight next left : ℕ} → Part s at value weight next left → left ≤ 0 → BitsRead s at Leb.the-variants.Long
-part-long {s} {at} {value} {weight} {next} {left} p h =
-    record { is = rw (p .same, bits-long s next left h); small = λ v k n q. impossible cc }
-
--- where the loop starts: after a first byte that goes on
-module _ {s : List ℕ} {at b : ℕ} (g : GoesOn s at b) where
-  pub part-second : Part s at (b - 128) 128 (at + 1) 4
-  part-second =
-      let first : Part s at (0 + 1 * (b - 128)) (1 * 128) (at + 1) (5 - 1) =
-      part-turn (part-first s at) (lit< tt) (record { is = rw (g .byte); small = λ c e. let same : b ≡ c = cc in rw (← same) (g .small, g .inside) }) refl (g .more) in
-      let value : 0 + 1 * (b - 128) ≡ b - 128 = omega arith in
-      rw value at first
-
-  pub second-fits : length s < 2 ^ 64 → Fits w64 (at + 1)
-  second-fits l = let h : at < length s = g .inside in record { fits = omega arith }
-
-  pub first-goes : 128 ≤ b
-  first-goes = g .more
-
--- no sum and no product of the loop wraps
-
-module _ {s : List ℕ} {at value weight next left : ℕ} (p : Part s at value weight next left) (more : 0 < left) where
   pub product-fits : {b : ℕ} → b < 128 → Fits w64 (weight * b)
   product-fits {b} h =
-      let t : weight * b ≤ weight * 127 = times-bound p more h in let w : weight ≤ 2 ^ 28 = weight-bound p more in record { fits = omega arith }
+      let t : weight * b ≤ weight * 127 = times-bound h in let w : weight ≤ 2 ^ 56 = weight-bound in record { fits = omega arith }
 
   pub sum-fits : {b : ℕ} → b < 128 → Fits w64 (value + weight * b)
   sum-fits {b} h =
-      let t : weight * b ≤ weight * 127 = times-bound p more h in
-      let w : weight ≤ 2 ^ 28 = weight-bound p more in
+      let t : weight * b ≤ weight * 127 = times-bound h in
+      let w : weight ≤ 2 ^ 56 = weight-bound in
       let v : value < weight = p .small in
       record { fits = omega arith }
 
@@ -198,9 +154,50 @@ module _ {s : List ℕ} {at value weight next left : ℕ} (p : Part s at value w
   turn-sum-fits {b = b} a e = sum-fits (let h : b < byteLimit = a .small b e .0 in omega arith)
 
   pub weight-fits : Fits w64 (weight * 128)
-  weight-fits = let w : weight ≤ 2 ^ 28 = weight-bound p more in record { fits = omega arith }
+  weight-fits = let w : weight ≤ 2 ^ 56 = weight-bound in record { fits = omega arith }
+
+-- where the loop starts: after a first byte that goes on
+module _ {s : List ℕ} {at b most : ℕ} (g : GoesOn s at b most) where
+  pub part-second : Part most s at (b - 128) 128 (at + 1) 1
+  part-second =
+      let first : Part most s at (0 + 1 * (b - 128)) (1 * 128) (at + 1) (0 + 1) =
+          part-turn (g .room) (part-first most s at) (g .room .some) (record { is = rw (g .byte); small = λ c e. let same : b ≡ c = cc in rw (← same) (g .small, g .inside) }) refl (g .more) in
+      let value : 0 + 1 * (b - 128) ≡ b - 128 = omega arith in
+      rw value at first
+
+  pub second-fits : length s < 2 ^ 64 → Fits w64 (at + 1)
+  second-fits l = let h : at < length s = g .inside in record { fits = omega arith }
+
+  pub first-goes : 128 ≤ b
+  first-goes = g .more
+
+  pub room-there : MostBytes most
+  room-there = g .room
+
+-- as many bytes as that, which all go on
+pub part-long : {most : ℕ} {s : List ℕ} {at value weight next count : ℕ} → Part most s at value weight next count → most ≤ count → BitsRead most s at (Leb.the-variants.Long value next)
+part-long {most} {s} {at} {value} {weight} {next} {count} p h =
+    record {
+      ended = λ v k n q. impossible cc;
+      lacking = λ q. impossible cc;
+      going = λ v n q.
+          let same : value ≡ v = cc in
+          let after : next ≡ n = cc in
+          let all : count ≡ most = (let f : count ≤ most = p .few in omega arith) in
+          let w : weight ≡ 2 ^ (7 * most) = p .weighs ∙ ap (λ (x : ℕ). 2 ^ (7 * x)) all in
+          let y : value < weight = p .small in (
+            omega arith,
+            λ more.
+                let rest : most + more - count ≡ more = omega arith in
+                rw (← same, ← after)
+                (p .same more
+                ∙ ap (λ (n : ℕ). above value weight count (bitsAt n s next)) rest
+                ∙ ap (λ (x : ℕ). above value x count (bitsAt more s next)) w
+                ∙ ap (λ (k : ℕ). above value (2 ^ (7 * most)) k (bitsAt more s next)) all),
+          );
+    }
 
 pub next-fits : {s : List ℕ} {next : ℕ} {r : Byte} {b : ℕ} → length s < 2 ^ 64 → ByteAt s next r → r ≡ Byte.the-variants.Is b → Fits w64 (next + 1)
 next-fits {s} {next} {b = b} l a e = let h : next < length s = a .small b e .1 in record { fits = omega arith }
 
-pub ruleset leb-exits = (part-second, second-fits, first-goes, part-turn, part-last, part-cut, part-long, product-fits, sum-fits, turn-product-fits, turn-sum-fits, weight-fits, next-fits)
+pub ruleset leb-exits = (part-second, second-fits, first-goes, room-there, part-turn, part-last, part-cut, part-long, product-fits, sum-fits, turn-product-fits, turn-sum-fits, weight-fits, next-fits)

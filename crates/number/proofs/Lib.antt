@@ -2,4 +2,5 @@ pub mod Exits
 pub mod Bits
 pub mod OneByte
 pub mod Ranges
+pub mod Wide
 pub mod Laws

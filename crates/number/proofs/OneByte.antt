@@ -1,6 +1,6 @@
 -- A number of one byte, as most are, at every width: its byte is its seven bits.
-use Prim.Native.Nat.{ℕ, _+_, _≤_, _<_}
-use mathlib.Core.Path.{_≡_}
+use Prim.Native.Nat.{ℕ, suc, _+_, _-_, _≤_, _<_}
+use mathlib.Core.Path.{_≡_, ap, _∙_}
 use mathlib.Core.List.{List}
 use native.Mathlib.Omega.{arith}
 use lib.ListN.{getElem?}
@@ -9,24 +9,39 @@ use Rattle.number.specs.declared.Byte.{Byte}
 use Rattle.number.specs.declared.Byte
 use Rattle.number.specs.declared.Leb.{Leb}
 use Rattle.number.specs.declared.Leb
-use Rattle.number.specs.Answers.{ByteAt, GoesOn, BitsRead}
+use Rattle.scope.specs.Numbers.{bitsAt}
+use Rattle.number.specs.Answers.{ByteAt, MostBytes, GoesOn, BitsRead}
 use Rattle.number.proofs.Bits.{byte-got, byte-none, bits-last, bits-cut, next-fits}
 
-module _ {s : List ℕ} {at : ℕ} {r : Byte} (a : ByteAt s at r) where
-  pub one-byte : {b : ℕ} → r ≡ Byte.the-variants.Is b → b < 128 → BitsRead s at (Leb.the-variants.Bits b 1 (at + 1))
+module _ {most : ℕ} (fit : MostBytes most) {s : List ℕ} {at : ℕ} {r : Byte} (a : ByteAt s at r) where
+  -- one byte may follow at least
+  room : (more : ℕ) → most + more ≡ suc (most + more - 1)
+  room more = let h : 1 ≤ most = fit .some in omega arith
+
+  pub one-byte : {b : ℕ} → r ≡ Byte.the-variants.Is b → b < 128 → BitsRead most s at (Leb.the-variants.Bits b 1 (at + 1))
   one-byte {b} e h =
       record {
-        is = rw (bits-last 4 s at (byte-got (getElem? s at) (a .is) e) h);
-        small = λ v k n q.
+        ended = λ v k n q.
             let value : b ≡ v = cc in
             let count : 1 ≡ k = cc in
-            rw (← value, ← count) (record { some = omega arith; most = omega arith; seven = omega arith });
+            let after : at + 1 ≡ n = cc in
+            rw (← value, ← count, ← after) (
+              record { some = omega arith; few = fit .some; seven = omega arith },
+              λ more. ap (λ (x : ℕ). bitsAt x s at) (room more) ∙ bits-last (most + more - 1) s at (byte-got (getElem? s at) (a .is) e) h,
+            );
+        lacking = λ q. impossible cc;
+        going = λ v n q. impossible cc;
       }
 
-  pub no-byte : r ≡ Byte.the-variants.Missing → BitsRead s at Leb.the-variants.Cut
-  no-byte e = record { is = rw (bits-cut 4 s at (byte-none (getElem? s at) (a .is) e)); small = λ v k n q. impossible cc }
+  pub no-byte : r ≡ Byte.the-variants.Missing → BitsRead most s at Leb.the-variants.Cut
+  no-byte e =
+      record {
+        ended = λ v k n q. impossible cc;
+        lacking = λ q more. ap (λ (x : ℕ). bitsAt x s at) (room more) ∙ bits-cut (most + more - 1) s at (byte-none (getElem? s at) (a .is) e);
+        going = λ v n q. impossible cc;
+      }
 
-  pub goes-on : {b : ℕ} → r ≡ Byte.the-variants.Is b → 128 ≤ b → GoesOn s at b
-  goes-on {b} e h = record { byte = byte-got (getElem? s at) (a .is) e; small = a .small b e .0; inside = a .small b e .1; more = h }
+  pub goes-on : {b : ℕ} → r ≡ Byte.the-variants.Is b → 128 ≤ b → GoesOn s at b most
+  goes-on {b} e h = record { byte = byte-got (getElem? s at) (a .is) e; small = a .small b e .0; inside = a .small b e .1; more = h; room = fit }
 
 pub ruleset one-byte-exits = (one-byte, no-byte, goes-on, next-fits)

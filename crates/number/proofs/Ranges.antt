@@ -21,47 +21,37 @@ use Rattle.number.specs.declared.Natural.{Natural}
 use Rattle.number.specs.declared.Natural
 use Rattle.number.specs.declared.Integer.{Integer}
 use Rattle.number.specs.declared.Integer
-use Rattle.number.specs.Answers.{lebIs, Few, BitsRead, naturalIs, integerIs, SignWeight, inHalf, rangeOf, SignedRead}
-
--- the answer of `leb_at`, taken apart
-
-leb-got : (o : Bits) {r : Leb} {v k n : ℕ} → r ≡ lebIs o → r ≡ Leb.the-variants.Bits v k n → o ≡ bits v k n
-leb-got (bits u j m) p q = cc
-leb-got cut p q = impossible cc
-leb-got long p q = impossible cc
-
-leb-cut : (o : Bits) {r : Leb} → r ≡ lebIs o → r ≡ Leb.the-variants.Cut → o ≡ cut
-leb-cut (bits u j m) p q = impossible cc
-leb-cut cut p q = refl
-leb-cut long p q = impossible cc
-
-leb-long : (o : Bits) {r : Leb} → r ≡ lebIs o → r ≡ Leb.the-variants.Long → o ≡ long
-leb-long (bits u j m) p q = impossible cc
-leb-long cut p q = impossible cc
-leb-long long p q = refl
+use Rattle.number.specs.Answers.{MostBytes, Few, BitsRead, naturalIs, integerIs, SignWeight, inHalf, rangeOf, SignedRead}
 
 -- u32_at
 
-module _ {s : List ℕ} {at : ℕ} {r : Leb} (a : BitsRead s at r) where
+module _ {s : List ℕ} {at : ℕ} {r : Leb} (a : BitsRead 5 s at r) where
   pub natural-fits : {v k n : ℕ} → r ≡ Leb.the-variants.Bits v k n → v < 2 ^ 32 → Natural.the-variants.Is v n ≡ naturalIs (u32 s at)
   unfolding unsigned
-  natural-fits {v} {k} {n} e h = rw (leb-got (bitsAt 5 s at) (a .is) e, lt-ltb v (2 ^ 32) h)
+  natural-fits {v} {k} {n} e h = rw (a .ended v k n e .1 0, lt-ltb v (2 ^ 32) h)
 
   pub natural-beyond : {v k n : ℕ} → r ≡ Leb.the-variants.Bits v k n → 2 ^ 32 ≤ v → Natural.the-variants.Refused badNumber at ≡ naturalIs (u32 s at)
   unfolding unsigned
-  natural-beyond {v} {k} {n} e h = rw (leb-got (bitsAt 5 s at) (a .is) e, le-ltb v (2 ^ 32) h)
+  natural-beyond {v} {k} {n} e h = rw (a .ended v k n e .1 0, le-ltb v (2 ^ 32) h)
 
   pub natural-cut : r ≡ Leb.the-variants.Cut → Natural.the-variants.Refused bytesEnd at ≡ naturalIs (u32 s at)
   unfolding unsigned
-  natural-cut e = rw (leb-cut (bitsAt 5 s at) (a .is) e)
+  natural-cut e = rw (a .lacking e 0)
 
-  pub natural-long : r ≡ Leb.the-variants.Long → Natural.the-variants.Refused badNumber at ≡ naturalIs (u32 s at)
-  unfolding unsigned
-  natural-long e = rw (leb-long (bitsAt 5 s at) (a .is) e)
+  pub natural-long : {v n : ℕ} → r ≡ Leb.the-variants.Long v n → Natural.the-variants.Refused badNumber at ≡ naturalIs (u32 s at)
+  unfolding unsigned bitsAt
+  natural-long {v} {n} e = rw (a .going v n e .1 0)
 
-pub ruleset natural-exits = (natural-fits, natural-beyond, natural-cut, natural-long)
+pub five-bytes : MostBytes 5
+five-bytes = record { some = lit≤ tt; fit = lit≤ tt }
+
+pub ruleset natural-exits = (natural-fits, natural-beyond, natural-cut, natural-long, five-bytes)
 
 -- the sign's weight
+
+-- not the least, so more
+not-so : {n k : ℕ} → (k ≡ n → ⊥) → n ≤ k → suc n ≤ k
+not-so h p = omega arith
 
 module _ {k : ℕ} where
   pub sign-one : k ≡ 1 → SignWeight k 64
@@ -76,24 +66,36 @@ module _ {k : ℕ} where
   pub sign-four : k ≡ 4 → SignWeight k 134217728
   sign-four e = rw e (record { is = λ p q. refl; twice = λ p q. refl; small = lit≤ tt })
 
-  pub sign-five : (k ≡ 1 → ⊥) → (k ≡ 2 → ⊥) → (k ≡ 3 → ⊥) → (k ≡ 4 → ⊥) → SignWeight k 17179869184
-  sign-five a b c d =
-      record { is = λ p q. rw (five p q); twice = λ p q. rw (five p q); small = lit≤ tt }
-    where
-      five : 1 ≤ k → k ≤ 5 → k ≡ 5
-      five p q = omega arith
+  pub sign-five : k ≡ 5 → SignWeight k 17179869184
+  sign-five e = rw e (record { is = λ p q. refl; twice = λ p q. refl; small = lit≤ tt })
 
-pub ruleset sign-exits = (sign-one, sign-two, sign-three, sign-four, sign-five)
+  pub sign-six : k ≡ 6 → SignWeight k 2199023255552
+  sign-six e = rw e (record { is = λ p q. refl; twice = λ p q. refl; small = lit≤ tt })
+
+  pub sign-seven : k ≡ 7 → SignWeight k 281474976710656
+  sign-seven e = rw e (record { is = λ p q. refl; twice = λ p q. refl; small = lit≤ tt })
+
+  pub sign-eight : k ≡ 8 → SignWeight k 36028797018963968
+  sign-eight e = rw e (record { is = λ p q. refl; twice = λ p q. refl; small = lit≤ tt })
+
+  pub sign-nine : (k ≡ 1 → ⊥) → (k ≡ 2 → ⊥) → (k ≡ 3 → ⊥) → (k ≡ 4 → ⊥) → (k ≡ 5 → ⊥) → (k ≡ 6 → ⊥) → (k ≡ 7 → ⊥) → (k ≡ 8 → ⊥) → SignWeight k 4611686018427387904
+  sign-nine a b c d e f g h =
+      record { is = λ p q. rw (nine p q); twice = λ p q. rw (nine p q); small = lit≤ tt }
+    where
+      nine : 1 ≤ k → k ≤ 9 → k ≡ 9
+      nine p q = let eight-less : 9 ≤ k = not-so h (not-so g (not-so f (not-so e (not-so d (not-so c (not-so b (not-so a p))))))) in omega arith
+
+pub ruleset sign-exits = (sign-one, sign-two, sign-three, sign-four, sign-five, sign-six, sign-seven, sign-eight, sign-nine)
 
 -- signed_of
 
-weight-is : {v k w : ℕ} → Few v k → SignWeight k w → w ≡ 2 ^ (7 * k - 1)
-weight-is few sign = sign .is (few .some) (few .most)
+weight-is : {v k w : ℕ} → Few 9 v k → SignWeight k w → w ≡ 2 ^ (7 * k - 1)
+weight-is few sign = sign .is (few .some) (few .few)
 
-twice-is : {v k w : ℕ} → Few v k → SignWeight k w → 2 * w ≡ 2 ^ (7 * k)
-twice-is few sign = sign .twice (few .some) (few .most)
+twice-is : {v k w : ℕ} → Few 9 v k → SignWeight k w → 2 * w ≡ 2 ^ (7 * k)
+twice-is few sign = sign .twice (few .some) (few .few)
 
-module _ (at half n : ℕ) {v k w : ℕ} (few : Few v k) (sign : SignWeight k w) where
+module _ (at half n : ℕ) {v k w : ℕ} (few : Few 9 v k) (sign : SignWeight k w) where
   pub plus-fits : v < w → v < half → Integer.the-variants.Plus v n ≡ integerIs (rangeOf at half v k n)
   unfolding rangeOf
   plus-fits p q = rw (lt-ltb v (2 ^ (7 * k - 1)) (rw (weight-is few sign) at p), lt-ltb v half q)
@@ -113,7 +115,7 @@ module _ (at half n : ℕ) {v k w : ℕ} (few : Few v k) (sign : SignWeight k w)
       rw (le-ltb v (2 ^ (7 * k - 1)) (rw (weight-is few sign) at p), ← twice-is few sign, lt-leb (2 * w - v) half q)
 
 -- the bits lie below twice the sign's weight
-pub under-twice : {v k w : ℕ} → Few v k → SignWeight k w → v ≤ 2 * w
+pub under-twice : {v k w : ℕ} → Few 9 v k → SignWeight k w → v ≤ 2 * w
 under-twice {v} {k} {w} few sign =
     let e : 2 * w ≡ 2 ^ (7 * k) = twice-is few sign in let h : v < 2 ^ (7 * k) = few .seven in omega arith
 
@@ -128,7 +130,7 @@ same-range : (half width : ℕ) → half ≡ 2 ^ (width - 1) → (w : Whole) →
 same-range half width h (plus v) = rw h
 same-range half width h (minus v) = rw h
 
-range-is : (at half width : ℕ) → half ≡ 2 ^ (width - 1) → (v k n : ℕ) → rangeOf at half v k n ≡ inRange at (bits v k n) signed-of (withinSigned width)
+pub range-is : (at half width : ℕ) → half ≡ 2 ^ (width - 1) → (v k n : ℕ) → rangeOf at half v k n ≡ inRange at (bits v k n) signed-of (withinSigned width)
 unfolding rangeOf
 range-is at half width h v k n = rw (same-range half width h (signed-of v k))
 
@@ -136,24 +138,26 @@ signed-is : (width : ℕ) (s : List ℕ) (at : ℕ) {o : Bits} → greatestLengt
 unfolding signed
 signed-is width s at l e = rw (l, e)
 
-module _ {s : List ℕ} {at half : ℕ} {r : Leb} (a : BitsRead s at r) where
+module _ {s : List ℕ} {at half : ℕ} {r : Leb} (a : BitsRead 5 s at r) where
   pub signed-got : {v k n : ℕ} {q : Integer} → r ≡ Leb.the-variants.Bits v k n → q ≡ integerIs (rangeOf at half v k n) → SignedRead s at half q
   signed-got {v} {k} {n} e f =
-      record {
-        is = λ width l h.
-            f ∙ ap integerIs (range-is at half width h v k n ∙ sym (signed-is width s at l (leb-got (bitsAt 5 s at) (a .is) e)));
-      }
+      record { is = λ width l h. f ∙ ap integerIs (range-is at half width h v k n ∙ sym (signed-is width s at l (a .ended v k n e .1 0))) }
 
   pub signed-cut : r ≡ Leb.the-variants.Cut → SignedRead s at half (Integer.the-variants.Refused bytesEnd at)
-  signed-cut e = record { is = λ width l h. ap integerIs (sym (signed-is width s at l (leb-cut (bitsAt 5 s at) (a .is) e))) }
+  signed-cut e = record { is = λ width l h. ap integerIs (sym (signed-is width s at l (a .lacking e 0))) }
 
-  pub signed-long : r ≡ Leb.the-variants.Long → SignedRead s at half (Integer.the-variants.Refused badNumber at)
-  signed-long e = record { is = λ width l h. ap integerIs (sym (signed-is width s at l (leb-long (bitsAt 5 s at) (a .is) e))) }
+  pub signed-long : {v n : ℕ} → r ≡ Leb.the-variants.Long v n → SignedRead s at half (Integer.the-variants.Refused badNumber at)
+  unfolding bitsAt
+  signed-long {v} {n} e = record { is = λ width l h. ap integerIs (sym (signed-is width s at l (a .going v n e .1 0))) }
 
-pub few-bits : {s : List ℕ} {at : ℕ} {r : Leb} {v k n : ℕ} → BitsRead s at r → r ≡ Leb.the-variants.Bits v k n → Few v k
-few-bits {v = v} {k = k} {n = n} a e = a .small v k n e
+pub few-bits : {most : ℕ} {s : List ℕ} {at : ℕ} {r : Leb} {v k n : ℕ} → MostBytes most → BitsRead most s at r → r ≡ Leb.the-variants.Bits v k n → Few 9 v k
+few-bits {v = v} {k = k} {n = n} fit a e =
+    let f = a .ended v k n e .0 in
+    let g = fit .fit in
+    let h = f .few in
+    record { some = f .some; few = omega arith; seven = f .seven }
 
-pub ruleset width-exits = (signed-got, signed-cut, signed-long, few-bits)
+pub ruleset width-exits = (signed-got, signed-cut, signed-long, few-bits, five-bytes)
 
 -- the two widths
 

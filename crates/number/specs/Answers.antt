@@ -1,5 +1,5 @@
 -- What the number readers answer, by the definitions of document 01.
-use Prim.Native.Nat.{ℕ, _-_, _*_, _<_, _≤_, _^_}
+use Prim.Native.Nat.{ℕ, _+_, _-_, _*_, _<_, _≤_, _^_}
 use mathlib.Core.Path.{_≡_}
 use mathlib.Core.Bool.{Bool}
 use lib.Dec.{ltb, leb}
@@ -29,27 +29,38 @@ pub record ByteAt (s : List ℕ) (at : ℕ) (r : Byte) : Type 0 where
   pub is : r ≡ byteIs (getElem? s at)
   pub small : (b : ℕ) → r ≡ Byte.the-variants.Is b → (b < byteLimit) × (at < length s)
 
--- the byte at a place is b, and its number goes on after it
-pub record GoesOn (s : List ℕ) (at b : ℕ) : Type 0 where
+-- v of weight w, from k bytes, put below what follows
+abbrev pub above : ℕ → ℕ → ℕ → Bits → Bits
+above v w k (bits u j next) = bits (v + w * u) (k + j) next
+above v w k cut = cut
+above v w k long = long
+
+-- the bits of so many bytes fit a word
+pub record MostBytes (most : ℕ) : Type 0 where
+  pub some : 1 ≤ most
+  pub fit : most ≤ 9
+
+-- the byte at a place is b, and its number, of at most `most` bytes, goes on after it
+pub record GoesOn (s : List ℕ) (at b most : ℕ) : Type 0 where
   pub byte : getElem? s at ≡ some b
   pub small : b < byteLimit
   pub inside : at < length s
   pub more : 128 ≤ b
+  pub room : MostBytes most
 
-abbrev pub lebIs : Bits → Leb
-lebIs (bits v k next) = Leb.the-variants.Bits v k next
-lebIs cut = Leb.the-variants.Cut
-lebIs long = Leb.the-variants.Long
-
--- one to five bytes, seven bits of each
-pub record Few (v k : ℕ) : Type 0 where
+-- one byte to `most` bytes, seven bits of each
+pub record Few (most v k : ℕ) : Type 0 where
   pub some : 1 ≤ k
-  pub most : k ≤ 5
+  pub few : k ≤ most
   pub seven : v < 2 ^ (7 * k)
 
-pub record BitsRead (s : List ℕ) (at : ℕ) (r : Leb) : Type 0 where
-  pub is : r ≡ lebIs (bitsAt 5 s at)
-  pub small : (v k next : ℕ) → r ≡ Leb.the-variants.Bits v k next → Few v k
+-- The bits that end within `most` bytes, whatever a number's greatest length beyond that is; bytes that end first; or bytes
+-- that all go on: their bits lie below what follows.
+pub record BitsRead (most : ℕ) (s : List ℕ) (at : ℕ) (r : Leb) : Type 0 where
+  pub ended : (v k next : ℕ) → r ≡ Leb.the-variants.Bits v k next → Few most v k × ((more : ℕ) → bitsAt (most + more) s at ≡ bits v k next)
+  pub lacking : r ≡ Leb.the-variants.Cut → (more : ℕ) → bitsAt (most + more) s at ≡ cut
+  pub going : (v next : ℕ) → r ≡ Leb.the-variants.Long v next
+      → (v < 2 ^ (7 * most)) × ((more : ℕ) → bitsAt (most + more) s at ≡ above v (2 ^ (7 * most)) most (bitsAt more s next))
 
 abbrev pub naturalIs : Read ℕ → Natural
 naturalIs (got v next) = Natural.the-variants.Is v next
@@ -62,9 +73,9 @@ integerIs (refused n p) = Integer.the-variants.Refused n p
 
 -- the weight of the highest bit of k bytes
 pub record SignWeight (k r : ℕ) : Type 0 where
-  pub is : 1 ≤ k → k ≤ 5 → r ≡ 2 ^ (7 * k - 1)
-  pub twice : 1 ≤ k → k ≤ 5 → 2 * r ≡ 2 ^ (7 * k)
-  pub small : r ≤ 2 ^ 34
+  pub is : 1 ≤ k → k ≤ 9 → r ≡ 2 ^ (7 * k - 1)
+  pub twice : 1 ≤ k → k ≤ 9 → 2 * r ≡ 2 ^ (7 * k)
+  pub small : r ≤ 2 ^ 62
 
 -- a whole number from -half up to half
 abbrev pub inHalf : ℕ → Whole → Bool
@@ -78,3 +89,7 @@ rangeOf at half v k next = inRange at (bits v k next) signed-of (inHalf half)
 -- one statement for every width of five bytes
 pub record SignedRead (s : List ℕ) (at half : ℕ) (r : Integer) : Type 0 where
   pub is : (width : ℕ) → greatestLength width ≡ 5 → half ≡ 2 ^ (width - 1) → r ≡ integerIs (signed width s at)
+
+-- the bits `low` of nine bytes that go on, and a tenth byte at `next`, as a number of 64 bits
+pub record Tenth (s : List ℕ) (at low next : ℕ) (r : Integer) : Type 0 where
+  pub is : low < 2 ^ 63 → bitsAt 10 s at ≡ above low (2 ^ 63) 9 (bitsAt 1 s next) → r ≡ integerIs (signed 64 s at)

@@ -1,9 +1,10 @@
-// Reading LEB128 numbers of 32 and 33 bits: the items of which all else is made. Each answer is that of the definition of
+// Reading LEB128 numbers of 32, 33 and 64 bits: the items of which all else is made. Each answer is that of the definition of
 // document 01 (specs/Answers.antt), on any bytes and at any place.
 use scope::refusals;
+ghost use Prim.Native.Nat.{_<_, _^_};
 ghost use mathlib.Core.Path.{_≡_};
-ghost use Rattle.scope.specs.Numbers.{u32, s32, s33};
-ghost use Rattle.number.specs.Answers.{ByteAt, GoesOn, Few, BitsRead, naturalIs, SignWeight, rangeOf, SignedRead, integerIs};
+ghost use Rattle.scope.specs.Numbers.{u32, s32, s33, s64};
+ghost use Rattle.number.specs.Answers.{ByteAt, MostBytes, GoesOn, Few, BitsRead, naturalIs, SignWeight, rangeOf, SignedRead, Tenth, integerIs};
 
 // The first number that is more than one byte.
 const TWO_BYTES: u64 = 128;
@@ -11,10 +12,18 @@ const TWO_BYTES: u64 = 128;
 // The first number that is no u32.
 const U32_LIMIT: u64 = 4294967296;
 
-// Half of the numbers of 32 bits, and of 33: a signed one lies from minus that up to it.
+// Half of the numbers of 32 bits, of 33 and of 64: a signed one lies from minus that up to it.
 const S32_HALF: u64 = 2147483648;
 
 const S33_HALF: u64 = 4294967296;
+
+const S64_HALF: u64 = 9223372036854775808;
+
+// The greatest length of a number of 32 and of 33 bits; that of one of 64 bits is one more than nine bytes, whose bits still
+// fit a word.
+const FIVE: u64 = 5;
+
+const NINE: u64 = 9;
 
 // A byte of the input, or none where the place lies past its end.
 pub enum Byte {
@@ -32,41 +41,43 @@ pub fn byte_at(s: &[u8], at: usize) -> Byte
     }
 }
 
-// The bits of a number of at most five bytes: their value, how many bytes they take, the place after; or what is wrong.
+// The bits of a number's first bytes: their value, how many bytes they take, the place after; or the bytes end before the
+// number does; or it goes on beyond them, with the value of their bits and the place after.
 pub enum Leb {
     Bits(u64, u64, usize),
     Cut,
-    Long,
+    Long(u64, usize),
 }
 
-// Seven bits a byte, lowest first, after a first byte that goes on; `weight` is that of the next seven.
-fn leb_loop(s: &[u8], at: usize, first: u64) -> Leb
-    requires { ⌜ GoesOn (now s) at first ⌝ }
-    ensures { λ r. ⌜ BitsRead (now (s .entry)) at r ⌝ }
+// Seven bits a byte, lowest first, of at most `most` bytes, after a first byte that goes on; `weight` is that of the next seven.
+fn leb_loop(s: &[u8], at: usize, first: u64, most: u64) -> Leb
+    requires { ⌜ GoesOn (now s) at first most ⌝ }
+    ensures { λ r. ⌜ BitsRead most (now (s .entry)) at r ⌝ }
 {
     let mut value: u64 = first - 128;
     let mut weight: u64 = 128;
     let mut next = at + 1;
-    let mut left: u64 = 4;
-    while 0 < left {
+    let mut count: u64 = 1;
+    while count < most {
         let read = byte_at(s, next);
         let Byte::Is(b) = read else {
             return Leb::Cut;
         };
+        count = count + 1;
         if b < 128 {
-            return Leb::Bits(value + weight * b, 6 - left, next + 1);
+            return Leb::Bits(value + weight * b, count, next + 1);
         }
         value = value + weight * (b - 128);
         weight = weight * 128;
         next = next + 1;
-        left = left - 1;
     }
-    Leb::Long
+    Leb::Long(value, next)
 }
 
 // Most numbers are one byte: that case first, the loop for all others.
-fn leb_at(s: &[u8], at: usize) -> Leb
-    ensures { λ r. ⌜ BitsRead (now (s .entry)) at r ⌝ }
+fn leb_at(s: &[u8], at: usize, most: u64) -> Leb
+    requires { ⌜ MostBytes most ⌝ }
+    ensures { λ r. ⌜ BitsRead most (now (s .entry)) at r ⌝ }
 {
     let read = byte_at(s, at);
     let Byte::Is(b) = read else {
@@ -75,7 +86,7 @@ fn leb_at(s: &[u8], at: usize) -> Leb
     if b < TWO_BYTES {
         return Leb::Bits(b, 1, at + 1);
     }
-    leb_loop(s, at, b)
+    leb_loop(s, at, b, most)
 }
 
 // A natural number and the place after it; or a refusal's number and place.
@@ -87,7 +98,7 @@ pub enum Natural {
 pub fn u32_at(s: &[u8], at: usize) -> Natural
     ensures { λ r. ⌜ r ≡ naturalIs (u32 (now (s .entry)) at) ⌝ }
 {
-    let read = leb_at(s, at);
+    let read = leb_at(s, at, FIVE);
     match read {
         Leb::Bits(value, _, next) => {
             if value < U32_LIMIT {
@@ -97,7 +108,7 @@ pub fn u32_at(s: &[u8], at: usize) -> Natural
             }
         }
         Leb::Cut => Natural::Refused(refusals::BYTES_END, at),
-        Leb::Long => Natural::Refused(refusals::BAD_NUMBER, at),
+        Leb::Long(_, _) => Natural::Refused(refusals::BAD_NUMBER, at),
     }
 }
 
@@ -117,13 +128,17 @@ fn sign_weight(count: u64) -> u64
         2 => 8192,
         3 => 1048576,
         4 => 134217728,
-        _ => 17179869184,
+        5 => 17179869184,
+        6 => 2199023255552,
+        7 => 281474976710656,
+        8 => 36028797018963968,
+        _ => 4611686018427387904,
     }
 }
 
 // The bits of so many bytes as a whole number: below the sign's weight as they are, else less twice that weight.
 fn signed_of(value: u64, count: u64, next: usize, at: usize, half: u64) -> Integer
-    requires { ⌜ Few value count ⌝ }
+    requires { ⌜ Few 9 value count ⌝ }
     ensures { λ r. ⌜ r ≡ integerIs (rangeOf at half value count next) ⌝ }
 {
     let sign = sign_weight(count);
@@ -144,11 +159,11 @@ fn signed_of(value: u64, count: u64, next: usize, at: usize, half: u64) -> Integ
 fn signed_at(s: &[u8], at: usize, half: u64) -> Integer
     ensures { λ r. ⌜ SignedRead (now (s .entry)) at half r ⌝ }
 {
-    let read = leb_at(s, at);
+    let read = leb_at(s, at, FIVE);
     match read {
         Leb::Bits(value, count, next) => signed_of(value, count, next, at, half),
         Leb::Cut => Integer::Refused(refusals::BYTES_END, at),
-        Leb::Long => Integer::Refused(refusals::BAD_NUMBER, at),
+        Leb::Long(_, _) => Integer::Refused(refusals::BAD_NUMBER, at),
     }
 }
 
@@ -162,4 +177,34 @@ pub fn s33_at(s: &[u8], at: usize) -> Integer
     ensures { λ r. ⌜ r ≡ integerIs (s33 (now (s .entry)) at) ⌝ }
 {
     signed_at(s, at, S33_HALF)
+}
+
+// A number of 64 bits whose first nine bytes go on: of the tenth's seven bits one belongs to the number, the sign, and all
+// have to be like it.
+fn tenth_at(s: &[u8], at: usize, low: u64, next: usize) -> Integer
+    requires { ⌜ low < 2 ^ 63 ⌝ }
+    ensures { λ r. ⌜ Tenth (now (s .entry)) at low next r ⌝ }
+{
+    let read = byte_at(s, next);
+    let Byte::Is(b) = read else {
+        return Integer::Refused(refusals::BYTES_END, at);
+    };
+    if b == 0x00 {
+        return Integer::Plus(low, next + 1);
+    }
+    if b == 0x7F {
+        return Integer::Minus(S64_HALF - low, next + 1);
+    }
+    Integer::Refused(refusals::BAD_NUMBER, at)
+}
+
+pub fn s64_at(s: &[u8], at: usize) -> Integer
+    ensures { λ r. ⌜ r ≡ integerIs (s64 (now (s .entry)) at) ⌝ }
+{
+    let read = leb_at(s, at, NINE);
+    match read {
+        Leb::Bits(value, count, next) => signed_of(value, count, next, at, S64_HALF),
+        Leb::Cut => Integer::Refused(refusals::BYTES_END, at),
+        Leb::Long(low, next) => tenth_at(s, at, low, next),
+    }
 }

@@ -16,8 +16,8 @@ enum-told c = search needs
 returns : tie.Need-returns
 returns c = search (one-byte-exits, needs)
 
-add-t6 : tie.Need-add-t6
-add-t6 c = search (one-byte-exits, needs)
+add-t7 : tie.Need-add-t7
+add-t7 c = search (one-byte-exits, needs)
 
 returns-2 : tie.Need-returns-2
 returns-2 c = search (one-byte-exits, needs)
@@ -36,7 +36,7 @@ leb-at-spec =
     enum-known-read
     enum-told
     returns
-    add-t6
+    add-t7
     returns-2
     leb-loop-requires
     returns-3)

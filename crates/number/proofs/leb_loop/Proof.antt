@@ -1,14 +1,15 @@
 -- `number::leb_loop` meets its contract: the loop's invariant is `Part` of proofs/Bits.antt, and what may follow falls.
 use borrow.Author.Needs.{needs}
+use Prim.Native.Nat.{_-_}
 use Rattle.number.proofs.Bits.{Part, leb-exits}
 use Rattle.number.proofs.leb_loop.Statement.{statement}
 use Rattle.number.proofs.leb_loop.Tie as tie
 
 abbrev Inv-loop : tie.InvT-loop
-Inv-loop s at first value₀ weight₀ next₀ left₀ value weight next left = Part s at value weight next left
+Inv-loop s at first most value₀ weight₀ next₀ count₀ value weight next count = Part most s at value weight next count
 
 abbrev μ-loop : tie.MeasureT-loop
-μ-loop s at first value₀ weight₀ next₀ left₀ value weight next left = left
+μ-loop s at first most value₀ weight₀ next₀ count₀ value weight next count = most - count
 
 sub-value : tie.Need-sub-value Inv-loop μ-loop
 sub-value c = search (leb-exits, needs)
@@ -31,14 +32,14 @@ enum-told c = search (leb-exits, needs)
 returns : tie.Need-returns Inv-loop μ-loop
 returns c = search (leb-exits, needs)
 
-mul-t11 : tie.Need-mul-t11 Inv-loop μ-loop
-mul-t11 c = search (leb-exits, needs)
+add-count : tie.Need-add-count Inv-loop μ-loop
+add-count c = search (leb-exits, needs)
 
-add-t12 : tie.Need-add-t12 Inv-loop μ-loop
-add-t12 c = search (leb-exits, needs)
+mul-t12 : tie.Need-mul-t12 Inv-loop μ-loop
+mul-t12 c = search (leb-exits, needs)
 
-sub-t13 : tie.Need-sub-t13 Inv-loop μ-loop
-sub-t13 c = search (leb-exits, needs)
+add-t13 : tie.Need-add-t13 Inv-loop μ-loop
+add-t13 c = search (leb-exits, needs)
 
 add-t14 : tie.Need-add-t14 Inv-loop μ-loop
 add-t14 c = search (leb-exits, needs)
@@ -57,9 +58,6 @@ mul-weight c = search (leb-exits, needs)
 
 add-next-2 : tie.Need-add-next-2 Inv-loop μ-loop
 add-next-2 c = search (leb-exits, needs)
-
-sub-left : tie.Need-sub-left Inv-loop μ-loop
-sub-left c = search (leb-exits, needs)
 
 loop-less : tie.Need-loop-less Inv-loop μ-loop
 loop-less c = search (leb-exits, needs)
@@ -83,16 +81,15 @@ leb-loop-spec =
     enum-known-read
     enum-told
     returns
-    mul-t11
-    add-t12
-    sub-t13
+    add-count
+    mul-t12
+    add-t13
     add-t14
     returns-2
     mul-value
     add-value
     mul-weight
     add-next-2
-    sub-left
     loop-less
     loop-again
     returns-3)

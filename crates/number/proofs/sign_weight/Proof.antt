@@ -19,5 +19,28 @@ returns-4 c = search (sign-exits, needs)
 returns-5 : tie.Need-returns-5
 returns-5 c = search (sign-exits, needs)
 
+returns-6 : tie.Need-returns-6
+returns-6 c = search (sign-exits, needs)
+
+returns-7 : tie.Need-returns-7
+returns-7 c = search (sign-exits, needs)
+
+returns-8 : tie.Need-returns-8
+returns-8 c = search (sign-exits, needs)
+
+returns-9 : tie.Need-returns-9
+returns-9 c = search (sign-exits, needs)
+
 pub sign-weight-spec : {M : Type 1} → statement M
-sign-weight-spec = tie.close (tie.spec returns returns-2 returns-3 returns-4 returns-5)
+sign-weight-spec =
+    tie.close
+    (tie.spec
+    returns
+    returns-2
+    returns-3
+    returns-4
+    returns-5
+    returns-6
+    returns-7
+    returns-8
+    returns-9)

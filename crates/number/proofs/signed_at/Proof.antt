@@ -5,7 +5,7 @@ use Rattle.number.proofs.signed_at.Statement.{statement}
 use Rattle.number.proofs.signed_at.Tie as tie
 
 leb-at-requires : tie.Need-leb-at-requires
-leb-at-requires c κs = search needs
+leb-at-requires c κs = search (width-exits, needs)
 
 enum-known-read : tie.Need-enum-known-read
 enum-known-read c = search needs
