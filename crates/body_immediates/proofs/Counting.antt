@@ -13,12 +13,13 @@ use Rattle.number.specs.declared.Natural
 use Rattle.number.specs.declared.Integer.{Integer}
 use Rattle.number.specs.declared.Integer
 use Rattle.number.specs.Answers.{naturalIs, integerIs}
-use Rattle.number.proofs.Laws.{natural-got, natural-refused, integer-plus, integer-minus, integer-refused, signed-least}
+use Rattle.number.proofs.Laws.{natural-got, natural-refused, integer-plus, integer-minus, integer-refused, signed-small, signed-least}
 use Rattle.type_table.specs.Kept.{kept}
 use Rattle.body_immediates.specs.declared.Instruction.{Instruction}
 use Rattle.body_immediates.specs.declared.Instruction
 use Rattle.body_immediates.specs.declared.InstructionRead.{InstructionRead}
 use Rattle.body_immediates.specs.declared.InstructionRead
+use Rattle.body_immediates.proofs.Signs.{Bytes, signed-more}
 use Rattle.body_immediates.specs.Coding.{operationOf, instructionOf, instructionIs, numbered, numberedAt, constantAt, typed, typedAt, fielded, fieldedAt}
 
 -- numbered_at
@@ -58,7 +59,14 @@ module _ (s : List ℕ) (at : ℕ) {r : Integer} (a : r ≡ integerIs (s32 s at)
   pub constant-bound : {v next : ℕ} → r ≡ Integer.the-variants.Minus v next → v ≤ 2 ^ 32
   constant-bound {v} {next} e = let h = signed-least 32 s at (integer-minus (s32 s at) a e) in omega arith
 
-pub ruleset constant-exits = (constant-refused, constant-plus, constant-minus, constant-bound)
+  -- and 32 bits hold it
+  pub constant-narrow : {v next : ℕ} → r ≡ Integer.the-variants.Plus v next → v < 2 ^ 32
+  constant-narrow {v} {next} e = let h = signed-small 32 s at (integer-plus (s32 s at) a e) in omega arith
+
+  pub constant-lacks : {v next : ℕ} → r ≡ Integer.the-variants.Minus v next → Bytes s → 2 ^ 32 - v < 2 ^ 32
+  constant-lacks {v} {next} e bytes = let h = signed-more 32 s at (integer-minus (s32 s at) a e) bytes in omega arith
+
+pub ruleset constant-exits = (constant-refused, constant-plus, constant-minus, constant-bound, constant-narrow, constant-lacks)
 
 -- typed_at
 

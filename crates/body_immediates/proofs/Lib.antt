@@ -1,3 +1,4 @@
+pub mod Signs
 pub mod Counting
 pub mod Typing
 pub mod Laws

@@ -27,7 +27,7 @@ pub enum Instruction {
     LocalGet(u64),
     LocalSet(u64),
     LocalTee(u64),
-    I32Const(u64),
+    I32Const(u32),
     RefNull(u64),
     RefIsNull,
     RefEq,
@@ -115,8 +115,10 @@ pub fn constant_at(s: &[u8], at: usize) -> InstructionRead
     let read = number::s32_at(s, at);
     match read {
         Integer::Refused(number, place) => InstructionRead::Refused(number, place),
-        Integer::Plus(v, next) => InstructionRead::Is(Instruction::I32Const(v), next),
-        Integer::Minus(v, next) => InstructionRead::Is(Instruction::I32Const(NUMBERS - v), next),
+        Integer::Plus(v, next) => InstructionRead::Is(Instruction::I32Const(v as u32), next),
+        Integer::Minus(v, next) => {
+            InstructionRead::Is(Instruction::I32Const((NUMBERS - v) as u32), next)
+        }
     }
 }
 

@@ -1,5 +1,7 @@
 -- `body_immediates::constant_at` meets its contract: an s32, one below zero by what it lacks of 2 to the 32.
+use native.Mathlib.Omega.{arith}
 use borrow.Author.Needs.{needs}
+use Rattle.body_immediates.proofs.Signs.{Bytes}
 use Rattle.body_immediates.proofs.Counting.{constant-exits}
 use Rattle.body_immediates.proofs.constant_at.Statement.{statement}
 use Rattle.body_immediates.proofs.constant_at.Tie as tie
@@ -13,11 +15,20 @@ enum-known-read c = search needs
 enum-known-read-2 : tie.Need-enum-known-read-2
 enum-known-read-2 c = search needs
 
+cast-t11 : tie.Need-cast-t11
+cast-t11 c = search (constant-exits, needs)
+
 enum-known-read-3 : tie.Need-enum-known-read-3
 enum-known-read-3 c = search needs
 
-sub-t12 : tie.Need-sub-t12
-sub-t12 c = search (constant-exits, needs)
+sub-t13 : tie.Need-sub-t13
+sub-t13 c = search (constant-exits, needs)
+
+cast-t14 : tie.Need-cast-t14
+cast-t14 c =
+    let start = c .before .before .before .before in
+    let bytes : Bytes (start .before .args .s .now) = λ j. omega (arith, start .shared-slice-known .given j) in
+    search (constant-exits, bytes, needs)
 
 returns : tie.Need-returns
 returns c = search (constant-exits, needs)
@@ -35,8 +46,10 @@ constant-at-spec =
     s32-at-requires
     enum-known-read
     enum-known-read-2
+    cast-t11
     enum-known-read-3
-    sub-t12
+    sub-t13
+    cast-t14
     returns
     returns-2
     returns-3)
