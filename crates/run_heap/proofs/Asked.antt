@@ -6,20 +6,24 @@ use mathlib.Core.Option.{none, some}
 use mathlib.Core.List.{List}
 use native.Mathlib.Omega.{arith}
 use native.Mathlib.Nat.{mod-eq-of-lt}
-use lib.ListN.{length, getD, getElem?}
+use lib.ListN.{length, getD, getElem?, set}
 use lib.Dec.{leb}
 use borrow.Author.Tests.{ne-eqb, lt-ltb, le-ltb, leb-true}
 use Rattle.scope.specs.Layout.{objectSpan}
 use Rattle.scope.specs.Sizes.{mostObjects, mostCells}
+use Rattle.scope.specs.Machine.{Value, withField}
 use Rattle.lent_u16.specs.Words.{WordAt}
 use Rattle.type_table.specs.declared.Link.{Link}
 use Rattle.type_table.specs.declared.Link
-use Rattle.run_values.specs.Values.{Word64At, valueAt, entryIn, setValue}
+use Rattle.run_values.specs.Values.{Word64At, valueAt, entryIn}
+use Rattle.run_value.specs.declared.Value.{Value as Carrier}
+use Rattle.run_value.specs.Carried.{decoded, valueKind, valueBits, withValue, ValueIs}
+use Rattle.run_value.proofs.Laws.{said, canon-said}
 use Rattle.run_values.proofs.Numbered.{numbered-length, numbered-there, numbered-none}
 use Rattle.run_values.proofs.Laws.{put-long}
 use Rattle.run_heap.specs.declared.Held.{Held}
 use Rattle.run_heap.specs.declared.Held
-use Rattle.run_heap.specs.Heap.{objectWord, objectAt, TypeOf, DescriptorOf, FieldCount, heldOption, HeldField, FieldSet, RoomFor}
+use Rattle.run_heap.specs.Heap.{objectWord, objectAt, storeAt, TypeOf, DescriptorOf, FieldCount, heldOption, HeldField, FieldSet, RoomFor}
 use Rattle.run_heap.proofs.Packs.{store-length, packed-inside, packed-cells, store-set, set-canon}
 use Rattle.scope.proofs.Impossible.{impossible}
 use Rattle.lent_u32.specs.Scratch.{word32Limit}
@@ -55,32 +59,26 @@ module _ {objects : List ℕ} {o count : ℕ} (a : WordAt objects (objectSpan * 
         let past : objectWord objects o countWord ≤ i = rw (← a .is) h in
         record {
           is = sym (numbered-none (entryIn valueAt cells) (objectWord objects o firstWord) (objectWord objects o countWord) i past);
-          inside = λ k b e. impossible cc;
-          canon = λ n total p l k b e. impossible cc;
+          inside = λ v e. impossible cc;
         }
 
     module _ (h : i < count) {first : ℕ} (b : WordAt objects (objectSpan * o + firstWord) first) {kind bits : ℕ} where
-      pub field-held : Word64At cells (kindPlace (first + i)) kind → Word64At cells (bitsPlace (first + i)) bits → HeldField objects cells o i (Held.the-variants.Is kind bits)
+      pub field-held : Word64At cells (kindPlace (first + i)) kind → Word64At cells (bitsPlace (first + i)) bits → {v : Carrier} → ValueIs kind bits v → HeldField objects cells o i (Held.the-variants.Is v)
       unfolding objectAt entryIn
-      field-held c d =
+      field-held c d q =
           let there : i < objectWord objects o countWord = rw (← a .is) h in
           let place : first ≡ objectWord objects o firstWord = b .is in
           let kind′ : kind ≡ getD cells (kindPlace (objectWord objects o firstWord + i)) 0 = c .is ∙ ap (λ (f : ℕ). getD cells (kindPlace (f + i)) 0) place in
           let bits′ : bits ≡ getD cells (bitsPlace (objectWord objects o firstWord + i)) 0 = d .is ∙ ap (λ (f : ℕ). getD cells (bitsPlace (f + i)) 0) place in
           record {
-            is = ap some (ap₂ valueAt kind′ bits′) ∙ sym (numbered-there (entryIn valueAt cells) (objectWord objects o firstWord) (objectWord objects o countWord) i there);
-            inside = λ k′ b′ e. rw (fields-length objects cells o) there;
-            canon = λ n total p l k′ b′ e.
-                let k″ : k′ ≡ getD cells (kindPlace (objectWord objects o firstWord + i)) 0 = cc in
-                let b″ : b′ ≡ getD cells (bitsPlace (objectWord objects o firstWord + i)) 0 = cc in
-                let low = packed-inside (p .packed) o l in
-                rw (k″, b″) (p .canon .each (objectWord objects o firstWord + i) (omega arith));
+            is = ap some (q .is ∙ ap₂ valueAt kind′ bits′) ∙ sym (numbered-there (entryIn valueAt cells) (objectWord objects o firstWord) (objectWord objects o countWord) i there);
+            inside = λ v e. rw (fields-length objects cells o) there;
           }
 
 -- the answer, taken apart
 
 module _ {objects cells : List ℕ} {o i : ℕ} {r : Held} (a : HeldField objects cells o i r) where
-  pub field-got : {k b : ℕ} → r ≡ Held.the-variants.Is k b → getElem? (objectAt objects cells o .fields) i ≡ some (valueAt k b)
+  pub field-got : {v : Carrier} → r ≡ Held.the-variants.Is v → getElem? (objectAt objects cells o .fields) i ≡ some (decoded v)
   field-got e = sym (a .is) ∙ ap heldOption e
 
   pub field-missed : r ≡ Held.the-variants.Absent → getElem? (objectAt objects cells o .fields) i ≡ none
@@ -88,15 +86,17 @@ module _ {objects cells : List ℕ} {o i : ℕ} {r : Held} (a : HeldField object
 
 -- a store in a field
 
-module _ {objects : List ℕ} {o first : ℕ} (a : WordAt objects (objectSpan * o + firstWord) first) {cells cells′ : List ℕ} {i k b : ℕ} where
-  pub field-set : cells′ ≡ setValue cells ((first + i) % word32Limit) k b → FieldSet objects cells cells′ o i k b
+module _ {objects : List ℕ} {o first : ℕ} (a : WordAt objects (objectSpan * o + firstWord) first) {cells cells′ : List ℕ} {i : ℕ} (v : Carrier) where
+  pub field-set : cells′ ≡ withValue cells ((first + i) % word32Limit) v → FieldSet objects cells cells′ o i v
   field-set e =
       record {
         store = λ n total p h l.
             let there : i < objectWord objects o countWord = rw (fields-length objects cells o) at l in
             let same = where-it-is (packed-inside (p .packed) o h) (p .most) there in
-            rw same (store-set (p .packed) cells (omega (arith, p .cellRoom, p .most)) o i h there k b);
-        kept = λ n total p h l c.
+            ap (λ (m : List ℕ). storeAt objects m n) same
+            ∙ store-set (p .packed) cells (omega (arith, p .cellRoom, p .most)) o i h there (valueKind v) (valueBits v)
+            ∙ ap (λ (w : Value). set (storeAt objects cells n) o (withField (objectAt objects cells o) i w)) (said v);
+        kept = λ n total p h l.
             let there : i < objectWord objects o countWord = rw (fields-length objects cells o) at l in
             let same = where-it-is (packed-inside (p .packed) o h) (p .most) there in
             record {
@@ -105,19 +105,19 @@ module _ {objects : List ℕ} {o first : ℕ} (a : WordAt objects (objectSpan * 
               few = p .few;
               most = p .most;
               packed = p .packed;
-              canon = rw same (set-canon (p .packed) cells (omega (arith, p .cellRoom, p .most)) o i h there k b c (p .canon));
+              canon = rw same (set-canon (p .packed) cells (omega (arith, p .cellRoom, p .most)) o i h there (valueKind v) (valueBits v) (canon-said v) (p .canon));
             };
         size = long;
       }
     where
       long : length cells′ ≡ length cells
-      long = rw e (put-long cells ((first + i) % word32Limit) k b)
+      long = rw e (put-long cells ((first + i) % word32Limit) (valueKind v) (valueBits v))
 
-      where-it-is : {total : ℕ} → objectWord objects o firstWord + objectWord objects o countWord ≤ total → total ≤ mostCells → i < objectWord objects o countWord → cells′ ≡ setValue cells (objectWord objects o firstWord + i) k b
+      where-it-is : {total : ℕ} → objectWord objects o firstWord + objectWord objects o countWord ≤ total → total ≤ mostCells → i < objectWord objects o countWord → cells′ ≡ withValue cells (objectWord objects o firstWord + i) v
       where-it-is low most there =
           let place : first ≡ objectWord objects o firstWord = a .is in
           let small : (first + i) % word32Limit ≡ first + i = mod-eq-of-lt (omega arith) in
-          e ∙ ap (λ (j : ℕ). setValue cells j k b) (small ∙ ap (λ (f : ℕ). f + i) place)
+          e ∙ ap (λ (j : ℕ). withValue cells j v) (small ∙ ap (λ (f : ℕ). f + i) place)
 
 -- room
 

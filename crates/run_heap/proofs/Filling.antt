@@ -23,7 +23,7 @@ use Rattle.type_table.specs.declared.ValKind
 use Rattle.type_table.proofs.Laws.{is-number, is-ref}
 use Rattle.run_values.specs.Values.{Word64At, numbered, valueAt, entryIn, valuesFrom, setValue, Canon, AllCanon}
 use Rattle.run_values.proofs.Numbered.{numbered-more}
-use Rattle.run_values.proofs.Laws.{value-of-code, value-null, canon-number, canon-null, all-less, put-long, put-beside, put-next, put-all-more}
+use Rattle.run_values.proofs.Laws.{zero-of-code, value-null, canon-zero, canon-null, all-less, put-long, put-beside, put-next, put-all-more}
 use Rattle.run_heap.specs.Heap.{CellRoom, Filled, CellsCopied, startOf, DefaultKind, CellsDefault}
 
 filled-none : (cells : List ℕ) (total : ℕ) → Filled cells cells total 0 []
@@ -97,7 +97,7 @@ code-small f32 = omega arith
 code-small f64 = omega arith
 
 default-number : (c k : ℕ) (n : Number) → valAtCode c ≡ num n → k ≡ numberCode n → valueAt (k + 1) 0 ≡ startOf (valAtCode c)
-default-number c k n e f = rw (e, f) (value-of-code n 0)
+default-number c k n e f = rw (e, f) (zero-of-code n)
 
 module _ (c : ℕ) {r : ValKind} (v : r ≡ valIs (valAtCode c)) where
   module _ {k : ℕ} (e : r ≡ ValKind.the-variants.Number k) where
@@ -108,7 +108,7 @@ module _ (c : ℕ) {r : ValKind} (v : r ≡ valIs (valAtCode c)) where
     number-kind =
         let (n, same, code) = is-number (valAtCode c) v e in
         let small = code-small n in
-        record { is = default-number c k n same code; canon = canon-number {k = k + 1} 0 (omega arith) (omega arith) }
+        record { is = default-number c k n same code; canon = canon-zero {k = k + 1} (omega arith) (omega arith) }
 
   pub reference-kind : {n : Bool} {h : ℕ} → r ≡ ValKind.the-variants.Ref n h → DefaultKind c nullKind
   reference-kind e =

@@ -17,6 +17,8 @@ use Rattle.type_table.specs.View.{linkAt, valAtCode, fieldAtCode, codesAt}
 use Rattle.type_table.specs.Answers.{linkIs}
 use Rattle.type_table.specs.declared.Link.{Link}
 use Rattle.run_values.specs.Values.{numbered, valueAt, valuesFrom, Canon, AllCanon}
+use Rattle.run_value.specs.declared.Value.{Value as Carrier}
+use Rattle.run_value.specs.Carried.{decoded}
 use Rattle.run_heap.specs.declared.Held.{Held}
 use Rattle.run_heap.specs.declared.Held
 
@@ -70,17 +72,16 @@ pub record FieldCount (objects : List ℕ) (o r : ℕ) : Type 0 where
 
 abbrev pub heldOption : Held → Option Value
 heldOption Held.the-variants.Absent = none
-heldOption (Held.the-variants.Is k n) = some (valueAt k n)
+heldOption (Held.the-variants.Is v) = some (decoded v)
 
 pub record HeldField (objects cells : List ℕ) (o i : ℕ) (r : Held) : Type 0 where
   pub is : heldOption r ≡ getElem? (objectAt objects cells o .fields) i
-  pub inside : (k b : ℕ) → r ≡ Held.the-variants.Is k b → i < length (objectAt objects cells o .fields)
-  pub canon : (n total : ℕ) → Kept objects cells n total → o < n → (k b : ℕ) → r ≡ Held.the-variants.Is k b → Canon k b
+  pub inside : (v : Carrier) → r ≡ Held.the-variants.Is v → i < length (objectAt objects cells o .fields)
 
 -- a field that was set: that object has another value there, and no other object is changed
-pub record FieldSet (objects cells cells′ : List ℕ) (o i k b : ℕ) : Type 0 where
-  pub store : (n total : ℕ) → Kept objects cells n total → o < n → i < length (objectAt objects cells o .fields) → storeAt objects cells′ n ≡ set (storeAt objects cells n) o (withField (objectAt objects cells o) i (valueAt k b))
-  pub kept : (n total : ℕ) → Kept objects cells n total → o < n → i < length (objectAt objects cells o .fields) → Canon k b → Kept objects cells′ n total
+pub record FieldSet (objects cells cells′ : List ℕ) (o i : ℕ) (v : Carrier) : Type 0 where
+  pub store : (n total : ℕ) → Kept objects cells n total → o < n → i < length (objectAt objects cells o .fields) → storeAt objects cells′ n ≡ set (storeAt objects cells n) o (withField (objectAt objects cells o) i (decoded v))
+  pub kept : (n total : ℕ) → Kept objects cells n total → o < n → i < length (objectAt objects cells o .fields) → Kept objects cells′ n total
   pub size : length cells′ ≡ length cells
 
 -- a new object

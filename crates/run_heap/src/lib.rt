@@ -1,5 +1,6 @@
 // The heap of a run in lent memory: objects of four words (type; descriptor, 0 none, else one more than its number; first
 // cell; how many cells), and cells, which are values. Each answer is what the words say (specs/Heap.antt).
+use run_value::Value;
 use run_values::layout;
 use scope::sizes;
 use type_table::Link;
@@ -11,10 +12,10 @@ ghost use Rattle.scope.specs.Layout.{objectSpan};
 ghost use Rattle.lent_u16.specs.Words.{WordAt};
 ghost use Rattle.run_heap.specs.Heap.{withRow, TypeOf, DescriptorOf, FieldCount, HeldField, FieldSet, RoomFor, CellRoom, CellsCopied, DefaultKind, CellsDefault};
 
-// What a field holds, by its kind and bits.
+// What a field holds.
 pub enum Held {
     Absent,
-    Is(u64, u64),
+    Is(Value),
 }
 
 // A word of an object.
@@ -61,16 +62,17 @@ pub fn held_field(objects: &[u16], cells: &[u64], o: u32, i: u64) -> Held
     let place = sizes::VALUE * (first + i);
     let kind = run_values::word64(cells, place);
     let bits = run_values::word64(cells, place + 1);
-    Held::Is(kind, bits)
+    let v = run_value::value_of(kind, bits);
+    Held::Is(v)
 }
 
 // Another value in its field i.
-pub fn set_field(objects: &[u16], cells: &mut [u64], o: u32, i: u32, kind: u64, bits: u64)
-    ensures { λ r. ⌜ FieldSet (now (objects .entry)) (now (cells .entry)) (now (cells .exit)) o i kind bits ⌝ }
+pub fn set_field(objects: &[u16], cells: &mut [u64], o: u32, i: u32, v: Value)
+    ensures { λ r. ⌜ FieldSet (now (objects .entry)) (now (cells .entry)) (now (cells .exit)) o i v ⌝ }
 {
     let first = object_word(objects, o, layout::FIRST);
     let place = (first + i as u64) % layout::NUMBER_LIMIT;
-    run_values::put_value(cells, place as u32, kind, bits);
+    run_value::put(cells, place as u32, v);
 }
 
 // Whether there is room for one more object with so many fields: "45 exactly when 1,024 objects exist or fewer than the

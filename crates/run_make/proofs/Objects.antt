@@ -12,7 +12,7 @@ use borrow.Author.Tests.{leb-true, leb-false}
 use Rattle.scope.specs.Sizes.{mostOperands}
 use Rattle.scope.specs.Machine.{Value}
 use Rattle.scope.proofs.Impossible.{impossible}
-use Rattle.run_values.specs.Layout.{objectKind}
+use Rattle.run_value.specs.declared.Value
 use Rattle.run_values.specs.Values.{valuesFrom, AllCanon}
 use Rattle.run_heap.specs.Heap.{withRow, CellRoom, Filled, CellsCopied, CellsDefault}
 use Rattle.run_heap.proofs.Made.{row-put}
@@ -35,7 +35,7 @@ module _ {objects operands : List ℕ} {st : Stage} {left k : ℕ} (room : PutRo
 
   pub put-made :
       {objects′ operands′ : List ℕ} {x d : ℕ} → objects′ ≡ withRow objects (st .objects) x d (st .cells) k
-      → Pushed operands operands′ (st .base) left objectKind (st .objects) → PutMade objects objects′ operands operands′ st left x d k (madeStage st left k)
+      → Pushed operands operands′ (st .base) left (Value.the-variants.Object (st .objects)) → PutMade objects objects′ operands operands′ st left x d k (madeStage st left k)
   put-made e pushed = record { later = refl; row = row-put e (omega (arith, room .few, room .objectRoom)); pushed = pushed }
 
 pub not-astray : {later : Stage} {A : Type 0} → Stepped.the-variants.Goes later ≡ Stepped.the-variants.Astray → A

@@ -7,7 +7,7 @@ use lib.ListN.{length}
 use Rattle.scope.specs.Layout.{objectsSize, operandsSize}
 use Rattle.scope.specs.Sizes.{mostOperands, mostObjects, mostCells}
 use Rattle.scope.specs.Machine.{Value}
-use Rattle.run_values.specs.Layout.{objectKind}
+use Rattle.run_value.specs.declared.Value
 use Rattle.run_values.specs.Values.{AllCanon}
 use Rattle.run_heap.specs.Heap.{Kept, RowPut, Filled}
 use Rattle.run_stack.specs.Pile.{Pushed}
@@ -31,7 +31,7 @@ madeStage st left k =
 pub record PutMade (objects objects′ operands operands′ : List ℕ) (st : Stage) (left x d k : ℕ) (r : Stage) : Type 0 where
   pub later : r ≡ madeStage st left k
   pub row : RowPut objects objects′ (st .objects) x d (st .cells) k
-  pub pushed : Pushed operands operands′ (st .base) left objectKind (st .objects)
+  pub pushed : Pushed operands operands′ (st .base) left (Value.the-variants.Object (st .objects))
 
 pub record Makable (objects cells operands : List ℕ) (st : Stage) (left k : ℕ) : Type 0 where
   pub kept : Kept objects cells (st .objects) (st .cells)
@@ -49,7 +49,7 @@ pub record MakableGiven (objects cells operands : List ℕ) (st : Stage) (left k
 pub record Made (objects objects′ cells cells′ operands operands′ : List ℕ) (st : Stage) (left x d k : ℕ) (fields : List Value) : Type 0 where
   pub row : RowPut objects objects′ (st .objects) x d (st .cells) k
   pub filled : Filled cells cells′ (st .cells) k fields
-  pub pushed : Pushed operands operands′ (st .base) left objectKind (st .objects)
+  pub pushed : Pushed operands operands′ (st .base) left (Value.the-variants.Object (st .objects))
   pub low : st .base + left < mostOperands
 
 pub record MadeIs (objects objects′ cells cells′ operands operands′ : List ℕ) (st : Stage) (left x d k : ℕ) (fields : List Value) (r : Stepped) : Type 0 where

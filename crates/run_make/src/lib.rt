@@ -2,7 +2,7 @@
 // there is no room for the reference it is astray, and nothing is written.
 use run_state::Stage;
 use run_state::Stepped;
-use run_values::layout;
+use run_value::Value;
 ghost use Prim.Native.Nat.{_+_};
 ghost use Rattle.run_values.specs.Values.{valuesFrom};
 ghost use Rattle.run_state.specs.Moved.{defaultsAt};
@@ -29,7 +29,7 @@ fn put_made(
     let total = stage.cells;
     let base = stage.base;
     run_heap::put_object(objects, n, x, d, total as u16, k as u16);
-    run_stack::push(operands, base, left, layout::OBJECT, n as u64);
+    run_stack::push(operands, base, left, Value::Object(n as u64));
     Stage {
         place: stage.place,
         objects: n + 1,

@@ -7,7 +7,7 @@ use native.Mathlib.Omega.{arith}
 use Rattle.scope.specs.Instructions.{ref-test, ref-cast, br-on-cast, br-on-cast-fail, ref-cast-desc-eq, br-on-cast-desc-eq, br-on-cast-desc-eq-fail}
 use Rattle.scope.specs.Refusals.{trapCast}
 use Rattle.scope.specs.Machine.{Value, goes, traps, withOperands, truth, branch, doOp}
-use Rattle.run_values.specs.Layout.{i32Kind}
+use Rattle.run_value.specs.declared.Value
 use Rattle.type_table.specs.View.{heapAtCode}
 use Rattle.body_decoded.specs.Decoded.{castOf}
 use Rattle.run_stack.specs.declared.Topmost.{Topmost}
@@ -22,15 +22,15 @@ use Rattle.run_move_casts.specs.Casts.{CastPlans, DescriptorPlans}
 
 module _ {rows codes objects : List ℕ} {n : ℕ} {first : Topmost} {nullToo : Bool} {h : ℕ} {r : Move} where
   pub test-is :
-      CastChosen rows codes objects n first nullToo h (Move.the-variants.Gives 1 i32Kind 1) (Move.the-variants.Gives 1 i32Kind 0) r
+      CastChosen rows codes objects n first nullToo h (Move.the-variants.Gives 1 (Value.the-variants.I32 1)) (Move.the-variants.Gives 1 (Value.the-variants.I32 0)) r
       → CastPlans rows codes objects n first (ref-test nullToo (heapAtCode h)) r
   unfolding doOp
   test-is a =
       record {
         is = λ p m second cells total types knows.
             a .is p m second cells total types knows (λ v below b. goes (withOperands m (truth b ∷ below)))
-            (λ v top. giving-i32 1 1 refl (top-low (m .operands) top))
-            (λ v top. giving-i32 1 0 refl (top-low (m .operands) top));
+            (λ v top. giving-i32 1 1 (omega arith) refl (top-low (m .operands) top))
+            (λ v top. giving-i32 1 0 (omega arith) refl (top-low (m .operands) top));
       }
 
   pub cast-is :

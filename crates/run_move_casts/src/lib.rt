@@ -2,7 +2,7 @@
 // does not.
 use run_stack::Topmost;
 use run_state::Move;
-use run_values::layout::I32;
+use run_value::Value;
 use scope::traps;
 ghost use Rattle.scope.specs.Instructions.{ref-test, ref-cast, br-on-cast, br-on-cast-fail, ref-cast-desc-eq, br-on-cast-desc-eq, br-on-cast-desc-eq-fail};
 ghost use Rattle.type_table.specs.View.{heapAtCode};
@@ -21,8 +21,8 @@ pub fn test_move(
 ) -> Move
     ensures { λ r. ⌜ CastPlans (now (rows .entry)) (now (codes .entry)) (now (objects .entry)) n first (ref-test null (heapAtCode h)) r ⌝ }
 {
-    let one = Move::Gives(1, I32, 1);
-    let zero = Move::Gives(1, I32, 0);
+    let one = Move::Gives(1, Value::I32(1));
+    let zero = Move::Gives(1, Value::I32(0));
     run_passing::move_by_type(rows, codes, objects, n, first, null, h, one, zero)
 }
 

@@ -12,7 +12,9 @@ use Rattle.scope.specs.Layout.{objectSpan}
 use Rattle.scope.specs.Refusals.{trapNull}
 use Rattle.scope.specs.Instructions.{struct-get, struct-set, ref-get-desc}
 use Rattle.scope.specs.Machine.{Value, Object, Store, Outcome, traps, stuck, onTaken, onObject, doOp}
-use Rattle.run_values.specs.Layout.{objectKind, countWord}
+use Rattle.run_values.specs.Layout.{countWord}
+use Rattle.run_value.specs.declared.Value
+use Rattle.run_value.specs.declared.Value.{Value as Carrier}
 use Rattle.type_table.specs.declared.Link.{Link}
 use Rattle.type_table.specs.declared.Link
 use Rattle.type_table.proofs.Laws.{link-nothing, link-to}
@@ -69,15 +71,14 @@ module _ {objects cells : List ℕ} {n : ℕ} {first second : Topmost} (x i : �
       get-missed q =
           record { is = λ p codes m total a. strays (look-there (a .top) is (m .heap) _ e (object-there objects cells (a .heap) h) ∙ rw (field-missed b q)) }
 
-      pub get-got : {k w : ℕ} → held ≡ Held.the-variants.Is k w → FieldPlans objects cells n first second (struct-get x i) (Move.the-variants.Gives 1 k w)
+      pub get-got : {v : Carrier} → held ≡ Held.the-variants.Is v → FieldPlans objects cells n first second (struct-get x i) (Move.the-variants.Gives 1 v)
       unfolding doOp
-      get-got {k} {w} q =
+      get-got {v} q =
           record {
             is = λ p codes m total a.
-                giving 1 k w
+                giving 1 v
                 (look-there (a .top) is (m .heap) _ e (object-there objects cells (a .heap) h) ∙ rw (field-got b q))
-                (top-low (m .operands) (object-top (a .top) is e))
-                (b .canon n total (a .kept) h k w q);
+                (top-low (m .operands) (object-top (a .top) is e));
           }
 
 -- struct.set
@@ -87,7 +88,7 @@ module _ {objects cells : List ℕ} {n : ℕ} {first second : Topmost} (x i : �
   unfolding doOp
   set-nothing e = record { is = λ p codes m total a. strays (on-none (m .operands) (no-top (a .top) e) _) }
 
-  module _ {k w : ℕ} (q : first ≡ Topmost.the-variants.Is k w) {r : Reference} (is : r ≡ referenceAt second) where
+  module _ {v : Carrier} (q : first ≡ Topmost.the-variants.Is v) {r : Reference} (is : r ≡ referenceAt second) where
     pub set-wrong : r ≡ Reference.the-variants.Wrong → FieldPlans objects cells n first second (struct-set x i) Move.the-variants.Astray
     unfolding doOp
     set-wrong e =
@@ -121,28 +122,27 @@ module _ {objects cells : List ℕ} {n : ℕ} {first second : Topmost} (x i : �
                   ∙ rw (field-missed b f));
             }
 
-        pub set-got : {k′ w′ : ℕ} → held ≡ Held.the-variants.Is k′ w′ → FieldPlans objects cells n first second (struct-set x i) (Move.the-variants.SetsField 2 o i k w)
+        pub set-got : {u : Carrier} → held ≡ Held.the-variants.Is u → FieldPlans objects cells n first second (struct-set x i) (Move.the-variants.SetsField 2 o i v)
         unfolding doOp
-        set-got {k′} {w′} f =
+        set-got {u} f =
             record {
               is = λ p codes m total a.
                   let there = object-there objects cells (a .heap) h in
-                  setting-field 2 o i k w (objectAt objects cells o) there
+                  setting-field 2 o i v (objectAt objects cells o) there
                   (on-top (m .operands) (value-top (a .top) q) _
                   ∙ look-there (a .next) is (m .heap) _ e there
                   ∙ rw (field-got b f, drop-drop 1 1 (m .operands)))
                   (two-low (m .operands) (value-top (a .top) q) (object-top (a .next) is e))
-                  (b .inside k′ w′ f)
-                  (a .top .canon k w q);
+                  (b .inside u f);
             }
 
 -- the number of a field that is there is less than how many there are, which is one word
 pub field-fits :
-    {objects cells : List ℕ} {o i : ℕ} {held : Held} → HeldField objects cells o i held → {k w : ℕ} → held ≡ Held.the-variants.Is k w → ((j : ℕ) → getD objects j 0 < 2 ^ 16)
+    {objects cells : List ℕ} {o i : ℕ} {held : Held} → HeldField objects cells o i held → {v : Carrier} → held ≡ Held.the-variants.Is v → ((j : ℕ) → getD objects j 0 < 2 ^ 16)
     → Fits w32 i
-field-fits {objects} {cells} {o} {i} b {k} {w} e words =
+field-fits {objects} {cells} {o} {i} b {v} e words =
     let small = words (objectSpan * o + countWord) in
-    let inside : i < objectWord objects o countWord = rw (fields-length objects cells o) at (b .inside k w e) in record { fits = omega arith }
+    let inside : i < objectWord objects o countWord = rw (fields-length objects cells o) at (b .inside v e) in record { fits = omega arith }
 
 -- ref.get_desc
 
@@ -172,7 +172,7 @@ module _ {objects cells : List ℕ} {n : ℕ} {first second : Topmost} (x : ℕ)
                 ∙ rw (link-nothing (objectAt objects cells o .descriptor) (b .is cells) q));
           }
 
-      pub desc-got : {d : ℕ} → link ≡ Link.the-variants.To d → FieldPlans objects cells n first second (ref-get-desc x) (Move.the-variants.Gives 1 objectKind d)
+      pub desc-got : {d : ℕ} → link ≡ Link.the-variants.To d → FieldPlans objects cells n first second (ref-get-desc x) (Move.the-variants.Gives 1 (Value.the-variants.Object d))
       unfolding doOp
       desc-got {d} q =
           record {

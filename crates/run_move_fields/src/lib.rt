@@ -3,7 +3,7 @@ use run_heap::Held;
 use run_stack::Topmost;
 use run_state::Move;
 use run_state::Reference;
-use run_values::layout::OBJECT;
+use run_value::Value;
 use scope::traps::NULL as NULL_USED;
 use type_table::Link;
 ghost use Rattle.scope.specs.Instructions.{struct-get, struct-set, ref-get-desc};
@@ -32,7 +32,7 @@ pub fn get_field_move(
             let held = run_heap::held_field(objects, cells, o as u32, i);
             match held {
                 Held::Absent => Move::Astray,
-                Held::Is(kind, bits) => Move::Gives(1, kind, bits),
+                Held::Is(v) => Move::Gives(1, v),
             }
         }
     }
@@ -50,7 +50,7 @@ pub fn set_field_move(
 ) -> Move
     ensures { λ r. ⌜ FieldPlans (now (objects .entry)) (now (cells .entry)) n first second (struct-set x i) r ⌝ }
 {
-    let Topmost::Is(kind, bits) = first else {
+    let Topmost::Is(v) = first else {
         return Move::Astray;
     };
     let reference = run_state::reference_of(second);
@@ -64,7 +64,7 @@ pub fn set_field_move(
             let held = run_heap::held_field(objects, cells, o as u32, i);
             match held {
                 Held::Absent => Move::Astray,
-                Held::Is(_, _) => Move::SetsField(2, o as u32, i as u32, kind, bits),
+                Held::Is(_) => Move::SetsField(2, o as u32, i as u32, v),
             }
         }
     }
@@ -92,7 +92,7 @@ pub fn get_descriptor_move(
             let link = run_heap::descriptor_of(objects, o as u32);
             match link {
                 Link::Nothing => Move::Astray,
-                Link::To(d) => Move::Gives(1, OBJECT, d),
+                Link::To(d) => Move::Gives(1, Value::Object(d)),
             }
         }
     }

@@ -8,7 +8,9 @@ use lib.ListN.{length, getElem?, set, drop}
 use Rattle.scope.specs.Reading.{given}
 use Rattle.scope.specs.Instructions.{local-get, local-set, local-tee}
 use Rattle.scope.specs.Machine.{Value, Machine, Outcome, goes, stuck, withOperands, withLocals, onSet, doOp}
-use Rattle.run_values.specs.Values.{valueAt, heldFrom}
+use Rattle.run_values.specs.Values.{heldFrom}
+use Rattle.run_value.specs.declared.Value.{Value as Carrier}
+use Rattle.run_value.specs.Carried.{decoded}
 use Rattle.run_stack.specs.declared.Topmost.{Topmost}
 use Rattle.run_stack.specs.declared.Topmost
 use Rattle.run_stack.specs.declared.HeldLocal.{HeldLocal}
@@ -25,20 +27,20 @@ use Rattle.run_state.proofs.Moving.{strays, giving, setting-local}
 module _ {locals : List ℕ} {count x : ℕ} {first : Topmost} {r : HeldLocal} (a : LocalIs locals count x r) where
   pub get-absent : r ≡ HeldLocal.the-variants.Absent → LocalPlans locals count first (local-get x) Move.the-variants.Astray
   unfolding doOp
-  get-absent e = record { is = λ p codes m same canon top. strays (rw (same, local-missed e a)) }
+  get-absent e = record { is = λ p codes m same top. strays (rw (same, local-missed e a)) }
 
   pub get-unset : r ≡ HeldLocal.the-variants.Unset → LocalPlans locals count first (local-get x) Move.the-variants.Astray
   unfolding doOp
-  get-unset e = record { is = λ p codes m same canon top. strays (rw (same, local-empty e a)) }
+  get-unset e = record { is = λ p codes m same top. strays (rw (same, local-empty e a)) }
 
-  pub get-held : {k b : ℕ} → r ≡ HeldLocal.the-variants.Is k b → LocalPlans locals count first (local-get x) (Move.the-variants.Gives 0 k b)
+  pub get-held : {v : Carrier} → r ≡ HeldLocal.the-variants.Is v → LocalPlans locals count first (local-get x) (Move.the-variants.Gives 0 v)
   unfolding doOp
-  get-held {k} {b} e =
-      record { is = λ p codes m same canon top. giving 0 k b (found m (ap (λ (l : List (Option Value)). getElem? l x) same ∙ local-got e a)) (omega arith) (a .canon k b e canon) }
+  get-held {v} e =
+      record { is = λ p codes m same top. giving 0 v (found m (ap (λ (l : List (Option Value)). getElem? l x) same ∙ local-got e a)) (omega arith) }
     where
       found :
-          (m : Machine) → getElem? (m .locals) x ≡ some (some (valueAt k b))
-          → given (getElem? (m .locals) x) stuck (λ held. given held stuck (λ v. goes (withOperands m (v ∷ m .operands)))) ≡ goes (withOperands m (valueAt k b ∷ m .operands))
+          (m : Machine) → getElem? (m .locals) x ≡ some (some (decoded v))
+          → given (getElem? (m .locals) x) stuck (λ held. given held stuck (λ u. goes (withOperands m (u ∷ m .operands)))) ≡ goes (withOperands m (decoded v ∷ m .operands))
       found m e = rw e
 
 -- local.set and local.tee
@@ -56,45 +58,43 @@ local-inside locals {count} m same h = rw (same, locals-length locals count) h
 module _ {locals : List ℕ} {count : ℕ} {first : Topmost} (x : ℕ) where
   pub set-nothing : first ≡ Topmost.the-variants.Nothing → LocalPlans locals count first (local-set x) Move.the-variants.Astray
   unfolding doOp
-  set-nothing e = record { is = λ p codes m same canon top. strays (on-none (m .operands) (no-top top e) _) }
+  set-nothing e = record { is = λ p codes m same top. strays (on-none (m .operands) (no-top top e) _) }
 
   pub tee-nothing : first ≡ Topmost.the-variants.Nothing → LocalPlans locals count first (local-tee x) Move.the-variants.Astray
   unfolding doOp
-  tee-nothing e = record { is = λ p codes m same canon top. strays (on-none (m .operands) (no-top top e) _) }
+  tee-nothing e = record { is = λ p codes m same top. strays (on-none (m .operands) (no-top top e) _) }
 
-  module _ {k b : ℕ} (e : first ≡ Topmost.the-variants.Is k b) where
+  module _ {v : Carrier} (e : first ≡ Topmost.the-variants.Is v) where
     pub set-absent : count ≤ x → LocalPlans locals count first (local-set x) Move.the-variants.Astray
     unfolding doOp
     set-absent h =
-        record { is = λ p codes m same canon top. strays (on-top (m .operands) (value-top top e) _ ∙ set-past locals m same (valueAt k b) (λ after. goes (withOperands after (drop 1 (m .operands)))) h) }
+        record { is = λ p codes m same top. strays (on-top (m .operands) (value-top top e) _ ∙ set-past locals m same (decoded v) (λ after. goes (withOperands after (drop 1 (m .operands)))) h) }
 
     pub tee-absent : count ≤ x → LocalPlans locals count first (local-tee x) Move.the-variants.Astray
     unfolding doOp
     tee-absent h =
-        record { is = λ p codes m same canon top. strays (on-top (m .operands) (value-top top e) _ ∙ set-past locals m same (valueAt k b) goes h) }
+        record { is = λ p codes m same top. strays (on-top (m .operands) (value-top top e) _ ∙ set-past locals m same (decoded v) goes h) }
 
-    pub set-local : x < count → LocalPlans locals count first (local-set x) (Move.the-variants.SetsLocal 1 x k b)
+    pub set-local : x < count → LocalPlans locals count first (local-set x) (Move.the-variants.SetsLocal 1 x v)
     unfolding doOp
     set-local h =
         record {
-          is = λ p codes m same canon top.
-              setting-local 1 x k b
-              (on-top (m .operands) (value-top top e) _ ∙ set-there locals m same (valueAt k b) (λ after. goes (withOperands after (drop 1 (m .operands)))) h)
+          is = λ p codes m same top.
+              setting-local 1 x v
+              (on-top (m .operands) (value-top top e) _ ∙ set-there locals m same (decoded v) (λ after. goes (withOperands after (drop 1 (m .operands)))) h)
               (top-low (m .operands) (value-top top e))
-              (local-inside locals m same h)
-              (top .canon k b e);
+              (local-inside locals m same h);
         }
 
-    pub tee-local : x < count → LocalPlans locals count first (local-tee x) (Move.the-variants.SetsLocal 0 x k b)
+    pub tee-local : x < count → LocalPlans locals count first (local-tee x) (Move.the-variants.SetsLocal 0 x v)
     unfolding doOp
     tee-local h =
         record {
-          is = λ p codes m same canon top.
-              setting-local 0 x k b
-              (on-top (m .operands) (value-top top e) _ ∙ set-there locals m same (valueAt k b) goes h)
+          is = λ p codes m same top.
+              setting-local 0 x v
+              (on-top (m .operands) (value-top top e) _ ∙ set-there locals m same (decoded v) goes h)
               (omega arith)
-              (local-inside locals m same h)
-              (top .canon k b e);
+              (local-inside locals m same h);
         }
 
 pub ruleset local-exits = (get-absent, get-unset, get-held, set-nothing, tee-nothing, set-absent, tee-absent, set-local, tee-local)

@@ -3,8 +3,7 @@ use run_stack::HeldLocal;
 use run_stack::Topmost;
 use run_state::Move;
 use run_state::Reference;
-use run_values::layout::I32;
-use run_values::layout::OBJECT;
+use run_value::Value;
 use scope::traps;
 ghost use Rattle.scope.specs.Instructions.{drop-value, br-if, local-get, local-set, local-tee, ref-is-null, ref-eq, ref-as-non-null};
 ghost use Rattle.run_state.specs.Planned.{TopPlans, LocalPlans};
@@ -26,7 +25,7 @@ pub fn drop_move(first: Topmost, second: Topmost) -> Move
 {
     match first {
         Topmost::Nothing => Move::Astray,
-        Topmost::Is(_, _) => Move::Leaves(1),
+        Topmost::Is(_) => Move::Leaves(1),
     }
 }
 
@@ -36,15 +35,15 @@ pub fn branch_move(first: Topmost, second: Topmost, label: u64) -> Move
 {
     match first {
         Topmost::Nothing => Move::Astray,
-        Topmost::Is(kind, bits) => {
-            if kind == I32 {
-                if bits == 0 {
+        Topmost::Is(v) => match v {
+            Value::I32(n) => {
+                if n == 0 {
                     return Move::Leaves(1);
                 }
-                return Move::Branches(1, label);
+                Move::Branches(1, label)
             }
-            Move::Astray
-        }
+            _ => Move::Astray,
+        },
     }
 }
 
@@ -56,7 +55,7 @@ pub fn get_move(locals: &[u64], count: u16, first: Topmost, x: u64) -> Move
     match held {
         HeldLocal::Absent => Move::Astray,
         HeldLocal::Unset => Move::Astray,
-        HeldLocal::Is(kind, bits) => Move::Gives(0, kind, bits),
+        HeldLocal::Is(v) => Move::Gives(0, v),
     }
 }
 
@@ -66,9 +65,9 @@ pub fn set_move(locals: &[u64], count: u16, first: Topmost, x: u64) -> Move
 {
     match first {
         Topmost::Nothing => Move::Astray,
-        Topmost::Is(kind, bits) => {
+        Topmost::Is(v) => {
             if x < count as u64 {
-                return Move::SetsLocal(1, x, kind, bits);
+                return Move::SetsLocal(1, x, v);
             }
             Move::Astray
         }
@@ -81,9 +80,9 @@ pub fn tee_move(locals: &[u64], count: u16, first: Topmost, x: u64) -> Move
 {
     match first {
         Topmost::Nothing => Move::Astray,
-        Topmost::Is(kind, bits) => {
+        Topmost::Is(v) => {
             if x < count as u64 {
-                return Move::SetsLocal(0, x, kind, bits);
+                return Move::SetsLocal(0, x, v);
             }
             Move::Astray
         }
@@ -97,8 +96,8 @@ pub fn is_null_move(first: Topmost, second: Topmost) -> Move
     let reference = run_state::reference_of(first);
     match reference {
         Reference::Wrong => Move::Astray,
-        Reference::Null => Move::Gives(1, I32, 1),
-        Reference::To(_) => Move::Gives(1, I32, 0),
+        Reference::Null => Move::Gives(1, Value::I32(1)),
+        Reference::To(_) => Move::Gives(1, Value::I32(0)),
     }
 }
 
@@ -112,17 +111,17 @@ pub fn eq_move(first: Topmost, second: Topmost) -> Move
         Reference::Wrong => Move::Astray,
         Reference::Null => match other {
             Reference::Wrong => Move::Astray,
-            Reference::Null => Move::Gives(2, I32, 1),
-            Reference::To(_) => Move::Gives(2, I32, 0),
+            Reference::Null => Move::Gives(2, Value::I32(1)),
+            Reference::To(_) => Move::Gives(2, Value::I32(0)),
         },
         Reference::To(o) => match other {
             Reference::Wrong => Move::Astray,
-            Reference::Null => Move::Gives(2, I32, 0),
+            Reference::Null => Move::Gives(2, Value::I32(0)),
             Reference::To(q) => {
                 if o == q {
-                    return Move::Gives(2, I32, 1);
+                    return Move::Gives(2, Value::I32(1));
                 }
-                Move::Gives(2, I32, 0)
+                Move::Gives(2, Value::I32(0))
             }
         },
     }
@@ -136,6 +135,6 @@ pub fn as_non_null_move(first: Topmost, second: Topmost) -> Move
     match reference {
         Reference::Wrong => Move::Astray,
         Reference::Null => Move::Traps(traps::NULL),
-        Reference::To(o) => Move::Gives(1, OBJECT, o),
+        Reference::To(o) => Move::Gives(1, Value::Object(o)),
     }
 }

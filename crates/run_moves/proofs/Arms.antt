@@ -1,5 +1,5 @@
 -- Each arm of `move_of`: the move that it answers is what its instruction comes to, by the contract of the call that told it.
-use Prim.Native.Nat.{ℕ, _<_}
+use Prim.Native.Nat.{ℕ, _^_, _<_}
 use mathlib.Core.Path.{_≡_, refl, sym, ap, _∙_}
 use mathlib.Core.List.{List}
 use native.Mathlib.Omega.{arith}
@@ -9,7 +9,7 @@ use Rattle.scope.specs.Instructions.{Op, op}
 use Rattle.scope.specs.Machine.{Machine, Program, doOp}
 use Rattle.scope.proofs.Impossible.{contradiction}
 use Rattle.lent_u16.specs.Words.{wordLimit}
-use Rattle.run_values.specs.Layout.{i32Kind, nullKind}
+use Rattle.run_value.specs.declared.Value
 use Rattle.type_table.specs.View.{view}
 use Rattle.body_immediates.specs.declared.Instruction.{Instruction}
 use Rattle.body_immediates.specs.declared.Instruction
@@ -32,11 +32,11 @@ use Rattle.run_moves.specs.Moving.{MoveOf}
 
 module _ {m : Machine} {objects cells locals operands : List ℕ} {count : ℕ} {st : Stage} {first : Topmost} (t : TopIs operands (st .base) (st .height) first) (holds : Holds m objects cells locals operands count st) where
   sees : Seen (m .operands) first
-  sees = record { is = t .is ∙ ap headOf (sym (holds .values)); canon = λ k n e. t .canon k n e (holds .canon) }
+  sees = record { is = t .is ∙ ap headOf (sym (holds .values)) }
 
   module _ {second : Topmost} (u : SecondIs operands (st .base) (st .height) second) where
     sees-next : Seen (drop 1 (m .operands)) second
-    sees-next = rw (holds .values) (u .seen (holds .canon))
+    sees-next = rw (holds .values) (u .seen)
 
     knows : Knows m first second objects cells (st .objects) (st .cells)
     knows = record { top = sees; next = sees-next; heap = holds .heap; kept = holds .kept }
@@ -73,7 +73,7 @@ module _ (rows codes objects cells locals operands : List ℕ) (count : ℕ) (st
 
     module _ {o : Op} {r : Move} {first : Topmost} where
       pub by-locals : LocalPlans locals count first o r → First first → instrOf j ≡ op o → Tells i r
-      by-locals a t f = tells f (λ p m types holds. a .is p codes m (holds .held) (holds .localCanon) (sees t holds))
+      by-locals a t f = tells f (λ p m types holds. a .is p codes m (holds .held) (sees t holds))
 
       module _ {second : Topmost} where
         pub by-tops : TopPlans first second o r → First first → Second second → instrOf j ≡ op o → Tells i r
@@ -128,12 +128,12 @@ module _ (rows codes objects cells locals operands : List ℕ) (count : ℕ) (st
     unfolding instrOf doOp
     by-branch {l} e = tells e refl (λ p m types holds. branching 0 l refl (omega arith))
 
-    pub by-const : {n : ℕ} → i ≡ Instruction.the-variants.I32Const n → Tells i (Move.the-variants.Gives 0 i32Kind n)
+    pub by-const : {n : ℕ} → i ≡ Instruction.the-variants.I32Const n → n < 2 ^ 32 → Tells i (Move.the-variants.Gives 0 (Value.the-variants.I32 n))
     unfolding instrOf doOp
-    by-const {n} e =
-        tells e refl (λ p m types holds. giving-i32 0 n refl (omega arith))
+    by-const {n} e small =
+        tells e refl (λ p m types holds. giving-i32 0 n small refl (omega arith))
 
-    pub by-null : {h : ℕ} → i ≡ Instruction.the-variants.RefNull h → Tells i (Move.the-variants.Gives 0 nullKind 0)
+    pub by-null : {h : ℕ} → i ≡ Instruction.the-variants.RefNull h → Tells i (Move.the-variants.Gives 0 Value.the-variants.Null)
     unfolding instrOf doOp
     by-null e =
         tells e refl (λ p m types holds. giving-null 0 refl (omega arith))

@@ -3,8 +3,7 @@
 use body_immediates::Instruction;
 use run_state::Move;
 use run_state::Stage;
-use run_values::layout::I32;
-use run_values::layout::NULL;
+use run_value::Value;
 use scope::traps;
 ghost use Rattle.body_decoded.specs.Named.{Modest};
 ghost use Rattle.run_moves.specs.Moving.{MoveOf};
@@ -47,8 +46,8 @@ pub fn move_of(
         Instruction::LocalGet(x) => run_move_operands::get_move(locals, count, first, x),
         Instruction::LocalSet(x) => run_move_operands::set_move(locals, count, first, x),
         Instruction::LocalTee(x) => run_move_operands::tee_move(locals, count, first, x),
-        Instruction::I32Const(bits) => Move::Gives(0, I32, bits),
-        Instruction::RefNull(_) => Move::Gives(0, NULL, 0),
+        Instruction::I32Const(bits) => Move::Gives(0, Value::I32(bits)),
+        Instruction::RefNull(_) => Move::Gives(0, Value::Null),
         Instruction::RefIsNull => run_move_operands::is_null_move(first, second),
         Instruction::RefEq => run_move_operands::eq_move(first, second),
         Instruction::RefAsNonNull => run_move_operands::as_non_null_move(first, second),

@@ -12,11 +12,13 @@ use lib.Seq.{set-out}
 use lib.Dec.{eqb}
 use borrow.Author.Tests.{eqb-true, eqb-false}
 use Rattle.scope.proofs.Truths.{decided}
-use Rattle.scope.proofs.Impossible.{impossible}
+use Rattle.run_value.specs.declared.Value.{Value as Carrier}
+use Rattle.run_value.specs.Carried.{decoded, valueKind, valueBits, withValue, ValueIs}
+use Rattle.run_value.proofs.Laws.{said, canon-said, some-kind}
 use Rattle.run_values.specs.Layout.{kindPlace, bitsPlace}
-use Rattle.run_values.specs.Values.{Word64At, valueAt, heldAt, heldFrom, setValue, HeldCanon, entryIn}
+use Rattle.run_values.specs.Values.{Word64At, heldAt, heldFrom, setValue, HeldCanon, entryIn}
 use Rattle.run_values.proofs.Numbered.{numbered-length, numbered-there, numbered-none, numbered-set}
-use Rattle.run_values.proofs.Laws.{canon-kind, held-none, held-some, held-canon-some, put-long, put-beside, put-kind, put-bits}
+use Rattle.run_values.proofs.Laws.{held-none, held-some, held-canon-some, put-long, put-beside, put-kind, put-bits}
 use Rattle.run_stack.specs.declared.HeldLocal.{HeldLocal}
 use Rattle.run_stack.specs.declared.HeldLocal
 use Rattle.run_stack.specs.Pile.{LocalRoom, LocalIs, LocalSet}
@@ -34,29 +36,18 @@ pub locals-length : (locals : List ℕ) (count : ℕ) → length (heldFrom local
 locals-length locals count = numbered-length (entryIn heldAt locals) 0 count
 
 pub local-absent : (locals : List ℕ) {count x : ℕ} → count ≤ x → LocalIs locals count x HeldLocal.the-variants.Absent
-local-absent locals {count} {x} h =
-    record { is = sym (local-none locals count x h); canon = λ k n z. impossible cc }
+local-absent locals {count} {x} h = record { is = sym (local-none locals count x h) }
 
 module _ {locals : List ℕ} {count x k : ℕ} (h : x < count) (a : Word64At locals (kindPlace x) k) where
   pub local-unset : k ≡ 0 → LocalIs locals count x HeldLocal.the-variants.Unset
   local-unset e =
       let kind : getD locals (kindPlace x) 0 ≡ 0 = sym (a .is) ∙ e in
-      record {
-        is = sym (local-there locals count x h ∙ ap some (held-none (getD locals (bitsPlace x) 0) kind));
-        canon = λ k′ n z. impossible cc;
-      }
+      record { is = sym (local-there locals count x h ∙ ap some (held-none (getD locals (bitsPlace x) 0) kind)) }
 
-  pub local-held : (k ≡ 0 → ⊥) → {n : ℕ} → Word64At locals (bitsPlace x) n → LocalIs locals count x (HeldLocal.the-variants.Is k n)
-  local-held d {n} b =
-      let held : heldAt k n ≡ some (valueAt k n) = held-some n d in
-      record {
-        is = sym (local-there locals count x h ∙ ap some (rw (← a .is, ← b .is) held));
-        canon = λ k′ n′ z all.
-            let left : k ≡ k′ = cc in
-            let right : n ≡ n′ = cc in
-            let words : HeldCanon k n = rw (a .is, b .is) (all .each x h) in
-            rw (← left, ← right) (record { is = rw held at (words .is) });
-      }
+  pub local-held : (k ≡ 0 → ⊥) → {n : ℕ} → Word64At locals (bitsPlace x) n → {v : Carrier} → ValueIs k n v → LocalIs locals count x (HeldLocal.the-variants.Is v)
+  local-held d {n} b {v} c =
+      let held : heldAt k n ≡ some (decoded v) = held-some n d ∙ ap some (sym (c .is)) in
+      record { is = sym (local-there locals count x h ∙ ap some (rw (← a .is, ← b .is) held)) }
 
 -- what the answer tells
 
@@ -67,7 +58,7 @@ module _ {locals : List ℕ} {count x : ℕ} {r : HeldLocal} where
   pub local-empty : r ≡ HeldLocal.the-variants.Unset → LocalIs locals count x r → getElem? (heldFrom locals 0 count) x ≡ some none
   local-empty e a = sym (rw e at (a .is))
 
-  pub local-got : {k n : ℕ} → r ≡ HeldLocal.the-variants.Is k n → LocalIs locals count x r → getElem? (heldFrom locals 0 count) x ≡ some (some (valueAt k n))
+  pub local-got : {v : Carrier} → r ≡ HeldLocal.the-variants.Is v → LocalIs locals count x r → getElem? (heldFrom locals 0 count) x ≡ some (some (decoded v))
   local-got e a = sym (rw e at (a .is))
 
 -- put
@@ -96,21 +87,23 @@ module _ (m : List ℕ) (j k n : ℕ) where
 
 -- a local that is set
 
-pub local-set-none : (locals : List ℕ) {count x : ℕ} (k n : ℕ) → count ≤ x → LocalSet locals locals count x k n
-local-set-none locals {count} {x} k n h =
+pub local-set-none : (locals : List ℕ) {count x : ℕ} (v : Carrier) → count ≤ x → LocalSet locals locals count x v
+local-set-none locals {count} {x} v h =
     let beyond : length (heldFrom locals 0 count) ≤ x = rw (locals-length locals count) h in
-    record { is = λ c. sym (set-out (heldFrom locals 0 count) x (some (valueAt k n)) beyond); canon = λ c all. all; size = refl }
+    record { is = sym (set-out (heldFrom locals 0 count) x (some (decoded v)) beyond); canon = λ all. all; size = refl }
 
-pub local-set-there : {locals locals′ : List ℕ} {x k n : ℕ} → locals′ ≡ setValue locals x k n → {count : ℕ} → x < count → LocalRoom locals count → LocalSet locals locals′ count x k n
-local-set-there {locals} {locals′} {x} {k} {n} e {count} h room =
+pub local-set-there : {locals locals′ : List ℕ} {x : ℕ} (v : Carrier) → locals′ ≡ withValue locals x v → {count : ℕ} → x < count → LocalRoom locals count → LocalSet locals locals′ count x v
+local-set-there {locals} {locals′} {x} v e {count} h room =
+    let k : ℕ = valueKind v in
+    let n : ℕ = valueBits v in
     let inside : bitsPlace x < length locals = omega (arith, room .room, room .few) in
     let value : entryIn heldAt locals′ (0 + x) ≡ heldAt k n = rw (e, zero-add x) (held-here locals x k n inside) in
     let others : (i : ℕ) → (i ≡ 0 + x → ⊥) → entryIn heldAt locals′ i ≡ entryIn heldAt locals i = λ i d. rw e (held-beside locals x k n i (λ z. d (omega arith))) in
     record {
-      is = λ c.
+      is =
           numbered-set (entryIn heldAt locals) (entryIn heldAt locals′) 0 count x h (λ i a b d. others i d)
-          ∙ ap (set (heldFrom locals 0 count) x) (value ∙ held-some n (canon-kind c));
-      canon = λ c all. rw e (record { each = λ i l. held-canon-put locals x k n inside i (λ d. all .each i l) (held-canon-some c) });
+          ∙ ap (set (heldFrom locals 0 count) x) (value ∙ held-some n (some-kind v) ∙ ap some (said v));
+      canon = λ all. rw e (record { each = λ i l. held-canon-put locals x k n inside i (λ d. all .each i l) (held-canon-some (canon-said v)) });
       size = rw e (put-long locals x k n);
     }
 

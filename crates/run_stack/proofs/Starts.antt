@@ -19,7 +19,7 @@ use Rattle.body_state.specs.Layout.{codeBound}
 use Rattle.lent_u32.specs.Scratch.{Word32At}
 use Rattle.body_state.specs.State.{valAtWord}
 use Rattle.run_values.specs.Values.{numbered, valueAt, heldFrom, setValue, AllHeldCanon, entryIn, heldAt}
-use Rattle.run_values.proofs.Laws.{value-number, value-null, held-none, held-some, held-canon-none, held-canon-some, canon-number, canon-null, put-long}
+use Rattle.run_values.proofs.Laws.{value-zero, value-null, held-none, held-some, held-canon-none, held-canon-some, canon-zero, canon-null, put-long}
 use Rattle.run_stack.specs.Pile.{LocalRoom, StartKind, Started}
 use Rattle.run_stack.proofs.Held.{held-beside, held-here, held-canon-put}
 
@@ -29,10 +29,10 @@ pub start-number : {code : ℕ} → code < 4 → StartKind code (code + 1)
 start-number {code} h =
     let same : code + 1 - 1 ≡ code = omega arith in
     let value : valueAt (code + 1) 0 ≡ number (numberAt code) 0 =
-    value-number 0 (λ e. omega arith) (λ e. omega arith) ∙ ap (λ (k : ℕ). number (numberAt k) 0) same in
+    value-zero (λ e. omega arith) (λ e. omega arith) ∙ ap (λ (k : ℕ). number (numberAt k) 0) same in
     record {
       is = held-some 0 (λ e. omega arith) ∙ ap some value ∙ ap defaultOf (sym (val-number h));
-      canon = held-canon-some (canon-number 0 (omega arith) (omega arith));
+      canon = held-canon-some (canon-zero (omega arith) (omega arith));
     }
 
 module _ {code : ℕ} (h : 4 ≤ code) where

@@ -10,8 +10,10 @@ use Rattle.scope.specs.Sizes.{mostLocals, mostOperands}
 use Rattle.scope.specs.Machine.{Value, defaultOf}
 use Rattle.run_values.specs.Layout.{kindPlace, bitsPlace}
 use Rattle.type_table.specs.View.{valAtCode, codesAt}
-use Rattle.run_values.specs.Values.{valueAt, heldAt, heldFrom, setValue, Canon, HeldCanon, AllCanon, AllHeldCanon, entryIn}
+use Rattle.run_values.specs.Values.{valueAt, heldAt, heldFrom, setValue, HeldCanon, AllCanon, AllHeldCanon, entryIn}
 use Rattle.body_state.specs.State.{valAtWord}
+use Rattle.run_value.specs.declared.Value.{Value as Carrier}
+use Rattle.run_value.specs.Carried.{decoded}
 use Rattle.run_stack.specs.declared.Topmost.{Topmost}
 use Rattle.run_stack.specs.declared.Topmost
 use Rattle.run_stack.specs.declared.HeldLocal.{HeldLocal}
@@ -33,7 +35,7 @@ pub record Room (m : List ℕ) (base h n : ℕ) : Type 0 where
 
 abbrev pub topOf : Topmost → Option Value
 topOf Topmost.the-variants.Nothing = none
-topOf (Topmost.the-variants.Is k n) = some (valueAt k n)
+topOf (Topmost.the-variants.Is v) = some (decoded v)
 
 abbrev pub headOf : List Value → Option Value
 headOf [] = none
@@ -41,13 +43,12 @@ headOf (v ∷ vs) = some v
 
 pub record TopIs (m : List ℕ) (base h : ℕ) (r : Topmost) : Type 0 where
   pub is : topOf r ≡ headOf (pile m base h)
-  pub canon : (k n : ℕ) → r ≡ Topmost.the-variants.Is k n → AllCanon m (base + h) → Canon k n
 
 -- The value stands on top of the others, and no operand below is changed.
-pub record Pushed (m m′ : List ℕ) (base h k n : ℕ) : Type 0 where
-  pub top : pile m′ base (h + 1) ≡ valueAt k n ∷ pile m base h
+pub record Pushed (m m′ : List ℕ) (base h : ℕ) (v : Carrier) : Type 0 where
+  pub top : pile m′ base (h + 1) ≡ decoded v ∷ pile m base h
   pub below : (i : ℕ) → i < valueSpan * (base + h) → getD m′ i 0 ≡ getD m i 0
-  pub canon : Canon k n → AllCanon m (base + h) → AllCanon m′ (base + (h + 1))
+  pub canon : AllCanon m (base + h) → AllCanon m′ (base + (h + 1))
   pub size : length m′ ≡ length m
 
 -- memory in which value `to` is what value `from` was
@@ -77,16 +78,15 @@ pub record LocalRoom (locals : List ℕ) (count : ℕ) : Type 0 where
 abbrev pub localOf : HeldLocal → Option (Option Value)
 localOf HeldLocal.the-variants.Absent = none
 localOf HeldLocal.the-variants.Unset = some none
-localOf (HeldLocal.the-variants.Is k n) = some (some (valueAt k n))
+localOf (HeldLocal.the-variants.Is v) = some (some (decoded v))
 
 pub record LocalIs (locals : List ℕ) (count x : ℕ) (r : HeldLocal) : Type 0 where
   pub is : localOf r ≡ getElem? (heldFrom locals 0 count) x
-  pub canon : (k n : ℕ) → r ≡ HeldLocal.the-variants.Is k n → AllHeldCanon locals count → Canon k n
 
--- where the words are those of a value, it is what the local holds
-pub record LocalSet (locals locals′ : List ℕ) (count x k n : ℕ) : Type 0 where
-  pub is : Canon k n → heldFrom locals′ 0 count ≡ set (heldFrom locals 0 count) x (some (valueAt k n))
-  pub canon : Canon k n → AllHeldCanon locals count → AllHeldCanon locals′ count
+-- the value is what the local holds
+pub record LocalSet (locals locals′ : List ℕ) (count x : ℕ) (v : Carrier) : Type 0 where
+  pub is : heldFrom locals′ 0 count ≡ set (heldFrom locals 0 count) x (some (decoded v))
+  pub canon : AllHeldCanon locals count → AllHeldCanon locals′ count
   pub size : length locals′ ≡ length locals
 
 -- the kind with which a local starts; its bits are 0

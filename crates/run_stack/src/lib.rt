@@ -1,6 +1,7 @@
 // The operands and locals of a trial run, in lent memory of 64-bit words: what is on top, putting a value there, moving
-// values down, and what a local holds. Each answer is what the words say (specs/Pile.antt); a value is given by its kind
-// and its bits (docs/LAYOUT.md).
+// values down, and what a local holds. Each answer is what the words say (specs/Pile.antt). A value that is only moved in
+// memory is moved by its words, its kind and its bits (docs/LAYOUT.md).
+use run_value::Value;
 use run_values::layout;
 use scope::sizes;
 ghost use mathlib.Core.Path.{_≡_};
@@ -9,10 +10,10 @@ ghost use Rattle.run_stack.specs.Pile.{Room, TopIs, Pushed, copied, Lowe
 // The codes of references begin here, after those of the four number types; the odd ones may be null.
 const REFERENCES: u64 = 4;
 
-// The kind and the bits of the operand on top.
+// The operand on top.
 pub enum Topmost {
     Nothing,
-    Is(u64, u64),
+    Is(Value),
 }
 
 // The top one of h operands, above the lowest `base`.
@@ -26,15 +27,16 @@ pub fn top(m: &[u64], base: u32, h: u32) -> Topmost
     let at = sizes::VALUE * (base as u64 + last as u64);
     let kind = run_values::word64(m, at);
     let bits = run_values::word64(m, at + 1);
-    Topmost::Is(kind, bits)
+    let v = run_value::value_of(kind, bits);
+    Topmost::Is(v)
 }
 
 // A value on top.
-pub fn push(m: &mut [u64], base: u32, h: u32, kind: u64, bits: u64)
+pub fn push(m: &mut [u64], base: u32, h: u32, v: Value)
     requires { ⌜ Room (now m) base h 1 ⌝ }
-    ensures { λ r. ⌜ Pushed (now (m .entry)) (now (m .exit)) base h kind bits ⌝ }
+    ensures { λ r. ⌜ Pushed (now (m .entry)) (now (m .exit)) base h v ⌝ }
 {
-    run_values::put_value(m, base + h, kind, bits);
+    run_value::put(m, base + h, v);
 }
 
 // Value `from`, put as value `to`.
@@ -58,11 +60,11 @@ pub fn move_down(m: &mut [u64], from: u32, to: u32, n: u32)
     }
 }
 
-// What a local holds, by its kind and its bits.
+// What a local holds.
 pub enum HeldLocal {
     Absent,
     Unset,
-    Is(u64, u64),
+    Is(Value),
 }
 
 pub fn held_local(locals: &[u64], count: u16, x: u64) -> HeldLocal
@@ -74,18 +76,19 @@ pub fn held_local(locals: &[u64], count: u16, x: u64) -> HeldLocal
             return HeldLocal::Unset;
         }
         let bits = run_values::bits_of(locals, x as u32);
-        return HeldLocal::Is(kind, bits);
+        let v = run_value::value_of(kind, bits);
+        return HeldLocal::Is(v);
     }
     HeldLocal::Absent
 }
 
 // A value in a local that is there.
-pub fn set_local(locals: &mut [u64], count: u16, x: u64, kind: u64, bits: u64)
+pub fn set_local(locals: &mut [u64], count: u16, x: u64, v: Value)
     requires { ⌜ LocalRoom (now locals) count ⌝ }
-    ensures { λ r. ⌜ LocalSet (now (locals .entry)) (now (locals .exit)) count x kind bits ⌝ }
+    ensures { λ r. ⌜ LocalSet (now (locals .entry)) (now (locals .exit)) count x v ⌝ }
 {
     if x < count as u64 {
-        run_values::put_value(locals, x as u32, kind, bits);
+        run_value::put(locals, x as u32, v);
     }
 }
 

@@ -1,19 +1,20 @@
 -- A move is what an instruction comes to: one law for each kind of move, from what the instruction comes to and what the move
 -- can be carried out with.
-use Prim.Native.Nat.{ℕ, _+_, _≤_, _<_}
+use Prim.Native.Nat.{ℕ, _+_, _^_, _≤_, _<_}
 use mathlib.Core.Path.{_≡_, refl, sym, ap, _∙_}
 use mathlib.Core.Bool.{true}
 use mathlib.Core.Option.{some}
 use mathlib.Core.List.{List, _∷_, reverse}
 use native.Mathlib.Omega.{arith}
+use native.Mathlib.Nat.{mod-eq-of-lt}
 use lib.ListN.{length, getElem?, set, take, drop}
 use Rattle.scope.specs.Syntax.{i32}
 use Rattle.scope.specs.Machine.{Value, number, null, object, Object, Machine, Program, Outcome, goes, traps, stuck, withOperands, withHeap, withLocals, withField, hasRoom, finish, branch}
 use Rattle.scope.proofs.Impossible.{contradiction}
-use Rattle.run_values.specs.Layout.{i32Kind, nullKind, objectKind}
 use Rattle.type_table.specs.View.{linkAt}
-use Rattle.run_values.specs.Values.{valueAt, Canon}
-use Rattle.run_values.proofs.Laws.{value-of-code, value-null, value-object, canon-number, canon-null, canon-object}
+use Rattle.run_value.specs.declared.Value
+use Rattle.run_value.specs.declared.Value.{Value as Carrier}
+use Rattle.run_value.specs.Carried.{decoded}
 use Rattle.run_state.specs.declared.Move.{Move}
 use Rattle.run_state.specs.declared.Move
 use Rattle.run_state.specs.Moved.{withObject, defaultsAt, moved, Astray, is-stuck, dangling, Ready, MoveIs}
@@ -41,25 +42,24 @@ module _ {p : Program} {codes : List ℕ} {m : Machine} {want : Outcome} where
   unfolding moved Ready
   leaving n e low = stands (λ q. contradiction cc) e (record { low = low })
 
-  pub giving : (n k b : ℕ) → want ≡ goes (withOperands m (valueAt k b ∷ drop n (m .operands))) → n ≤ length (m .operands) → Canon k b → MoveIs p codes m want (Move.the-variants.Gives n k b)
+  pub giving : (n : ℕ) (v : Carrier) → want ≡ goes (withOperands m (decoded v ∷ drop n (m .operands))) → n ≤ length (m .operands) → MoveIs p codes m want (Move.the-variants.Gives n v)
   unfolding moved Ready
-  giving n k b e low canon =
-      stands (λ q. contradiction cc) e (record { low = low; canon = canon })
+  giving n v e low = stands (λ q. contradiction cc) e (record { low = low })
 
   pub setting-local :
-      (n x k b : ℕ) → want ≡ goes (withOperands (withLocals m (set (m .locals) x (some (valueAt k b)))) (drop n (m .operands)))
-      → n ≤ length (m .operands) → x < length (m .locals) → Canon k b → MoveIs p codes m want (Move.the-variants.SetsLocal n x k b)
+      (n x : ℕ) (v : Carrier) → want ≡ goes (withOperands (withLocals m (set (m .locals) x (some (decoded v)))) (drop n (m .operands)))
+      → n ≤ length (m .operands) → x < length (m .locals) → MoveIs p codes m want (Move.the-variants.SetsLocal n x v)
   unfolding moved Ready
-  setting-local n x k b e low there canon =
-      stands (λ q. contradiction cc) e (record { low = low; there = there; canon = canon })
+  setting-local n x v e low there =
+      stands (λ q. contradiction cc) e (record { low = low; there = there })
 
   pub setting-field :
-      (n o i k b : ℕ) (it : Object) → getElem? (m .heap) o ≡ some it
-      → want ≡ goes (withOperands (withHeap m (set (m .heap) o (withField it i (valueAt k b)))) (drop n (m .operands)))
-      → n ≤ length (m .operands) → i < length (it .fields) → Canon k b → MoveIs p codes m want (Move.the-variants.SetsField n o i k b)
+      (n o i : ℕ) (v : Carrier) (it : Object) → getElem? (m .heap) o ≡ some it
+      → want ≡ goes (withOperands (withHeap m (set (m .heap) o (withField it i (decoded v)))) (drop n (m .operands)))
+      → n ≤ length (m .operands) → i < length (it .fields) → MoveIs p codes m want (Move.the-variants.SetsField n o i v)
   unfolding moved Ready
-  setting-field n o i k b it there e low field canon =
-      stands (λ q. contradiction cc) (rw there e) (record { low = low; it = it; there = there; field = field; canon = canon })
+  setting-field n o i v it there e low field =
+      stands (λ q. contradiction cc) (rw there e) (record { low = low; it = it; there = there; field = field })
 
   pub making :
       (n x d k : ℕ) → want ≡ goes (withObject m x (linkAt d) (reverse (take k (drop n (m .operands)))) (drop (n + k) (m .operands)))
@@ -83,22 +83,18 @@ module _ {p : Program} {codes : List ℕ} {m : Machine} {want : Outcome} where
   unfolding moved Ready
   returning e = stands (λ q. contradiction cc) e (record { low = omega arith })
 
-  -- values by the kinds that they are told by
+  -- values by the cases in which they are carried
 
   module _ (n : ℕ) where
-    giving-as :
-        (k b : ℕ) {v : Value} → v ≡ valueAt k b → Canon k b
-        → want ≡ goes (withOperands m (v ∷ drop n (m .operands))) → n ≤ length (m .operands) → MoveIs p codes m want (Move.the-variants.Gives n k b)
-    giving-as k b same canon e low = giving n k b (e ∙ ap (λ (v : Value). goes (withOperands m (v ∷ drop n (m .operands)))) same) low canon
+    pub giving-i32 : (b : ℕ) → b < 2 ^ 32 → want ≡ goes (withOperands m (number i32 b ∷ drop n (m .operands))) → n ≤ length (m .operands) → MoveIs p codes m want (Move.the-variants.Gives n (Value.the-variants.I32 b))
+    giving-i32 b small e low =
+        giving n (Value.the-variants.I32 b) (e ∙ ap (λ (c : ℕ). goes (withOperands m (number i32 c ∷ drop n (m .operands)))) (sym (mod-eq-of-lt small))) low
 
-    pub giving-i32 : (b : ℕ) → want ≡ goes (withOperands m (number i32 b ∷ drop n (m .operands))) → n ≤ length (m .operands) → MoveIs p codes m want (Move.the-variants.Gives n i32Kind b)
-    giving-i32 b = giving-as 1 b (sym (value-of-code i32 b)) (canon-number b (omega arith) (omega arith))
+    pub giving-null : want ≡ goes (withOperands m (null ∷ drop n (m .operands))) → n ≤ length (m .operands) → MoveIs p codes m want (Move.the-variants.Gives n Value.the-variants.Null)
+    giving-null = giving n Value.the-variants.Null
 
-    pub giving-null : want ≡ goes (withOperands m (null ∷ drop n (m .operands))) → n ≤ length (m .operands) → MoveIs p codes m want (Move.the-variants.Gives n nullKind 0)
-    giving-null = giving-as nullKind 0 (sym (value-null 0 refl)) canon-null
-
-    pub giving-object : (o : ℕ) → want ≡ goes (withOperands m (object o ∷ drop n (m .operands))) → n ≤ length (m .operands) → MoveIs p codes m want (Move.the-variants.Gives n objectKind o)
-    giving-object o = giving-as objectKind o (sym (value-object o refl)) (canon-object o)
+    pub giving-object : (o : ℕ) → want ≡ goes (withOperands m (object o ∷ drop n (m .operands))) → n ≤ length (m .operands) → MoveIs p codes m want (Move.the-variants.Gives n (Value.the-variants.Object o))
+    giving-object o = giving n (Value.the-variants.Object o)
 
 -- the same outcome, said otherwise
 pub same-want : {p : Program} {codes : List ℕ} {m : Machine} {want want′ : Outcome} {r : Move} → want′ ≡ want → MoveIs p codes m want r → MoveIs p codes m want′ r

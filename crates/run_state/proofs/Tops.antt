@@ -1,26 +1,24 @@
 -- The topmost operand as a value and as a reference: what the machine does with it is what is done with what was seen.
 use Prim.Native.Nat.{ℕ, _≤_}
 use mathlib.Core.Path.{_≡_, refl, sym, ap, subst, _∙_}
-use mathlib.Core.Logic.{_⊎_, inl, inr}
-use mathlib.Core.Bool.{true, false}
 use mathlib.Core.Option.{Option, none, some}
 use mathlib.Core.List.{List, [], _∷_}
 use native.Mathlib.Omega.{arith}
 use lib.ListN.{length, getElem?, drop}
-use lib.Dec.{eqb}
-use borrow.Author.Tests.{eqb-true, eqb-false, eq-eqb, ne-eqb}
+use types.Run.{OneOf, miss}
+use denote.Enum.Declared.{tagOf}
 use Rattle.scope.specs.Machine.{Value, number, null, object, Outcome, stuck, onTaken, onReference}
-use Rattle.scope.proofs.Truths.{decided}
 use Rattle.scope.proofs.Impossible.{impossible}
-use Rattle.run_values.specs.Layout.{nullKind, objectKind}
-use Rattle.run_values.specs.Values.{valueAt}
-use Rattle.run_values.proofs.Laws.{value-null, value-object, value-number}
+use Rattle.run_value.proofs.Value.{the-type}
+use Rattle.run_value.specs.declared.Value
+use Rattle.run_value.specs.declared.Value.{Value as Carrier}
+use Rattle.run_value.specs.Carried.{decoded}
 use Rattle.run_stack.specs.declared.Topmost.{Topmost}
 use Rattle.run_stack.specs.declared.Topmost
 use Rattle.run_stack.specs.Pile.{topOf, headOf}
 use Rattle.run_state.specs.declared.Reference.{Reference}
 use Rattle.run_state.specs.declared.Reference
-use Rattle.run_state.specs.Planned.{referenceAt, Seen}
+use Rattle.run_state.specs.Planned.{referring, referenceAt, Seen}
 
 -- as a value
 
@@ -53,7 +51,7 @@ top-whole (w ∷ vs) {v} e = let same : v ≡ w = cc in rw same refl
 
 -- as it was seen
 
-pub value-top : {vs : List Value} {t : Topmost} {k n : ℕ} → Seen vs t → t ≡ Topmost.the-variants.Is k n → headOf vs ≡ some (valueAt k n)
+pub value-top : {vs : List Value} {t : Topmost} {v : Carrier} → Seen vs t → t ≡ Topmost.the-variants.Is v → headOf vs ≡ some (decoded v)
 value-top s e = sym (s .is) ∙ ap topOf e
 
 pub no-top : {vs : List Value} {t : Topmost} → Seen vs t → t ≡ Topmost.the-variants.Nothing → headOf vs ≡ none
@@ -77,23 +75,34 @@ pub reference-nothing : {t : Topmost} → t ≡ Topmost.the-variants.Nothing →
 unfolding referenceAt
 reference-nothing e = rw e refl
 
-module _ {t : Topmost} {k n : ℕ} (e : t ≡ Topmost.the-variants.Is k n) where
-  pub reference-null : k ≡ nullKind → Reference.the-variants.Null ≡ referenceAt t
-  unfolding referenceAt
-  reference-null h = rw (e, eq-eqb k nullKind h) refl
+-- the cases of a number, by their tags
+abbrev numbers : List ℕ
+numbers = 0 ∷ 1 ∷ 2 ∷ 3 ∷ 4 ∷ 5 ∷ []
 
-  pub reference-object : (k ≡ nullKind → ⊥) → k ≡ objectKind → Reference.the-variants.To n ≡ referenceAt t
-  unfolding referenceAt
-  reference-object g h = rw (e, ne-eqb k nullKind g, eq-eqb k objectKind h) refl
+number-wrong : (v : Carrier) → OneOf numbers (tagOf the-type v) → Reference.the-variants.Wrong ≡ referring v
+number-wrong (Value.the-variants.I32 n) h = refl
+number-wrong (Value.the-variants.I64 n) h = refl
+number-wrong (Value.the-variants.F32 x) h = refl
+number-wrong (Value.the-variants.F64 x) h = refl
+number-wrong (Value.the-variants.Nan32 n) h = refl
+number-wrong (Value.the-variants.Nan64 n) h = refl
+number-wrong Value.the-variants.Null h = absurd (miss numbers 6 tt h)
+number-wrong (Value.the-variants.Object o) h = absurd (miss numbers 7 tt h)
 
-  pub reference-number : (k ≡ nullKind → ⊥) → (k ≡ objectKind → ⊥) → Reference.the-variants.Wrong ≡ referenceAt t
+module _ {t : Topmost} {v : Carrier} (e : t ≡ Topmost.the-variants.Is v) where
+  pub reference-null : v ≡ Value.the-variants.Null → Reference.the-variants.Null ≡ referenceAt t
   unfolding referenceAt
-  reference-number g h = rw (e, ne-eqb k nullKind g, ne-eqb k objectKind h) refl
+  reference-null h = rw (e, h) refl
+
+  pub reference-object : {o : ℕ} → v ≡ Value.the-variants.Object o → Reference.the-variants.To o ≡ referenceAt t
+  unfolding referenceAt
+  reference-object h = rw (e, h) refl
+
+  pub reference-number : OneOf numbers (tagOf the-type v) → Reference.the-variants.Wrong ≡ referenceAt t
+  unfolding referenceAt
+  reference-number h = rw e (number-wrong v h)
 
 pub ruleset reference-exits = (reference-nothing, reference-null, reference-object, reference-number)
-
-number-stuck : (k n : ℕ) → (k ≡ nullKind → ⊥) → (k ≡ objectKind → ⊥) → (f : Option ℕ → Outcome) → onReference (valueAt k n) f ≡ stuck
-number-stuck k n g h f = rw (value-number n g h) refl
 
 -- what the topmost operand is, by what it is as a reference: the value; or none, and the machine is stuck on it
 unfoldable Refers : List Value → Reference → Type 0
@@ -102,19 +111,21 @@ Refers vs Reference.the-variants.Wrong =
 Refers vs Reference.the-variants.Null = headOf vs ≡ some null
 Refers vs (Reference.the-variants.To o) = headOf vs ≡ some (object o)
 
-refers-by : (vs : List Value) (k n : ℕ) → headOf vs ≡ some (valueAt k n) → Refers vs (referenceAt (Topmost.the-variants.Is k n))
-unfolding Refers referenceAt
-refers-by vs k n e = go (decided (eqb k nullKind)) (decided (eqb k objectKind))
-  where
-    go : (eqb k nullKind ≡ true) ⊎ (eqb k nullKind ≡ false) → (eqb k objectKind ≡ true) ⊎ (eqb k objectKind ≡ false) → Refers vs (referenceAt (Topmost.the-variants.Is k n))
-    go (inl a) b = rw a (e ∙ ap some (value-null n (eqb-true k nullKind a)))
-    go (inr a) (inl b) = rw (a, b) (e ∙ ap some (value-object n (eqb-true k objectKind b)))
-    go (inr a) (inr b) = rw (a, b) (λ f. on-top vs e _ ∙ number-stuck k n (eqb-false k nullKind a) (eqb-false k objectKind b) _)
+refers-by : (vs : List Value) (v : Carrier) → headOf vs ≡ some (decoded v) → Refers vs (referring v)
+unfolding Refers
+refers-by vs (Value.the-variants.I32 n) e = λ f. on-top vs e _
+refers-by vs (Value.the-variants.I64 n) e = λ f. on-top vs e _
+refers-by vs (Value.the-variants.F32 x) e = λ f. on-top vs e _
+refers-by vs (Value.the-variants.F64 x) e = λ f. on-top vs e _
+refers-by vs (Value.the-variants.Nan32 n) e = λ f. on-top vs e _
+refers-by vs (Value.the-variants.Nan64 n) e = λ f. on-top vs e _
+refers-by vs Value.the-variants.Null e = e
+refers-by vs (Value.the-variants.Object o) e = e
 
 refers : {vs : List Value} (t : Topmost) → Seen vs t → Refers vs (referenceAt t)
 unfolding Refers referenceAt
 refers {vs} Topmost.the-variants.Nothing s = λ f. on-none vs (no-top s refl) _
-refers {vs} (Topmost.the-variants.Is k n) s = refers-by vs k n (value-top s refl)
+refers {vs} (Topmost.the-variants.Is v) s = refers-by vs v (value-top s refl)
 
 module _ {vs : List Value} {t : Topmost} {r : Reference} (s : Seen vs t) (is : r ≡ referenceAt t) where
   refers-here : {q : Reference} → r ≡ q → Refers vs q

@@ -11,7 +11,7 @@ use Rattle.scope.specs.BodyRules.{holdsOf}
 use Rattle.scope.specs.Machine.{Value, object, Object, Machine, Program, Outcome, goes, ends, traps, stuck, withOperands, withHeap, withLocals, withField, hasRoom, finish, branch}
 use Rattle.scope.specs.Memory.{allOperands}
 use Rattle.type_table.specs.View.{linkAt, fieldAtCode, codesAt}
-use Rattle.run_values.specs.Values.{valueAt, Canon}
+use Rattle.run_value.specs.Carried.{decoded}
 use Rattle.run_heap.specs.Heap.{startOf}
 use Rattle.run_state.specs.declared.Stage.{Stage}
 use Rattle.run_state.specs.declared.Move.{Move}
@@ -34,12 +34,12 @@ unfoldable pub moved : Program → List ℕ → Machine → Move → Outcome
 moved p codes m Move.the-variants.Astray = stuck
 moved p codes m (Move.the-variants.Traps number) = traps number
 moved p codes m (Move.the-variants.Leaves n) = goes (withOperands m (drop n (m .operands)))
-moved p codes m (Move.the-variants.Gives n k b) = goes (withOperands m (valueAt k b ∷ drop n (m .operands)))
-moved p codes m (Move.the-variants.SetsLocal n x k b) =
-    goes (withOperands (withLocals m (set (m .locals) x (some (valueAt k b)))) (drop n (m .operands)))
-moved p codes m (Move.the-variants.SetsField n o i k b) =
+moved p codes m (Move.the-variants.Gives n v) = goes (withOperands m (decoded v ∷ drop n (m .operands)))
+moved p codes m (Move.the-variants.SetsLocal n x v) =
+    goes (withOperands (withLocals m (set (m .locals) x (some (decoded v)))) (drop n (m .operands)))
+moved p codes m (Move.the-variants.SetsField n o i v) =
     given (getElem? (m .heap) o) stuck (λ it.
-    goes (withOperands (withHeap m (set (m .heap) o (withField it i (valueAt k b)))) (drop n (m .operands))))
+    goes (withOperands (withHeap m (set (m .heap) o (withField it i (decoded v)))) (drop n (m .operands))))
 moved p codes m (Move.the-variants.Makes n x d k) =
     goes (withObject m x (linkAt d) (reverse (take k (drop n (m .operands)))) (drop (n + k) (m .operands)))
 moved p codes m (Move.the-variants.MakesDefault n x d first k) =
@@ -60,21 +60,15 @@ pub data Astray (m : Machine) : Outcome → Type 0 where
 pub record Taking (m : Machine) (n : ℕ) : Type 0 where
   pub low : n ≤ length (m .operands)
 
-pub record Giving (m : Machine) (n k b : ℕ) : Type 0 where
-  pub low : n ≤ length (m .operands)
-  pub canon : Canon k b
-
-pub record SettingLocal (m : Machine) (n x k b : ℕ) : Type 0 where
+pub record SettingLocal (m : Machine) (n x : ℕ) : Type 0 where
   pub low : n ≤ length (m .operands)
   pub there : x < length (m .locals)
-  pub canon : Canon k b
 
-pub record SettingField (m : Machine) (n o i k b : ℕ) : Type 0 where
+pub record SettingField (m : Machine) (n o i : ℕ) : Type 0 where
   pub low : n ≤ length (m .operands)
   pub it : Object
   pub there : getElem? (m .heap) o ≡ some it
   pub field : i < length (it .fields)
-  pub canon : Canon k b
 
 pub record Making (m : Machine) (n k : ℕ) : Type 0 where
   pub low : n ≤ length (m .operands)
@@ -84,9 +78,9 @@ unfoldable pub Ready : Machine → Move → Type 0
 Ready m Move.the-variants.Astray = Taking m 0
 Ready m (Move.the-variants.Traps number) = Taking m 0
 Ready m (Move.the-variants.Leaves n) = Taking m n
-Ready m (Move.the-variants.Gives n k b) = Giving m n k b
-Ready m (Move.the-variants.SetsLocal n x k b) = SettingLocal m n x k b
-Ready m (Move.the-variants.SetsField n o i k b) = SettingField m n o i k b
+Ready m (Move.the-variants.Gives n v) = Taking m n
+Ready m (Move.the-variants.SetsLocal n x v) = SettingLocal m n x
+Ready m (Move.the-variants.SetsField n o i v) = SettingField m n o i
 Ready m (Move.the-variants.Makes n x d k) = Making m (n + k) k
 Ready m (Move.the-variants.MakesDefault n x d first k) = Making m n k
 Ready m (Move.the-variants.Branches n l) = Taking m n

@@ -1,15 +1,14 @@
 -- What is seen of a machine, and what it is to tell the move of an instruction from what is seen.
 use Prim.Native.Nat.{ℕ, _+_}
 use mathlib.Core.Path.{_≡_}
-use mathlib.Core.Bool.{cond}
 use mathlib.Core.List.{List}
 use lib.ListN.{length, drop}
-use lib.Dec.{eqb}
 use Rattle.scope.specs.Instructions.{Op}
 use Rattle.scope.specs.Machine.{Value, Machine, Program, doOp}
-use Rattle.run_values.specs.Layout.{nullKind, objectKind}
 use Rattle.type_table.specs.View.{view}
-use Rattle.run_values.specs.Values.{heldFrom, Canon, AllCanon, AllHeldCanon}
+use Rattle.run_values.specs.Values.{heldFrom}
+use Rattle.run_value.specs.declared.Value
+use Rattle.run_value.specs.declared.Value.{Value as Carrier}
 use Rattle.run_heap.specs.Heap.{storeAt, Kept}
 use Rattle.run_stack.specs.declared.Topmost.{Topmost}
 use Rattle.run_stack.specs.declared.Topmost
@@ -21,15 +20,23 @@ use Rattle.run_state.specs.declared.Reference
 use Rattle.run_state.specs.Moved.{MoveIs}
 
 -- null or an object; a number is no reference
+abbrev pub referring : Carrier → Reference
+referring (Value.the-variants.I32 n) = Reference.the-variants.Wrong
+referring (Value.the-variants.I64 n) = Reference.the-variants.Wrong
+referring (Value.the-variants.F32 x) = Reference.the-variants.Wrong
+referring (Value.the-variants.F64 x) = Reference.the-variants.Wrong
+referring (Value.the-variants.Nan32 n) = Reference.the-variants.Wrong
+referring (Value.the-variants.Nan64 n) = Reference.the-variants.Wrong
+referring Value.the-variants.Null = Reference.the-variants.Null
+referring (Value.the-variants.Object o) = Reference.the-variants.To o
+
 unfoldable pub referenceAt : Topmost → Reference
 referenceAt Topmost.the-variants.Nothing = Reference.the-variants.Wrong
-referenceAt (Topmost.the-variants.Is k n) =
-    cond (eqb k nullKind) Reference.the-variants.Null (cond (eqb k objectKind) (Reference.the-variants.To n) Reference.the-variants.Wrong)
+referenceAt (Topmost.the-variants.Is v) = referring v
 
 -- the topmost of these operands
 pub record Seen (vs : List Value) (t : Topmost) : Type 0 where
   pub is : topOf t ≡ headOf vs
-  pub canon : (k n : ℕ) → t ≡ Topmost.the-variants.Is k n → Canon k n
 
 -- the two topmost operands, and the heap
 pub record Knows (m : Machine) (first second : Topmost) (objects cells : List ℕ) (n total : ℕ) : Type 0 where
@@ -47,7 +54,7 @@ pub record TopPlans (first second : Topmost) (o : Op) (r : Move) : Type 0 where
 -- locals
 pub record LocalPlans (locals : List ℕ) (count : ℕ) (first : Topmost) (o : Op) (r : Move) : Type 0 where
   pub is : (p : Program) (codes : List ℕ) (m : Machine)
-      → m .locals ≡ heldFrom locals 0 count → AllHeldCanon locals count → Seen (m .operands) first
+      → m .locals ≡ heldFrom locals 0 count → Seen (m .operands) first
       → MoveIs p codes m (doOp p m (m .operands) o) r
 
 -- objects and their fields
@@ -68,5 +75,3 @@ pub record Holds (m : Machine) (objects cells locals operands : List ℕ) (count
   pub values : m .operands ≡ pile operands (st .base) (st .height)
   pub held : m .locals ≡ heldFrom locals 0 count
   pub kept : Kept objects cells (st .objects) (st .cells)
-  pub localCanon : AllHeldCanon locals count
-  pub canon : AllCanon operands (st .base + st .height)

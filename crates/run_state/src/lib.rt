@@ -1,6 +1,7 @@
 // Where a trial run stands: a few numbers by value, and the words of its memory. Each answer is what the words say
 // (specs/Machines.antt), for any words. What an instruction comes to is told as a move (specs/Moved.antt).
 use run_stack::Topmost;
+use run_value::Value;
 use run_values::layout;
 use scope::sizes;
 ghost use mathlib.Core.Path.{_≡_};
@@ -59,18 +60,18 @@ pub fn is_full(stage: Stage, left: u32) -> bool
     sizes::MOST_OPERANDS <= base as u64 + left as u64
 }
 
-// What an instruction inside its block comes to. The first number says how many operands it takes from the top; a value is
-// told by its kind and bits. It leaves the rest; puts a value there; puts one in a local, or in an object's field; makes an
-// object of a type with a descriptor (0 none, else one more than its number) of so many values that lie next on the stack,
-// or of the defaults of so many fields whose codes start in the table there; branches to a label; returns; traps. Astray: a
-// value is missing or of the wrong kind.
+// What an instruction inside its block comes to. The first number says how many operands it takes from the top. It leaves the
+// rest; puts a value there; puts one in a local, or in an object's field; makes an object of a type with a descriptor (0
+// none, else one more than its number) of so many values that lie next on the stack, or of the defaults of so many fields
+// whose codes start in the table there; branches to a label; returns; traps. Astray: a value is missing or of the wrong
+// kind.
 pub enum Move {
     Astray,
     Traps(u64),
     Leaves(u32),
-    Gives(u32, u64, u64),
-    SetsLocal(u32, u64, u64, u64),
-    SetsField(u32, u32, u32, u64, u64),
+    Gives(u32, Value),
+    SetsLocal(u32, u64, Value),
+    SetsField(u32, u32, u32, Value),
     Makes(u32, u16, u16, u32),
     MakesDefault(u32, u16, u16, u32, u32),
     Branches(u32, u64),
@@ -97,15 +98,11 @@ pub fn reference_of(top: Topmost) -> Reference
 {
     match top {
         Topmost::Nothing => Reference::Wrong,
-        Topmost::Is(kind, bits) => {
-            if kind == layout::NULL {
-                return Reference::Null;
-            }
-            if kind == layout::OBJECT {
-                return Reference::To(bits);
-            }
-            Reference::Wrong
-        }
+        Topmost::Is(v) => match v {
+            Value::Null => Reference::Null,
+            Value::Object(o) => Reference::To(o),
+            _ => Reference::Wrong,
+        },
     }
 }
 

@@ -12,10 +12,9 @@ use Rattle.scope.specs.Sizes.{mostOperands, mostObjects, mostCells}
 use Rattle.scope.specs.Machine.{Value, object, Program, goes, cellsOf, hasRoom}
 use Rattle.scope.proofs.Truths.{from-both}
 use Rattle.scope.proofs.Impossible.{contradiction}
-use Rattle.run_values.specs.Layout.{objectKind}
-use Rattle.run_values.specs.Values.{valueAt, valuesFrom, heldFrom, AllCanon}
+use Rattle.run_values.specs.Values.{valuesFrom, heldFrom, AllCanon}
 use Rattle.type_table.specs.View.{linkAt}
-use Rattle.run_values.proofs.Laws.{all-less, value-object, canon-object}
+use Rattle.run_values.proofs.Laws.{all-less}
 use Rattle.run_heap.specs.Heap.{storeAt}
 use Rattle.run_heap.proofs.Packs.{store-length, packed-cells}
 use Rattle.run_heap.proofs.Made.{store-made, kept-more}
@@ -65,7 +64,7 @@ module _ {s ends : List ℕ} {count : ℕ} {w : Words} {st : Stage} {it : Move} 
       made-machine : goes (machineAt s count (words o′ c′ (w .locals) p′ (w .blocks)) (madeStage st left k)) ≡ goes (withObject (machineAt s count w st) x (linkAt d) fields (pile (w .operands) (st .base) left))
       unfolding machineAt
       made-machine =
-          let reference : valueAt objectKind (st .objects) ≡ object (length (storeAt (w .objects) (w .cells) (st .objects))) = value-object (st .objects) refl ∙ ap object (sym heap-length) in
+          let reference : object (st .objects) ≡ object (length (storeAt (w .objects) (w .cells) (st .objects))) = ap object (sym heap-length) in
           let heap = store-made (may-make .kept .packed) (made .row) (made .filled) in
           let operands = made .pushed .top ∙ ap (λ (v : Value). v ∷ pile (w .operands) (st .base) left) reference in
           let blocks = blocks-kept may (made .pushed) in
@@ -74,7 +73,7 @@ module _ {s ends : List ℕ} {count : ℕ} {w : Words} {st : Stage} {it : Move} 
       made-orderly : Orderly s ends count (words o′ c′ (w .locals) p′ (w .blocks)) (madeStage st left k)
       made-orderly =
           record {
-            valued = pushed-valued may (made .pushed) (kept-more (may-make .kept) (made .row) (may-make .few) (may-make .most) (made .filled .size) canon) (canon-object (st .objects)) l (made .low);
+            valued = pushed-valued may (made .pushed) (kept-more (may-make .kept) (made .row) (may-make .few) (may-make .most) (made .filled .size) canon) l (made .low);
             framed = record { short = frames may .short; room = frames may .room; deep = frames may .deep; base = frames may .base; charted = frames may .charted; nested = frames may .nested };
           }
 

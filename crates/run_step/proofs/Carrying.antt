@@ -13,7 +13,8 @@ use Rattle.scope.specs.Sizes.{mostOperands}
 use Rattle.scope.specs.Machine.{Value, Object, Block, Program, Store, goes, stuck, withOperands, withHeap, withLocals, withControl, withField}
 use Rattle.scope.specs.Reading.{given}
 use Rattle.scope.proofs.Impossible.{impossible}
-use Rattle.run_values.specs.Values.{valueAt}
+use Rattle.run_value.specs.declared.Value.{Value as Carrier}
+use Rattle.run_value.specs.Carried.{decoded}
 use Rattle.run_heap.specs.Heap.{objectAt, storeAt, FieldSet}
 use Rattle.run_heap.proofs.Packs.{store-there, store-found}
 use Rattle.run_stack.specs.Pile.{pile, Room, Pushed, LocalRoom, LocalSet}
@@ -25,7 +26,7 @@ use Rattle.run_state.specs.declared.Move
 use Rattle.run_state.specs.declared.Stepped.{Stepped}
 use Rattle.run_state.specs.declared.Stepped
 use Rattle.run_state.specs.Machines.{Words, words, machineAt, atHeight}
-use Rattle.run_state.specs.Moved.{moved, Taking, Giving, SettingLocal, SettingField, Ready, is-stuck, too-high, outcomeAt, StepIs}
+use Rattle.run_state.specs.Moved.{moved, Taking, SettingLocal, SettingField, Ready, is-stuck, too-high, outcomeAt, StepIs}
 use Rattle.run_step.specs.Carried.{Movable, Carried}
 use Rattle.run_step.proofs.Keeping.{step-astray, step-goes, framed-height, high, values, frames, less-orderly, all-high, blocks-kept, pushed-valued}
 
@@ -71,8 +72,8 @@ module _ {s ends : List ℕ} {count : ℕ} {w : Words} {st : Stage} {it : Move} 
         → l′ ≡ w .locals → p′ ≡ w .operands → Carried s codes ends count w (words o′ c′ l′ p′ (w .blocks)) st results it (Stepped.the-variants.Goes later)
     carry-leaves {codes} f a b c d = record { is = λ p q. rw (e, f, a, b, c, d) (leaves codes p) }
 
-  module _ {n k b : ℕ} (e : it ≡ Move.the-variants.Gives n k b) where
-    giving : Giving (machineAt s count w st) n k b
+  module _ {n : ℕ} {v : Carrier} (e : it ≡ Move.the-variants.Gives n v) where
+    giving : Taking (machineAt s count w st) n
     unfolding Ready
     giving = subst (Ready (machineAt s count w st)) e (may .ready)
 
@@ -84,32 +85,32 @@ module _ {s ends : List ℕ} {count : ℕ} {w : Words} {st : Stage} {it : Move} 
       unfolding moved
       carry-gives-full f {w′} =
           let many : mostOperands ≤ st .base + (st .height - n) = leb-true mostOperands (st .base + (st .height - n)) (sym is ∙ f) in
-          let all = all-high may (valueAt k b ∷ drop n (machineAt s count w st .operands)) in
+          let all = all-high may (decoded v ∷ drop n (machineAt s count w st .operands)) in
           let left : length (drop n (machineAt s count w st .operands)) ≡ st .height - n = length-drop n (machineAt s count w st .operands) ∙ ap (λ (h : ℕ). h - n) (high may) in
           record { is = λ p q. rw e (step-astray w′ (too-high (omega (arith, all, left, many)))) }
 
       gives-room : full ≡ false → Room (w .operands) (st .base) (st .height - n) 1
       gives-room f = let h : st .base + (st .height - n) < mostOperands = leb-false mostOperands (st .base + (st .height - n)) (sym is ∙ f) in record { room = values may .room; few = omega arith }
 
-      module _ (f : full ≡ false) {p′ : List ℕ} (pushed : Pushed (w .operands) p′ (st .base) (st .height - n) k b) where
+      module _ (f : full ≡ false) {p′ : List ℕ} (pushed : Pushed (w .operands) p′ (st .base) (st .height - n) v) where
         gives :
             (codes : List ℕ) (p : Program)
-            → StepIs s ends count w (words (w .objects) (w .cells) (w .locals) p′ (w .blocks)) (machineAt s count w st) (moved p codes (machineAt s count w st) (Move.the-variants.Gives n k b)) (Stepped.the-variants.Goes (atHeight st (st .height - n + 1)))
+            → StepIs s ends count w (words (w .objects) (w .cells) (w .locals) p′ (w .blocks)) (machineAt s count w st) (moved p codes (machineAt s count w st) (Move.the-variants.Gives n v)) (Stepped.the-variants.Goes (atHeight st (st .height - n + 1)))
         unfolding moved machineAt
         gives codes p =
             step-goes (words (w .objects) (w .cells) (w .locals) p′ (w .blocks)) (atHeight st (st .height - n + 1))
             (ap₂ (λ (vs : List Value) (bs : List Block). goes (withControl (machineAt s count w st) vs bs (codeAt s (st .place))))
-            (pushed .top ∙ ap (λ (vs : List Value). valueAt k b ∷ vs) (sym (drop-pile (w .operands) (st .base) (st .height) n gives-low)))
+            (pushed .top ∙ ap (λ (vs : List Value). decoded v ∷ vs) (sym (drop-pile (w .operands) (st .base) (st .height) n gives-low)))
             (blocks-kept may pushed))
-            (record { valued = pushed-valued may pushed (values may .heap) (giving .canon) (omega arith) (leb-false mostOperands (st .base + (st .height - n)) (sym is ∙ f)); framed = framed-height (st .height - n + 1) (frames may) })
+            (record { valued = pushed-valued may pushed (values may .heap) (omega arith) (leb-false mostOperands (st .base + (st .height - n)) (sym is ∙ f)); framed = framed-height (st .height - n + 1) (frames may) })
 
         pub carry-gives :
             {codes : List ℕ} {results : ℕ} {later : Stage} → later ≡ atHeight st (st .height - n + 1) → {o′ c′ l′ : List ℕ} → o′ ≡ w .objects → c′ ≡ w .cells
             → l′ ≡ w .locals → Carried s codes ends count w (words o′ c′ l′ p′ (w .blocks)) st results it (Stepped.the-variants.Goes later)
         carry-gives {codes} g a c d = record { is = λ p q. rw (e, g, a, c, d) (gives codes p) }
 
-  module _ {n x k b : ℕ} (e : it ≡ Move.the-variants.SetsLocal n x k b) where
-    setting-local : SettingLocal (machineAt s count w st) n x k b
+  module _ {n x : ℕ} {v : Carrier} (e : it ≡ Move.the-variants.SetsLocal n x v) where
+    setting-local : SettingLocal (machineAt s count w st) n x
     unfolding Ready
     setting-local = subst (Ready (machineAt s count w st)) e (may .ready)
 
@@ -119,34 +120,34 @@ module _ {s ends : List ℕ} {count : ℕ} {w : Words} {st : Stage} {it : Move} 
     pub local-room : LocalRoom (w .locals) count
     local-room = values may .localRoom
 
-    module _ {l′ : List ℕ} (put : LocalSet (w .locals) l′ count x k b) where
+    module _ {l′ : List ℕ} (put : LocalSet (w .locals) l′ count x v) where
       sets-local :
           (codes : List ℕ) (p : Program)
-          → StepIs s ends count w (words (w .objects) (w .cells) l′ (w .operands) (w .blocks)) (machineAt s count w st) (moved p codes (machineAt s count w st) (Move.the-variants.SetsLocal n x k b)) (Stepped.the-variants.Goes (atHeight st (st .height - n)))
+          → StepIs s ends count w (words (w .objects) (w .cells) l′ (w .operands) (w .blocks)) (machineAt s count w st) (moved p codes (machineAt s count w st) (Move.the-variants.SetsLocal n x v)) (Stepped.the-variants.Goes (atHeight st (st .height - n)))
       unfolding moved machineAt
       sets-local codes p =
           step-goes (words (w .objects) (w .cells) l′ (w .operands) (w .blocks)) (atHeight st (st .height - n))
           (ap₂ (λ (ls : List (Option Value)) (vs : List Value). goes (withOperands (withLocals (machineAt s count w st) ls) vs))
-          (put .is (setting-local .canon))
+          (put .is)
           (sym (drop-pile (w .operands) (st .base) (st .height) n sets-local-low)))
           (less-orderly may (omega arith) (values may .heap)
           (record { room = omega (arith, values may .localRoom .room, put .size); few = values may .localRoom .few })
-          (put .canon (setting-local .canon) (values may .localCanon)))
+          (put .canon (values may .localCanon)))
 
       pub carry-sets-local :
           {codes : List ℕ} {results : ℕ} {later : Stage} → later ≡ atHeight st (st .height - n) → {o′ c′ p′ : List ℕ} → o′ ≡ w .objects → c′ ≡ w .cells
           → p′ ≡ w .operands → Carried s codes ends count w (words o′ c′ l′ p′ (w .blocks)) st results it (Stepped.the-variants.Goes later)
       carry-sets-local {codes} g a c d = record { is = λ p q. rw (e, g, a, c, d) (sets-local codes p) }
 
-  module _ {n o i k b : ℕ} (e : it ≡ Move.the-variants.SetsField n o i k b) where
-    setting-field : SettingField (machineAt s count w st) n o i k b
+  module _ {n o i : ℕ} {v : Carrier} (e : it ≡ Move.the-variants.SetsField n o i v) where
+    setting-field : SettingField (machineAt s count w st) n o i
     unfolding Ready
     setting-field = subst (Ready (machineAt s count w st)) e (may .ready)
 
     pub sets-field-low : n ≤ st .height
     sets-field-low = omega (arith, setting-field .low, high may)
 
-    module _ {c′ : List ℕ} (put : FieldSet (w .objects) (w .cells) c′ o i k b) where
+    module _ {c′ : List ℕ} (put : FieldSet (w .objects) (w .cells) c′ o i v) where
       field-there : (o < st .objects) × (setting-field .it ≡ objectAt (w .objects) (w .cells) o)
       unfolding machineAt
       field-there = store-found (w .objects) (w .cells) (st .objects) o (setting-field .there)
@@ -156,16 +157,16 @@ module _ {s ends : List ℕ} {count : ℕ} {w : Words} {st : Stage} {it : Move} 
 
       sets-field :
           (codes : List ℕ) (p : Program)
-          → StepIs s ends count w (words (w .objects) c′ (w .locals) (w .operands) (w .blocks)) (machineAt s count w st) (moved p codes (machineAt s count w st) (Move.the-variants.SetsField n o i k b)) (Stepped.the-variants.Goes (atHeight st (st .height - n)))
+          → StepIs s ends count w (words (w .objects) c′ (w .locals) (w .operands) (w .blocks)) (machineAt s count w st) (moved p codes (machineAt s count w st) (Move.the-variants.SetsField n o i v)) (Stepped.the-variants.Goes (atHeight st (st .height - n)))
       unfolding moved machineAt
       sets-field codes p =
           step-goes (words (w .objects) c′ (w .locals) (w .operands) (w .blocks)) (atHeight st (st .height - n))
           (ap₂ (λ (os : Store) (vs : List Value). goes (withOperands (withHeap (machineAt s count w st) os) vs))
           (put .store (st .objects) (st .cells) (values may .heap) (field-there .0) field-inside)
           (sym (drop-pile (w .operands) (st .base) (st .height) n sets-field-low))
-          ∙ sym (ap (λ (found : Option Object). given found stuck (λ it′. goes (withOperands (withHeap (machineAt s count w st) (set (storeAt (w .objects) (w .cells) (st .objects)) o (withField it′ i (valueAt k b)))) (drop n (pile (w .operands) (st .base) (st .height)))))) (store-there (w .objects) (w .cells) (st .objects) o (field-there .0))))
+          ∙ sym (ap (λ (found : Option Object). given found stuck (λ it′. goes (withOperands (withHeap (machineAt s count w st) (set (storeAt (w .objects) (w .cells) (st .objects)) o (withField it′ i (decoded v)))) (drop n (pile (w .operands) (st .base) (st .height)))))) (store-there (w .objects) (w .cells) (st .objects) o (field-there .0))))
           (less-orderly may (omega arith)
-          (put .kept (st .objects) (st .cells) (values may .heap) (field-there .0) field-inside (setting-field .canon))
+          (put .kept (st .objects) (st .cells) (values may .heap) (field-there .0) field-inside)
           (values may .localRoom)
           (values may .localCanon))
 
@@ -178,7 +179,7 @@ module _ {s ends : List ℕ} {count : ℕ} {w : Words} {st : Stage} {it : Move} 
 
 module _ {s ends : List ℕ} {count : ℕ} {o c l p b : List ℕ} {st : Stage} {it : Move} (may : Movable s ends count (words o c l p b) st it) where
   pub push-room :
-      {n kind bits : ℕ} → it ≡ Move.the-variants.Gives n kind bits → {full : Bool} → full ≡ leb mostOperands (st .base + (st .height - n)) → full ≡ false
+      {n : ℕ} {v : Carrier} → it ≡ Move.the-variants.Gives n v → {full : Bool} → full ≡ leb mostOperands (st .base + (st .height - n)) → full ≡ false
       → Room p (st .base) (st .height - n) 1
   push-room e is f = gives-room may e is f
 

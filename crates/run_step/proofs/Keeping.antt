@@ -11,7 +11,8 @@ use Rattle.scope.specs.Machine.{Value, Machine, Outcome, goes}
 use Rattle.scope.specs.Lists.{joined}
 use Rattle.scope.specs.Memory.{belowOf}
 use Rattle.scope.proofs.Impossible.{impossible}
-use Rattle.run_values.specs.Values.{Canon, AllHeldCanon}
+use Rattle.run_values.specs.Values.{AllHeldCanon}
+use Rattle.run_value.specs.declared.Value.{Value as Carrier}
 use Rattle.run_values.proofs.Laws.{all-less}
 use Rattle.run_heap.specs.Heap.{Kept}
 use Rattle.run_stack.specs.Pile.{Pushed, LocalRoom}
@@ -100,7 +101,7 @@ module _ {s ends : List ℕ} {count : ℕ} {w : Words} {st : Stage} {it : Move} 
       ∙ ap (λ (n : ℕ). length vs + n) (ap length (belows (w .operands) (st .depth) (frames .nested)) ∙ pile-length (w .operands) 0 (lower (w .blocks) (st .depth)) ∙ sym (frames .base))
 
   -- operands that were pushed leave the open blocks as they were
-  module _ {p′ : List ℕ} {left k b : ℕ} (pushed : Pushed (w .operands) p′ (st .base) left k b) where
+  module _ {p′ : List ℕ} {left : ℕ} {v : Carrier} (pushed : Pushed (w .operands) p′ (st .base) left v) where
     pub blocks-kept : blocksAt s (w .blocks) p′ (st .depth) ≡ blocksAt s (w .blocks) (w .operands) (st .depth)
     blocks-kept =
         operands-same (w .operands) p′ (st .depth) (frames .nested) (λ i h.
@@ -108,14 +109,14 @@ module _ {s ends : List ℕ} {count : ℕ} {w : Words} {st : Stage} {it : Move} 
         pushed .below i (omega arith))
 
     pub pushed-valued :
-        {o′ c′ : List ℕ} {n total : ℕ} → Kept o′ c′ n total → Canon k b → left ≤ st .height → st .base + left < mostOperands
+        {o′ c′ : List ℕ} {n total : ℕ} → Kept o′ c′ n total → left ≤ st .height → st .base + left < mostOperands
         → Valued count (words o′ c′ (w .locals) p′ (w .blocks)) (record { place = st .place; objects = n; cells = total; base = st .base; height = left + 1; depth = st .depth })
-    pushed-valued kept canon l h =
+    pushed-valued kept l h =
         record {
           heap = kept;
           localRoom = values .localRoom;
           localCanon = values .localCanon;
           room = omega (arith, values .room, pushed .size);
-          canon = pushed .canon canon (all-less (values .canon) (omega (arith, l)));
+          canon = pushed .canon (all-less (values .canon) (omega (arith, l)));
           high = omega (arith, h);
         }

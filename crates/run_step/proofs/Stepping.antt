@@ -45,9 +45,9 @@ astray-or-not : (it : Move) → (it ≡ Move.the-variants.Astray) ⊎ (it ≡ Mo
 astray-or-not Move.the-variants.Astray = inl refl
 astray-or-not (Move.the-variants.Traps a) = inr (λ e. contradiction cc)
 astray-or-not (Move.the-variants.Leaves a) = inr (λ e. contradiction cc)
-astray-or-not (Move.the-variants.Gives a b c) = inr (λ e. contradiction cc)
-astray-or-not (Move.the-variants.SetsLocal a b c d) = inr (λ e. contradiction cc)
-astray-or-not (Move.the-variants.SetsField a b c d e) = inr (λ e. contradiction cc)
+astray-or-not (Move.the-variants.Gives a b) = inr (λ e. contradiction cc)
+astray-or-not (Move.the-variants.SetsLocal a b c) = inr (λ e. contradiction cc)
+astray-or-not (Move.the-variants.SetsField a b c d) = inr (λ e. contradiction cc)
 astray-or-not (Move.the-variants.Makes a b c d) = inr (λ e. contradiction cc)
 astray-or-not (Move.the-variants.MakesDefault a b c d e) = inr (λ e. contradiction cc)
 astray-or-not (Move.the-variants.Branches a b) = inr (λ e. contradiction cc)
@@ -88,7 +88,7 @@ holds-here :
     (s : List ℕ) {ends : List ℕ} {count : ℕ} {w : Words} {st : Stage} → Orderly s ends count w st
     → Holds (machineAt s count w st) (w .objects) (w .cells) (w .locals) (w .operands) count st
 unfolding machineAt
-holds-here s o = record { heap = refl; values = refl; held = refl; kept = o .valued .heap; localCanon = o .valued .localCanon; canon = o .valued .canon }
+holds-here s o = record { heap = refl; values = refl; held = refl; kept = o .valued .heap }
 
 pub inside-modest : {s ends : List ℕ} {count : ℕ} {w : Words} {st : Stage} {i : Instruction} → Inside s ends count w st i → Modest i
 inside-modest may = may .modest

@@ -36,22 +36,22 @@ fn carry_out(
             let later = run_state::at_height(stage, height - n);
             Stepped::Goes(later)
         }
-        Move::Gives(n, kind, bits) => {
+        Move::Gives(n, v) => {
             let left = height - n;
             if run_state::is_full(stage, left) {
                 return Stepped::Astray;
             }
-            run_stack::push(operands, base, left, kind, bits);
+            run_stack::push(operands, base, left, v);
             let later = run_state::at_height(stage, left + 1);
             Stepped::Goes(later)
         }
-        Move::SetsLocal(n, x, kind, bits) => {
-            run_stack::set_local(locals, count, x, kind, bits);
+        Move::SetsLocal(n, x, v) => {
+            run_stack::set_local(locals, count, x, v);
             let later = run_state::at_height(stage, height - n);
             Stepped::Goes(later)
         }
-        Move::SetsField(n, o, i, kind, bits) => {
-            run_heap::set_field(objects, cells, o, i, kind, bits);
+        Move::SetsField(n, o, i, v) => {
+            run_heap::set_field(objects, cells, o, i, v);
             let later = run_state::at_height(stage, height - n);
             Stepped::Goes(later)
         }

@@ -21,7 +21,7 @@ use Rattle.scope.proofs.Impossible.{contradiction}
 use Rattle.run_values.specs.Layout.{kindPlace, bitsPlace, noValue, i32Kind, nullKind, objectKind}
 use Rattle.type_table.specs.View.{numberAt}
 use Rattle.type_table.proofs.Codes.{val-number, val-code-at}
-use Rattle.run_values.specs.Values.{numbered, valueAt, heldAt, entryIn, valuesFrom, heldFrom, setValue, Canon, HeldCanon, AllWords, AllCanon, AllHeldCanon}
+use Rattle.run_values.specs.Values.{numbered, within, valueAt, heldAt, entryIn, valuesFrom, heldFrom, setValue, Canon, HeldCanon, AllWords, AllCanon, AllHeldCanon}
 use Rattle.run_values.proofs.Numbered.{numbered-more, numbered-same, numbered-set, pairs-are}
 
 -- a kind, read
@@ -34,17 +34,29 @@ pub value-object : {k : ℕ} (n : ℕ) → k ≡ objectKind → valueAt k n ≡ 
 unfolding valueAt
 value-object n e = rw e
 
-pub value-number : {k : ℕ} (n : ℕ) → (k ≡ nullKind → ⊥) → (k ≡ objectKind → ⊥) → valueAt k n ≡ number (numberAt (k - 1)) n
+pub value-number : {k : ℕ} (n : ℕ) → (k ≡ nullKind → ⊥) → (k ≡ objectKind → ⊥) → valueAt k n ≡ number (numberAt (k - 1)) (within (numberAt (k - 1)) n)
 unfolding valueAt
 value-number {k} n a b = rw (ne-eqb k nullKind a, ne-eqb k objectKind b)
 
+pub within-zero : (k : Number) → within k 0 ≡ 0
+within-zero i32 = refl
+within-zero i64 = refl
+within-zero f32 = refl
+within-zero f64 = refl
+
+pub value-zero : {k : ℕ} → (k ≡ nullKind → ⊥) → (k ≡ objectKind → ⊥) → valueAt k 0 ≡ number (numberAt (k - 1)) 0
+value-zero {k} a b = value-number 0 a b ∙ ap (number (numberAt (k - 1))) (within-zero (numberAt (k - 1)))
+
 -- the words of a number say that number
-pub value-of-code : (k : Number) (n : ℕ) → valueAt (numberCode k + 1) n ≡ number k n
+pub value-of-code : (k : Number) (n : ℕ) → valueAt (numberCode k + 1) n ≡ number k (within k n)
 unfolding valueAt
 value-of-code i32 n = refl
 value-of-code i64 n = refl
 value-of-code f32 n = refl
 value-of-code f64 n = refl
+
+pub zero-of-code : (k : Number) → valueAt (numberCode k + 1) 0 ≡ number k 0
+zero-of-code k = value-of-code k 0 ∙ ap (number k) (within-zero k)
 
 pub held-none : {k : ℕ} (n : ℕ) → k ≡ noValue → heldAt k n ≡ none
 unfolding heldAt
@@ -56,20 +68,16 @@ held-some {k} n a = rw (ne-eqb k noValue a)
 
 -- the words of the value that they say
 
-pub canon-number : {k : ℕ} (n : ℕ) → i32Kind ≤ k → k < nullKind → Canon k n
-canon-number {k} n h l =
+pub canon-zero : {k : ℕ} → i32Kind ≤ k → k < nullKind → Canon k 0
+canon-zero {k} h l =
     let small : k - 1 < 4 = omega arith in
     let code : numberCode (numberAt (k - 1)) ≡ k - 1 = rw (val-number small) at (val-code-at (k - 1)) in
     let same : k ≡ k - 1 + 1 = omega arith in
-    record { is = rw (value-number {k = k} n (λ e. omega arith) (λ e. omega arith), code) (ap (λ (c : ℕ). c ∷ n ∷ []) same) }
+    record { is = rw (value-zero {k = k} (λ e. omega arith) (λ e. omega arith), code) (ap (λ (c : ℕ). c ∷ 0 ∷ []) same) }
 
 pub canon-null : Canon nullKind 0
 unfolding valueAt
 canon-null = record { is = refl }
-
-pub canon-object : (n : ℕ) → Canon objectKind n
-unfolding valueAt
-canon-object n = record { is = refl }
 
 pub held-canon-none : HeldCanon noValue 0
 unfolding heldAt
@@ -78,7 +86,7 @@ held-canon-none = record { is = refl }
 -- no words of a value are those of none
 pub canon-kind : {k n : ℕ} → Canon k n → k ≡ noValue → ⊥
 canon-kind {k} {n} c e =
-    let words : 0 ∷ n ∷ [] ≡ 1 ∷ n ∷ [] = rw (e, value-number {k = 0} n (λ y. omega arith) (λ y. omega arith)) at (c .is) in
+    let words : 0 ∷ n ∷ [] ≡ 1 ∷ within i32 n ∷ [] = rw (e, value-number {k = 0} n (λ y. omega arith) (λ y. omega arith)) at (c .is) in
     contradiction cc
 
 pub held-canon-some : {k n : ℕ} → Canon k n → HeldCanon k n

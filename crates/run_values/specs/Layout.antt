@@ -19,6 +19,15 @@ noValue = 0
 abbrev pub i32Kind : ℕ
 i32Kind = 1
 
+abbrev pub i64Kind : ℕ
+i64Kind = 2
+
+abbrev pub f32Kind : ℕ
+f32Kind = 3
+
+abbrev pub f64Kind : ℕ
+f64Kind = 4
+
 abbrev pub nullKind : ℕ
 nullKind = 5
 

@@ -1,12 +1,13 @@
 -- What the words of a run's memory say: a total reading of two words as a value of the machine (scope's Machine.antt), in
 -- the layout of scope's Memory.antt (valueWords, localWords).
-use Prim.Native.Nat.{ℕ, zero, suc, _+_, _-_, _*_, _<_}
+use Prim.Native.Nat.{ℕ, zero, suc, _+_, _-_, _*_, _%_, _^_, _<_}
 use mathlib.Core.Path.{_≡_}
 use mathlib.Core.Bool.{cond}
 use mathlib.Core.Option.{Option, none, some}
 use mathlib.Core.List.{List, [], _∷_}
 use lib.ListN.{getD, set}
 use lib.Dec.{eqb}
+use Rattle.scope.specs.Syntax.{Number, i32, i64, f32, f64}
 use Rattle.scope.specs.Machine.{Value, number, null, object}
 use Rattle.scope.specs.Memory.{valueWords, localWords}
 use Rattle.run_values.specs.Layout.{kindPlace, bitsPlace, noValue, nullKind, objectKind}
@@ -23,9 +24,20 @@ numbered f at (suc n) = f at ∷ numbered f (at + 1) n
 
 -- a kind and bits, read
 
+abbrev pub width : Number → ℕ
+width i32 = 32
+width i64 = 64
+width f32 = 32
+width f64 = 64
+
+-- a number's bits are within its width by the reading: what a word has above them is not looked at
+abbrev pub within : Number → ℕ → ℕ
+within k n = n % 2 ^ width k
+
 -- null, an object, or a number, whose kind is one more than its code
 unfoldable pub valueAt : ℕ → ℕ → Value
-valueAt k n = cond (eqb k nullKind) null (cond (eqb k objectKind) (object n) (number (numberAt (k - 1)) n))
+valueAt k n =
+    cond (eqb k nullKind) null (cond (eqb k objectKind) (object n) (number (numberAt (k - 1)) (within (numberAt (k - 1)) n)))
 
 -- which a local may have none of
 unfoldable pub heldAt : ℕ → ℕ → Option Value

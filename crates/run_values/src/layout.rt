@@ -6,6 +6,12 @@ pub const NO_VALUE: u64 = 0;
 
 pub const I32: u64 = 1;
 
+pub const I64: u64 = 2;
+
+pub const F32: u64 = 3;
+
+pub const F64: u64 = 4;
+
 pub const NULL: u64 = 5;
 
 pub const OBJECT: u64 = 6;

@@ -28,6 +28,9 @@ add-word64 c = search (ask-exits, needs)
 word64-requires-2 : tie.Need-word64-requires-2
 word64-requires-2 c κs = search (ask-exits, needs)
 
+value-of-requires : tie.Need-value-of-requires
+value-of-requires c κs = search (ask-exits, needs)
+
 returns-2 : tie.Need-returns-2
 returns-2 c = search (ask-exits, needs)
 
@@ -43,4 +46,4 @@ held-field-spec =
     word64-requires
     add-word64
     word64-requires-2
-    returns-2)
+    value-of-requires returns-2)

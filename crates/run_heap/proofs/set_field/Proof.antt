@@ -10,11 +10,11 @@ object-word-requires c κs = search (ask-exits, needs)
 add-place : tie.Need-add-place
 add-place c = search (ask-exits, needs)
 
-cast-put-value : tie.Need-cast-put-value
-cast-put-value c = search (ask-exits, needs)
+cast-put : tie.Need-cast-put
+cast-put c = search (ask-exits, needs)
 
-put-value-requires : tie.Need-put-value-requires
-put-value-requires c κs = search (ask-exits, needs)
+put-requires : tie.Need-put-requires
+put-requires c κs = search (ask-exits, needs)
 
 same-length : tie.Need-same-length
 same-length c = search (ask-exits, needs)
@@ -25,4 +25,4 @@ returns c = search (ask-exits, needs)
 pub set-field-spec : {M : Type 1} → statement M
 set-field-spec =
     tie.close
-    (tie.spec object-word-requires add-place cast-put-value put-value-requires same-length returns)
+    (tie.spec object-word-requires add-place cast-put put-requires same-length returns)

@@ -19,6 +19,9 @@ cast-bits-of c = search (local-exits, needs)
 bits-of-requires : tie.Need-bits-of-requires
 bits-of-requires c κs = search (local-exits, needs)
 
+value-of-requires : tie.Need-value-of-requires
+value-of-requires c κs = search (local-exits, needs)
+
 returns-2 : tie.Need-returns-2
 returns-2 c = search (local-exits, needs)
 
@@ -34,5 +37,5 @@ held-local-spec =
     returns
     cast-bits-of
     bits-of-requires
-    returns-2
+    value-of-requires returns-2
     returns-3)

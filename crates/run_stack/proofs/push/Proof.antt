@@ -4,11 +4,11 @@ use Rattle.run_stack.proofs.OnTop.{top-exits}
 use Rattle.run_stack.proofs.push.Statement.{statement}
 use Rattle.run_stack.proofs.push.Tie as tie
 
-add-put-value : tie.Need-add-put-value
-add-put-value c = search (top-exits, needs)
+add-put : tie.Need-add-put
+add-put c = search (top-exits, needs)
 
-put-value-requires : tie.Need-put-value-requires
-put-value-requires c κs = search (top-exits, needs)
+put-requires : tie.Need-put-requires
+put-requires c κs = search (top-exits, needs)
 
 same-length : tie.Need-same-length
 same-length c = search (top-exits, needs)
@@ -17,4 +17,4 @@ returns : tie.Need-returns
 returns c = search (top-exits, needs)
 
 pub push-spec : {M : Type 1} → statement M
-push-spec = tie.close (tie.spec add-put-value put-value-requires same-length returns)
+push-spec = tie.close (tie.spec add-put put-requires same-length returns)

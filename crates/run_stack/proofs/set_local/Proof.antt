@@ -4,11 +4,11 @@ use Rattle.run_stack.proofs.Held.{local-exits}
 use Rattle.run_stack.proofs.set_local.Statement.{statement}
 use Rattle.run_stack.proofs.set_local.Tie as tie
 
-cast-put-value : tie.Need-cast-put-value
-cast-put-value c = search (local-exits, needs)
+cast-put : tie.Need-cast-put
+cast-put c = search (local-exits, needs)
 
-put-value-requires : tie.Need-put-value-requires
-put-value-requires c κs = search (local-exits, needs)
+put-requires : tie.Need-put-requires
+put-requires c κs = search (local-exits, needs)
 
 same-length : tie.Need-same-length
 same-length c = search (local-exits, needs)
@@ -21,4 +21,4 @@ returns-2 c = search (local-exits, needs)
 
 pub set-local-spec : {M : Type 1} → statement M
 set-local-spec =
-    tie.close (tie.spec cast-put-value put-value-requires same-length returns returns-2)
+    tie.close (tie.spec cast-put put-requires same-length returns returns-2)

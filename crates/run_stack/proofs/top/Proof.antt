@@ -28,6 +28,9 @@ add-word64 c = search (top-exits, needs)
 word64-requires-2 : tie.Need-word64-requires-2
 word64-requires-2 c κs = search (top-exits, needs)
 
+value-of-requires : tie.Need-value-of-requires
+value-of-requires c κs = search (top-exits, needs)
+
 returns-2 : tie.Need-returns-2
 returns-2 c = search (top-exits, needs)
 
@@ -43,4 +46,4 @@ top-spec =
     word64-requires
     add-word64
     word64-requires-2
-    returns-2)
+    value-of-requires returns-2)
