@@ -43,11 +43,11 @@ enum-told-4 c = search (field-exits, needs)
 enum-told-5 : tie.Need-enum-told-5
 enum-told-5 c = search (field-exits, needs)
 
-cast-t18 : tie.Need-cast-t18
-cast-t18 c = search (field-exits, needs)
+cast-t17 : tie.Need-cast-t17
+cast-t17 c = search (field-exits, needs)
 
-cast-t19 : tie.Need-cast-t19
-cast-t19 c =
+cast-t18 : tie.Need-cast-t18
+cast-t18 c =
     let start = c .before .before .before .before .before .before .before .before .before .before .before .before in
     let words : (j : ℕ) → getD (start .before .args .objects .now) j 0 < 2 ^ 16 = λ j. omega (arith, start .shared-slice-known .given j) in
     search (field-fits, words, needs)
@@ -80,8 +80,8 @@ set-field-move-spec =
     held-field-requires
     enum-told-4
     enum-told-5
+    cast-t17
     cast-t18
-    cast-t19
     returns-3
     returns-4
     returns-5

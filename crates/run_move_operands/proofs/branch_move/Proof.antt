@@ -10,6 +10,9 @@ enum-told c = search (operand-exits, needs)
 enum-known-first : tie.Need-enum-known-first
 enum-known-first c = search (operand-exits, needs)
 
+enum-known-v : tie.Need-enum-known-v
+enum-known-v c = search (operand-exits, needs)
+
 returns : tie.Need-returns
 returns c = search (operand-exits, needs)
 
@@ -24,4 +27,4 @@ returns-4 c = search (operand-exits, needs)
 
 pub branch-move-spec : {M : Type 1} → statement M
 branch-move-spec =
-    tie.close (tie.spec enum-told enum-known-first returns returns-2 returns-3 returns-4)
+    tie.close (tie.spec enum-told enum-known-first enum-known-v returns returns-2 returns-3 returns-4)

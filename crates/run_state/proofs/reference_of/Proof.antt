@@ -10,6 +10,12 @@ enum-told c = search (reference-exits, needs)
 enum-known-top : tie.Need-enum-known-top
 enum-known-top c = search (reference-exits, needs)
 
+enum-told-2 : tie.Need-enum-told-2
+enum-told-2 c = search (reference-exits, needs)
+
+enum-known-v : tie.Need-enum-known-v
+enum-known-v c = search (reference-exits, needs)
+
 returns : tie.Need-returns
 returns c = search (reference-exits, needs)
 
@@ -24,4 +30,13 @@ returns-4 c = search (reference-exits, needs)
 
 pub reference-of-spec : {M : Type 1} → statement M
 reference-of-spec =
-    tie.close (tie.spec enum-told enum-known-top returns returns-2 returns-3 returns-4)
+    tie.close
+    (tie.spec
+    enum-told
+    enum-known-top
+    enum-told-2
+    enum-known-v
+    returns
+    returns-2
+    returns-3
+    returns-4)
