@@ -29,7 +29,8 @@ fn put_made(
     let total = stage.cells;
     let base = stage.base;
     run_heap::put_object(objects, n, x, d, total as u16, k as u16);
-    run_stack::push(operands, base, left, Value::Object(n as u64));
+    let number = n as u64;
+    run_stack::push(operands, base, left, Value::Object(number));
     Stage {
         place: stage.place,
         objects: n + 1,
