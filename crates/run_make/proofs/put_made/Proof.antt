@@ -13,20 +13,20 @@ cast-put-object-2 c = search (make-exits, needs)
 put-object-requires : tie.Need-put-object-requires
 put-object-requires c κs = search (make-exits, needs)
 
-cast-push : tie.Need-cast-push
-cast-push c = search (make-exits, needs)
+cast-number : tie.Need-cast-number
+cast-number c = search (make-exits, needs)
 
 push-requires : tie.Need-push-requires
 push-requires c κs = search (make-exits, needs)
-
-add-t19 : tie.Need-add-t19
-add-t19 c = search (make-exits, needs)
 
 add-t20 : tie.Need-add-t20
 add-t20 c = search (make-exits, needs)
 
 add-t21 : tie.Need-add-t21
 add-t21 c = search (make-exits, needs)
+
+add-t22 : tie.Need-add-t22
+add-t22 c = search (make-exits, needs)
 
 same-length : tie.Need-same-length
 same-length c = search (make-exits, needs)
@@ -44,11 +44,11 @@ put-made-spec =
     cast-put-object
     cast-put-object-2
     put-object-requires
-    cast-push
+    cast-number
     push-requires
-    add-t19
     add-t20
     add-t21
+    add-t22
     same-length
     same-length-2
     returns)
