@@ -29,6 +29,11 @@ pub record ByteAt (s : List ℕ) (at : ℕ) (r : Byte) : Type 0 where
   pub is : r ≡ byteIs (getElem? s at)
   pub small : (b : ℕ) → r ≡ Byte.the-variants.Is b → (b < byteLimit) × (at < length s)
 
+-- r is the byte at a place
+pub record ByteIs (s : List ℕ) (at r : ℕ) : Type 0 where
+  pub is : getElem? s at ≡ some r
+  pub small : r < byteLimit
+
 -- v of weight w, from k bytes, put below what follows
 abbrev pub above : ℕ → ℕ → ℕ → Bits → Bits
 above v w k (bits u j next) = bits (v + w * u) (k + j) next
@@ -48,6 +53,11 @@ pub record GoesOn (s : List ℕ) (at b most : ℕ) : Type 0 where
   pub more : 128 ≤ b
   pub room : MostBytes most
 
+-- so many bytes of a float, whose bits fit a word
+pub record FloatLength (n : ℕ) : Type 0 where
+  pub some : 1 ≤ n
+  pub fit : n ≤ 8
+
 -- one byte to `most` bytes, seven bits of each
 pub record Few (most v k : ℕ) : Type 0 where
   pub some : 1 ≤ k
@@ -65,6 +75,11 @@ pub record BitsRead (most : ℕ) (s : List ℕ) (at : ℕ) (r : Leb) : Type 0 wh
 abbrev pub naturalIs : Read ℕ → Natural
 naturalIs (got v next) = Natural.the-variants.Is v next
 naturalIs (refused n p) = Natural.the-variants.Refused n p
+
+-- the bits of a float, as the definition reads them, and that they lie below a limit
+pub record FloatRead (limit : ℕ) (o : Read ℕ) (r : Natural) : Type 0 where
+  pub is : r ≡ naturalIs o
+  pub small : (v next : ℕ) → r ≡ Natural.the-variants.Is v next → v < limit
 
 abbrev pub integerIs : Read Whole → Integer
 integerIs (got (plus v) next) = Integer.the-variants.Plus v next

@@ -1,10 +1,11 @@
-// Reading LEB128 numbers of 32, 33 and 64 bits: the items of which all else is made. Each answer is that of the definition of
-// document 01 (specs/Answers.antt), on any bytes and at any place.
+// Reading LEB128 numbers of 32, 33 and 64 bits, and the bytes of floats: the items of which all else is made. Each answer is
+// that of the definition of document 01 (specs/Answers.antt), on any bytes and at any place.
 use scope::refusals;
-ghost use Prim.Native.Nat.{_<_, _^_};
+ghost use Prim.Native.Nat.{_-_, _*_, _<_, _^_};
 ghost use mathlib.Core.Path.{_≡_};
-ghost use Rattle.scope.specs.Numbers.{u32, s32, s33, s64};
-ghost use Rattle.number.specs.Answers.{ByteAt, MostBytes, GoesOn, Few, BitsRead, naturalIs, SignWeight, rangeOf, SignedRead, Tenth, integerIs};
+ghost use lib.ListN.{length};
+ghost use Rattle.scope.specs.Numbers.{u32, s32, s33, s64, floatBytes, float32, float64};
+ghost use Rattle.number.specs.Answers.{ByteAt, ByteIs, MostBytes, GoesOn, Few, FloatLength, BitsRead, naturalIs, FloatRead, SignWeight, rangeOf, SignedRead, Tenth, integerIs};
 
 // The first number that is more than one byte.
 const TWO_BYTES: u64 = 128;
@@ -24,6 +25,13 @@ const S64_HALF: u64 = 9223372036854775808;
 const FIVE: u64 = 5;
 
 const NINE: u64 = 9;
+
+// A float's length, and the first number that is no byte.
+const F32_BYTES: usize = 4;
+
+const F64_BYTES: usize = 8;
+
+const BYTE_LIMIT: u64 = 256;
 
 // A byte of the input, or none where the place lies past its end.
 pub enum Byte {
@@ -207,4 +215,59 @@ pub fn s64_at(s: &[u8], at: usize) -> Integer
         Leb::Cut => Integer::Refused(refusals::BYTES_END, at),
         Leb::Long(low, next) => tenth_at(s, at, low, next),
     }
+}
+
+// The byte at a place inside the input.
+fn byte_inside(s: &[u8], at: usize) -> u64
+    requires { ⌜ at < length (now s) ⌝ }
+    ensures { λ r. ⌜ ByteIs (now (s .entry)) at r ⌝ }
+{
+    s[at] as u64
+}
+
+// How many bytes there are from a place on.
+fn bytes_from(s: &[u8], at: usize) -> usize
+    ensures { λ r. ⌜ r ≡ length (now (s .entry)) - at ⌝ }
+{
+    let size = s.len();
+    if at < size {
+        return size - at;
+    }
+    0
+}
+
+// So many bytes as one number, the lowest first. They are one item: where any is missing, 1 at the first of them. Read from
+// the highest down, so that no weight has to be kept.
+fn float_at(s: &[u8], at: usize, n: usize) -> Natural
+    requires { ⌜ FloatLength n ⌝ }
+    ensures { λ r. ⌜ FloatRead (2 ^ (8 * n)) (floatBytes n (now (s .entry)) at) r ⌝ }
+{
+    let there = bytes_from(s, at);
+    if there < n {
+        return Natural::Refused(refusals::BYTES_END, at);
+    }
+    let mut bits: u64 = 0;
+    let mut done: usize = 0;
+    while done < n {
+        done = done + 1;
+        let up = n - done;
+        let b = byte_inside(s, at + up);
+        bits = bits * BYTE_LIMIT + b;
+    }
+    let after = at + n;
+    Natural::Is(bits, after)
+}
+
+// The bits of an f32 are four bytes.
+pub fn float32_at(s: &[u8], at: usize) -> Natural
+    ensures { λ r. ⌜ FloatRead (2 ^ 32) (float32 (now (s .entry)) at) r ⌝ }
+{
+    float_at(s, at, F32_BYTES)
+}
+
+// Those of an f64 are eight.
+pub fn float64_at(s: &[u8], at: usize) -> Natural
+    ensures { λ r. ⌜ FloatRead (2 ^ 64) (float64 (now (s .entry)) at) r ⌝ }
+{
+    float_at(s, at, F64_BYTES)
 }
