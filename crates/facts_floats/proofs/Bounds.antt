@@ -9,7 +9,7 @@ use lib.Pow.{pow-pos}
 use Rattle.scope.specs.Rounding.{Width, infinite, units, rounded}
 use Rattle.facts_floats.specs.Halfway.{Halfway, twiceHalfway}
 use Rattle.facts_floats.specs.Standard.{Proper}
-use Rattle.facts_floats.proofs.Units.{units-low, units-lt}
+use Rattle.scope.proofs.Units.{units-low, units-lt}
 use Rattle.facts_floats.proofs.Halfway.{rounded-halfway}
 use Rattle.facts_floats.proofs.Forms.{infinite-pos, units-zero}
 

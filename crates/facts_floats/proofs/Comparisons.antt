@@ -15,7 +15,7 @@ use Rattle.facts_floats.specs.Standard.{Proper, zeroOf, infinity, nanOf,
 use Rattle.facts_floats.specs.Comparing.{counted, Less, Equal, OnlyUnequal}
 use Rattle.facts_floats.proofs.Signs.{or-true, same-sign, signs-both-ways}
 use Rattle.facts_floats.proofs.Wholes.{wholeTest, whole-tested, tested-whole}
-use Rattle.facts_floats.proofs.Units.{lt-or-le, units-lt}
+use Rattle.scope.proofs.Units.{lt-or-le, units-lt}
 use Rattle.facts_floats.proofs.Forms.{infinite-below, magnitude-is, nan-nan, infinity-sign, infinity-no-nan, number-sign, number-magnitude, number-no-nan, infinite-pos, units-zero, units-pos, form}
 
 signed-tested : (s t : Bool) (m n : ℕ) → wholeTest (counted s m) (counted t n) ≡ lessSigned s m t n

@@ -12,7 +12,7 @@ use borrow.Author.Tests.{le-leb, lt-leb, le-ltb, lt-ltb, eq-eqb, ne-eqb, leb-tru
 use Rattle.scope.specs.Rounding.{Width, lead, signBit, infinite, units}
 use Rattle.scope.specs.Floats.{negative, magnitude, withSign, isNan, isInfinite, isZero}
 use Rattle.facts_floats.specs.Standard.{Proper, zeroOf, infinity, nanOf, Payload, Nonzero, Form, is-nan, is-infinity, is-number}
-use Rattle.facts_floats.proofs.Units.{lt-or-le, units-low, units-lt}
+use Rattle.scope.proofs.Units.{lt-or-le, units-low, units-lt}
 
 parts : (c : ℕ) (s : Bool) (m : ℕ) → m < c → (leb c (cond s c 0 + m) ≡ s) × ((cond s c 0 + m) % c ≡ m)
 parts c true m h = (le-leb c (c + m) (omega arith), add-mod-left c m ∙ mod-eq-of-lt h)

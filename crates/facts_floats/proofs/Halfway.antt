@@ -7,8 +7,8 @@ use mathlib.Core.Path.{_≡_, refl, sym, _∙_}
 use mathlib.Core.Logic.{inl, inr}
 use Rattle.scope.specs.Rounding.{Width, infinite, units, gap, Nearest, rounded}
 use Rattle.facts_floats.specs.Halfway.{Halfway, twiceHalfway}
-use Rattle.facts_floats.proofs.Units.{lt-or-le, units-lt}
-use Rattle.facts_floats.proofs.Rounds.{rounded-nearest}
+use Rattle.scope.proofs.Units.{lt-or-le, units-lt}
+use Rattle.scope.proofs.Rounds.{rounded-nearest}
 
 -- n, between x and y: nearer to x exactly below the half
 module _ (n x y : ℕ) (l : x < y) where

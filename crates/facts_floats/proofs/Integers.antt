@@ -11,7 +11,7 @@ use lib.Pow.{pow-pos}
 use borrow.Author.Tests.{le-ltb, lt-ltb, le-leb, lt-leb}
 use Rattle.scope.specs.Numbers.{Whole, plus, minus, bits32, withinSigned}
 use Rattle.scope.specs.Integers.{intAdd, intSub, standsFor, WholeLess, topTurned, intLessSigned, intAtMostSigned, intGreaterSigned}
-use Rattle.facts_floats.proofs.Units.{lt-or-le}
+use Rattle.scope.proofs.Units.{lt-or-le}
 use Rattle.facts_floats.proofs.Wholes.{wholeTest, whole-tested, tested-whole}
 
 same-test : (a b x y : ℕ) → (a < b → x < y) → (b ≤ a → y ≤ x) → ltb a b ≡ ltb x y

@@ -4,7 +4,7 @@ use native.Mathlib.Omega.{arith}
 use Rattle.scope.specs.Rounding.{Width, single, double}
 use Rattle.facts_floats.specs.Standard.{Proper}
 use Rattle.facts_floats.specs.Laws.{FloatLaws, IntegerLaws}
-use Rattle.facts_floats.proofs.Rounds.{rounded-nearest, nearest-unique}
+use Rattle.scope.proofs.Rounds.{rounded-nearest, nearest-unique}
 use Rattle.facts_floats.proofs.Halfway.{nearest-halfway, halfway-nearest}
 use Rattle.facts_floats.proofs.Bounds.{overflows, overflows-only, vanishes, vanishes-only}
 use Rattle.facts_floats.proofs.Sums.{sum-is, sum-only}

@@ -1,5 +1,3 @@
-pub mod Units
-pub mod Rounds
 pub mod Halfway
 pub mod Signs
 pub mod Forms

@@ -7,7 +7,7 @@ use mathlib.Core.Bool.{Bool}
 use Rattle.scope.specs.Rounding.{Width, infinite, units, rounded}
 use Rattle.scope.specs.Floats.{withSign, RoundedOnce}
 use Rattle.facts_floats.specs.Standard.{Proper}
-use Rattle.facts_floats.proofs.Rounds.{rounded-nearest, nearest-unique, rounded-exact}
+use Rattle.scope.proofs.Rounds.{rounded-nearest, nearest-unique, rounded-exact}
 
 module _ (w : Width) (proper : Proper w) where
   pub once : (s : Bool) (n d : ℕ) → 0 < d → RoundedOnce w s n d (withSign w s (rounded w n d))

@@ -11,7 +11,7 @@ use Rattle.scope.specs.Rounding.{Width, signBit, infinite, units, rounded}
 use Rattle.scope.specs.Floats.{withSign, isNan, canonicalNan, sumOf, floatAdd}
 use Rattle.facts_floats.specs.Standard.{Proper, zeroOf, infinity, nanOf, Payload, Nonzero, Form, is-nan, is-infinity, is-number, Sum}
 use Rattle.facts_floats.proofs.Signs.{or-true, and-true, and-false, same-sign, other-sign}
-use Rattle.facts_floats.proofs.Units.{lt-or-le, units-lt}
+use Rattle.scope.proofs.Units.{lt-or-le, units-lt}
 use Rattle.facts_floats.proofs.Forms.{nan-nan, infinity-sign, infinity-no-nan, infinity-infinite, number-sign, number-magnitude, number-no-nan, number-finite, infinite-pos, units-zero, units-pos, form}
 use Rattle.facts_floats.proofs.Once.{once, once-only, exactly-whole}
 

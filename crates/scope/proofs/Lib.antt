@@ -33,3 +33,5 @@ pub mod SoundnessHolds
 pub mod Programs
 pub mod ShortCuts
 pub mod OneAnswer
+pub mod Units
+pub mod Rounds

@@ -12,8 +12,8 @@ use lib.Ieee.{size, nearest}
 use lib.Ieee.Digits.{size-reaches}
 use lib.Ieee.Fits.{kept-lt}
 use borrow.Author.Tests.{leb-true, leb-false, eqb-true, eqb-false}
 use Rattle.scope.specs.Rounding.{Width, lead, infinite, units, gap, Nearest, rounded}
-use Rattle.facts_floats.proofs.Units.{lt-or-le, Form, units-at, units-lt, units-le}
+use Rattle.scope.proofs.Units.{lt-or-le, Form, units-at, units-lt, units-le}
 
 -- ---- a quotient rounded: down, or up, and even where both are as near
 
