@@ -18,27 +18,27 @@ pub enum Value {
 }
 
 // The bits of the canonical float that is no number.
-const NAN_32: u32 = 0x7fc0_0000;
+pub const NAN_32: u32 = 0x7fc0_0000;
 
-const NAN_64: u64 = 0x7ff8_0000_0000_0000;
+pub const NAN_64: u64 = 0x7ff8_0000_0000_0000;
 
 // The bits of infinity, and the sign's bit.
 const INFINITE_32: u32 = 0x7f80_0000;
 
 const INFINITE_64: u64 = 0x7ff0_0000_0000_0000;
 
-const SIGN_32: u32 = 0x8000_0000;
+pub const SIGN_32: u32 = 0x8000_0000;
 
-const SIGN_64: u64 = 0x8000_0000_0000_0000;
+pub const SIGN_64: u64 = 0x8000_0000_0000_0000;
 
 // Whether bits are those of no number: without the sign they are above those of infinity.
-fn is_nan_32(bits: u32) -> bool
+pub fn is_nan_32(bits: u32) -> bool
     ensures { λ r. ⌜ r ≡ nanBits binary32 bits ⌝ }
 {
     INFINITE_32 < bits % SIGN_32
 }
 
-fn is_nan_64(bits: u64) -> bool
+pub fn is_nan_64(bits: u64) -> bool
     ensures { λ r. ⌜ r ≡ nanBits binary64 bits ⌝ }
 {
     INFINITE_64 < bits % SIGN_64
@@ -64,7 +64,7 @@ pub fn double(bits: u64) -> Value
 }
 
 // The bits of a float; of one that is no number the canonical ones.
-fn single_bits(x: f32) -> u32
+pub fn single_bits(x: f32) -> u32
     ensures { λ r. ⌜ r ≡ toBits binary32 x ⌝ }
 {
     if x != x {
@@ -73,7 +73,7 @@ fn single_bits(x: f32) -> u32
     f32::to_bits(x)
 }
 
-fn double_bits(x: f64) -> u64
+pub fn double_bits(x: f64) -> u64
     ensures { λ r. ⌜ r ≡ toBits binary64 x ⌝ }
 {
     if x != x {
