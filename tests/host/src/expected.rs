@@ -135,8 +135,8 @@ fn value_words(value: Value) -> [u64; 2] {
     match value {
         Value::I32(number) => [1, u64::from(number as u32)],
         Value::I64(number) => [2, number as u64],
-        Value::F32(number) => [3, u64::from(number.to_bits())],
-        Value::F64(number) => [4, number.to_bits()],
+        Value::F32(bits) => [3, u64::from(bits)],
+        Value::F64(bits) => [4, bits],
         Value::Null => [5, 0],
         Value::Object(number) => [6, number as u64],
     }

@@ -7,6 +7,7 @@ use crate::frames::{as_non_null, Frame, Operand, Stack};
 use crate::instruction_reader::{read_instruction, read_locals_entry};
 use crate::instruction_rules::{descriptor_wanted, fallen_through, RULES};
 use crate::number::Reader;
+use crate::numeric::row_of_code;
 use crate::order::top_of;
 use crate::refusal::{
     refuse, Number, Refusal, NOT_A_FUNCTION, OPERAND, OUT_OF_REACH, SIZE_EXCEEDED, VALUES_LEFT,
@@ -184,6 +185,10 @@ impl<'a> Checker<'a> {
                 self.stack.push(self.locals[local as usize]);
             }
             Instruction::I32Const(_) => self.stack.push(ValueType::I32),
+            Instruction::I64Const(_) => self.stack.push(ValueType::I64),
+            Instruction::F32Const(_) => self.stack.push(ValueType::F32),
+            Instruction::F64Const(_) => self.stack.push(ValueType::F64),
+            Instruction::Numeric(code) => self.compute(code)?,
             _ => self.operate_on_references(instruction)?,
         }
         Ok(())
@@ -248,6 +253,14 @@ impl<'a> Checker<'a> {
             }
             _ => unreachable!("every other instruction is operated before"),
         }
+        Ok(())
+    }
+
+    /// As the table says.
+    fn compute(&mut self, code: u8) -> Result<(), Number> {
+        let row = row_of_code(code).expect("a numeric code is read only where it has a row");
+        self.stack.pop_all(row.operands)?;
+        self.stack.push(row.result);
         Ok(())
     }
 

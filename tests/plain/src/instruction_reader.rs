@@ -3,6 +3,7 @@
 //! Only byte faults (1, 2 and 3) are given here.
 
 use crate::number::Reader;
+use crate::numeric::row_of_code;
 use crate::refusal::{refuse, Refusal, NOT_LISTED};
 use crate::section_reader::{read_heap, read_value_type};
 use crate::syntax::{BranchingCast, Heap, Instruction, Placed, Reference, ValueType};
@@ -49,10 +50,14 @@ fn read_plain(reader: &mut Reader, code: u8, place: usize) -> Result<Instruction
         0x21 => Instruction::LocalSet(reader.u32()?),
         0x22 => Instruction::LocalTee(reader.u32()?),
         0x41 => Instruction::I32Const(reader.s32()?),
+        0x42 => Instruction::I64Const(reader.s64()?),
+        0x43 => Instruction::F32Const(u32::from_le_bytes(reader.bytes()?)),
+        0x44 => Instruction::F64Const(u64::from_le_bytes(reader.bytes()?)),
         0xD0 => Instruction::RefNull(read_heap(reader)?),
         0xD1 => Instruction::RefIsNull,
         0xD3 => Instruction::RefEq,
         0xD4 => Instruction::RefAsNonNull,
+        _ if row_of_code(code).is_some() => Instruction::Numeric(code),
         _ => return refuse(NOT_LISTED, place),
     })
 }

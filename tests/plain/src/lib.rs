@@ -6,6 +6,8 @@
 //! is asked of the tree, so that the code can be held against the paper.
 
 pub mod body;
+pub mod compute;
+pub mod float;
 pub mod frames;
 pub mod generate;
 pub mod instruction_reader;
@@ -13,6 +15,7 @@ pub mod instruction_rules;
 pub mod lines;
 pub mod machine;
 pub mod number;
+pub mod numeric;
 pub mod order;
 pub mod refusal;
 pub mod section;

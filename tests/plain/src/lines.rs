@@ -164,8 +164,8 @@ fn value(value: Value) -> String {
     match value {
         Value::I32(number) => format!("i32:{number}"),
         Value::I64(number) => format!("i64:{number}"),
-        Value::F32(number) => format!("f32:{:08x}", number.to_bits()),
-        Value::F64(number) => format!("f64:{:016x}", number.to_bits()),
+        Value::F32(bits) => format!("f32:{bits:08x}"),
+        Value::F64(bits) => format!("f64:{bits:016x}"),
         Value::Null => "null".to_string(),
         Value::Object(number) => format!("obj:{number}"),
     }

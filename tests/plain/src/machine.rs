@@ -4,6 +4,8 @@
 //! trapping step changes nothing.
 
 use crate::body::{judge_body, Body};
+use crate::compute::computed;
+use crate::numeric::row_of_code;
 use crate::refusal::{refuse, Refusal, NO_DEFAULT, SIZE_EXCEEDED};
 use crate::sizes;
 use crate::state::{default_of, BlockKind, OpenBlock, State, Value};
@@ -14,6 +16,7 @@ pub const NULL_USED: u32 = 42;
 pub const NULL_DESCRIPTOR: u32 = 43;
 pub const CAST_FAILED: u32 = 44;
 pub const NO_ROOM: u32 = 45;
+pub const NUMERIC_NOT_DONE: u32 = 46;
 
 #[derive(Clone, Copy, Debug, PartialEq, Eq)]
 pub enum Outcome {
@@ -121,6 +124,9 @@ impl Machine<'_> {
             Instruction::BranchingCast(BranchingCast { by_descriptor: true, .. }) => {
                 self.trap_on_null(0, NULL_DESCRIPTOR)
             }
+            Instruction::Numeric(code) => {
+                trap_unless(self.computed(code).is_some(), NUMERIC_NOT_DONE)
+            }
             _ => None,
         }
     }
@@ -141,6 +147,21 @@ impl Machine<'_> {
     /// Whether the operand below the descriptor passes a descriptor cast.
     fn passes_by_descriptor(&self, target: Reference) -> bool {
         self.state.is_described_by(self.state.operand(1), self.state.operand(0), target)
+    }
+
+    /// The result of a numeric code on the operands that are there; None where the run
+    /// does not do it.
+    fn computed(&self, code: u8) -> Option<Value> {
+        let row = row_of_code(code)?;
+        let first = self.state.operands.len() - row.operands.len();
+        computed(row.operation(), &self.state.operands[first..])
+    }
+
+    fn compute(&mut self, code: u8) {
+        let result = self.computed(code).expect("what is not done has trapped");
+        let row = row_of_code(code).expect("it has been read");
+        self.state.pop_many(row.operands.len());
+        self.state.operands.push(result);
     }
 
     fn step(&mut self, instruction: &Instruction) {
@@ -170,6 +191,10 @@ impl Machine<'_> {
                 self.state.locals[local as usize] = Some(self.state.operand(0));
             }
             Instruction::I32Const(number) => self.state.operands.push(Value::I32(number)),
+            Instruction::I64Const(number) => self.state.operands.push(Value::I64(number)),
+            Instruction::F32Const(bits) => self.state.operands.push(Value::F32(bits)),
+            Instruction::F64Const(bits) => self.state.operands.push(Value::F64(bits)),
+            Instruction::Numeric(code) => self.compute(code),
             _ => self.step_on_references(instruction),
         }
     }

@@ -1,4 +1,5 @@
-//! Items: one code byte or one LEB128 number, read from lent bytes.
+//! Items: one code byte, one LEB128 number or the bytes of one float, read from lent
+//! bytes.
 //!
 //! A reader goes forward over the bytes; each item answers its value, or a
 //! refusal whose place is the item's first byte.
@@ -12,7 +13,7 @@ pub struct Reader<'a> {
 
 /// The raw bits of a LEB number and how many of them were written.
 struct Written {
-    bits: u64,
+    bits: u128,
     count: u32,
 }
 
@@ -62,6 +63,21 @@ impl<'a> Reader<'a> {
         self.signed(33)
     }
 
+    pub fn s64(&mut self) -> Result<i64, Refusal> {
+        self.signed(64)
+    }
+
+    /// So many bytes that are one item.
+    pub fn bytes<const COUNT: usize>(&mut self) -> Result<[u8; COUNT], Refusal> {
+        match self.bytes[self.place..].first_chunk() {
+            None => refuse(BYTES_END, self.place),
+            Some(&bytes) => {
+                self.place += COUNT;
+                Ok(bytes)
+            }
+        }
+    }
+
     pub fn finish(&self) -> Result<(), Refusal> {
         if self.place < self.bytes.len() {
             return refuse(BYTES_LEFT_OVER, self.place);
@@ -73,23 +89,23 @@ impl<'a> Reader<'a> {
         let first = self.place;
         let written = self.written(width, first)?;
         let number = sign_extended(&written);
-        let bound = 1i64 << (width - 1);
+        let bound = 1i128 << (width - 1);
         if number < -bound || number >= bound {
             return refuse(NUMBER_TOO_LONG, first);
         }
-        Ok(number)
+        Ok(number as i64)
     }
 
     /// Seven bits a byte, lowest first, up to the greatest length of the width.
     fn written(&mut self, width: u32, first: usize) -> Result<Written, Refusal> {
         let greatest_length = width.div_ceil(7);
-        let mut bits = 0u64;
+        let mut bits = 0u128;
         for index in 0..greatest_length {
             let Some(byte) = self.peek() else {
                 return refuse(BYTES_END, first);
             };
             self.place += 1;
-            bits |= u64::from(byte & 0x7F) << (7 * index);
+            bits |= u128::from(byte & 0x7F) << (7 * index);
             if byte & 0x80 == 0 {
                 return Ok(Written { bits, count: 7 * (index + 1) });
             }
@@ -99,7 +115,7 @@ impl<'a> Reader<'a> {
     }
 }
 
-fn sign_extended(written: &Written) -> i64 {
-    let unused = 64 - written.count;
-    ((written.bits << unused) as i64) >> unused
+fn sign_extended(written: &Written) -> i128 {
+    let unused = 128 - written.count;
+    ((written.bits << unused) as i128) >> unused
 }

@@ -4,17 +4,18 @@ use crate::order::heap_below;
 use crate::sizes;
 use crate::syntax::{Heap, Reference, Type, ValueType};
 
-#[derive(Clone, Copy, Debug, PartialEq)]
+/// A float is its bits.
+#[derive(Clone, Copy, Debug, PartialEq, Eq)]
 pub enum Value {
     I32(i32),
     I64(i64),
-    F32(f32),
-    F64(f64),
+    F32(u32),
+    F64(u64),
     Null,
     Object(usize),
 }
 
-#[derive(Clone, Debug, PartialEq)]
+#[derive(Clone, Debug, PartialEq, Eq)]
 pub struct Object {
     pub type_number: u32,
     pub descriptor: Option<usize>,
@@ -56,8 +57,8 @@ pub fn default_of(value: ValueType) -> Option<Value> {
     match value {
         ValueType::I32 => Some(Value::I32(0)),
         ValueType::I64 => Some(Value::I64(0)),
-        ValueType::F32 => Some(Value::F32(0.0)),
-        ValueType::F64 => Some(Value::F64(0.0)),
+        ValueType::F32 => Some(Value::F32(0)),
+        ValueType::F64 => Some(Value::F64(0)),
         ValueType::Ref(reference) => reference.nullable.then_some(Value::Null),
     }
 }

@@ -94,6 +94,12 @@ pub enum Instruction {
     LocalSet(u32),
     LocalTee(u32),
     I32Const(i32),
+    I64Const(i64),
+    /// A float is its bits.
+    F32Const(u32),
+    F64Const(u64),
+    /// One of the codes of `numeric`.
+    Numeric(u8),
     RefNull(Heap),
     RefIsNull,
     RefEq,

@@ -24,7 +24,9 @@ pub struct Writer<'a> {
     spoilt: usize,
 }
 
+/// Of a number of 32 or 33 bits, and of one of 64.
 const GREATEST_LENGTH: usize = 5;
+const GREATEST_LENGTH_64: usize = 10;
 
 impl Writer<'_> {
     pub fn new(random: &mut Random) -> Writer<'_> {
@@ -44,24 +46,22 @@ impl Writer<'_> {
             groups.push((rest & 0x7F) as u8);
             rest >>= 7;
         }
-        self.number(groups, 0);
+        self.number(groups, 0, GREATEST_LENGTH);
     }
 
-    /// Ends where the rest is all sign and the last group's bit 6 says so.
     pub fn signed(&mut self, number: i64) {
-        let fill = if number < 0 { 0x7F } else { 0x00 };
-        let mut groups = vec![(number & 0x7F) as u8];
-        let mut rest = number >> 7;
-        while rest != number >> 63 || (groups[groups.len() - 1] ^ fill) & 0x40 != 0 {
-            groups.push((rest & 0x7F) as u8);
-            rest >>= 7;
-        }
-        self.number(groups, fill);
+        let (groups, fill) = signed_groups(number);
+        self.number(groups, fill, GREATEST_LENGTH);
+    }
+
+    fn signed_64(&mut self, number: i64) {
+        let (groups, fill) = signed_groups(number);
+        self.number(groups, fill, GREATEST_LENGTH_64);
     }
 
     /// Groups of seven bits, lowest first; all but the last ask for more.
-    fn number(&mut self, mut groups: Vec<u8>, fill: u8) {
-        self.pad(&mut groups, fill);
+    fn number(&mut self, mut groups: Vec<u8>, fill: u8, greatest: usize) {
+        self.pad(&mut groups, fill, greatest);
         let last = groups.len() - 1;
         for (index, group) in groups.iter().enumerate() {
             let more = if index < last { 0x80 } else { 0 };
@@ -69,15 +69,15 @@ impl Writer<'_> {
         }
     }
 
-    fn pad(&mut self, groups: &mut Vec<u8>, fill: u8) {
+    fn pad(&mut self, groups: &mut Vec<u8>, fill: u8, greatest: usize) {
         if self.random.percent(self.padded) {
-            let length = self.random.between(groups.len(), GREATEST_LENGTH.max(groups.len()));
+            let length = self.random.between(groups.len(), greatest.max(groups.len()));
             groups.resize(length, fill);
         }
         if self.random.below(1000) < self.spoilt {
-            groups.resize(GREATEST_LENGTH, fill);
+            groups.resize(greatest, fill);
             let wrong = self.random.pick(&[0x10, 0x20, 0x40, 0x0F, 0x70, 0x08]);
-            groups[GREATEST_LENGTH - 1] ^= wrong;
+            groups[greatest - 1] ^= wrong;
             groups.extend(self.random.one_in(2).then_some(fill));
         }
     }
@@ -200,6 +200,19 @@ impl Writer<'_> {
                 self.byte(0x41);
                 self.signed(i64::from(number));
             }
+            Instruction::I64Const(number) => {
+                self.byte(0x42);
+                self.signed_64(number);
+            }
+            Instruction::F32Const(bits) => {
+                self.byte(0x43);
+                self.bytes.extend(bits.to_le_bytes());
+            }
+            Instruction::F64Const(bits) => {
+                self.byte(0x44);
+                self.bytes.extend(bits.to_le_bytes());
+            }
+            Instruction::Numeric(code) => self.byte(code),
             Instruction::RefNull(heap) => {
                 self.byte(0xD0);
                 self.heap(heap);
@@ -261,4 +274,17 @@ impl Writer<'_> {
         self.heap(cast.source.heap);
         self.heap(cast.target.heap);
     }
+}
+
+/// Seven bits each, lowest first, up to where the rest is all sign and the last group's
+/// bit 6 says so; and what a padded number is filled up with.
+fn signed_groups(number: i64) -> (Vec<u8>, u8) {
+    let fill = if number < 0 { 0x7F } else { 0x00 };
+    let mut groups = vec![(number & 0x7F) as u8];
+    let mut rest = number >> 7;
+    while rest != number >> 63 || (groups[groups.len() - 1] ^ fill) & 0x40 != 0 {
+        groups.push((rest & 0x7F) as u8);
+        rest >>= 7;
+    }
+    (groups, fill)
 }
