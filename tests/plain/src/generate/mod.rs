@@ -5,6 +5,7 @@
 pub mod at_size;
 pub mod dead_code;
 pub mod encode;
+pub mod float_pairs;
 pub mod make_body;
 pub mod make_section;
 pub mod produce;
