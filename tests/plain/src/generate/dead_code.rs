@@ -3,6 +3,7 @@
 //! Each piece leaves the frame as empty as it was, so the frame's `end` is kept.
 
 use super::make_body::Maker;
+use crate::numeric::TABLE;
 use crate::syntax::{BranchingCast, Heap, Instruction, Reference, ValueType};
 
 impl Maker<'_> {
@@ -12,7 +13,7 @@ impl Maker<'_> {
     }
 
     fn dead_piece(&mut self) {
-        match self.random.below(12) {
+        match self.random.below(14) {
             0 => self.dead_and_dropped(&[Instruction::RefAsNonNull]),
             1 => self.dead_and_dropped(&[Instruction::RefEq]),
             2 => self.dead_and_dropped(&[Instruction::RefAsNonNull, Instruction::RefIsNull]),
@@ -28,6 +29,7 @@ impl Maker<'_> {
                 self.emit(exit);
             }
             10 => self.statement(),
+            11 | 12 => self.dead_number(),
             _ => self.emit(Instruction::Drop),
         }
     }
@@ -99,6 +101,14 @@ impl Maker<'_> {
         let cast: BranchingCast = self.cast_carrying(last, label);
         self.emit(Instruction::BranchingCast(cast));
         self.drop_many(types.len());
+    }
+
+    /// A numeric code of which no operand, the last or all are there.
+    fn dead_number(&mut self) {
+        let row = &TABLE[self.random.below(TABLE.len())];
+        let first = self.random.below(row.operands.len() + 1);
+        row.operands[first..].iter().for_each(|&kind| self.produce_constant_of(kind));
+        self.dead_and_dropped(&[Instruction::Numeric(row.code)]);
     }
 
     fn dead_local(&mut self) {

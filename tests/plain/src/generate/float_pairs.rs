@@ -44,21 +44,20 @@ pub fn edges(format: Format) -> Vec<u64> {
         infinity - 1,
         infinity,
     ];
-    let nans = [
-        infinity + 1,
-        infinity + quiet - 1,
-        infinity + quiet,
-        infinity + quiet + 1,
-        infinity + lead - 1,
-    ];
-    let sign = infinity + lead;
-    let magnitudes = near_zero
-        .into_iter()
-        .chain(near_one)
-        .chain(near_last_digit)
-        .chain(near_greatest)
-        .chain(nans);
-    magnitudes.flat_map(|magnitude| [magnitude, sign + magnitude]).collect()
+    let numbers = near_zero.into_iter().chain(near_one).chain(near_last_digit).chain(near_greatest);
+    with_signs(format, numbers).chain(nans(format)).collect()
+}
+
+/// Canonical, with payload, signalling.
+pub fn nans(format: Format) -> Vec<u64> {
+    let quiet = format.canonical_nan();
+    let payload = 1u64 << (format.fraction_bits - 1);
+    let magnitudes = [quiet - payload + 1, quiet - 1, quiet, quiet + 1, quiet + payload - 1];
+    with_signs(format, magnitudes.into_iter()).collect()
+}
+
+fn with_signs(format: Format, magnitudes: impl Iterator<Item = u64>) -> impl Iterator<Item = u64> {
+    magnitudes.flat_map(move |magnitude| [magnitude, format.neg(magnitude)])
 }
 
 /// Every edge with every edge, then random ones: the same seed gives the same pairs.

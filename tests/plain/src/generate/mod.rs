@@ -8,6 +8,7 @@ pub mod encode;
 pub mod float_pairs;
 pub mod make_body;
 pub mod make_section;
+pub mod numbers;
 pub mod produce;
 pub mod produce_by_descriptor;
 pub mod produce_reference;
@@ -19,6 +20,7 @@ pub mod thin;
 pub mod thin_casts;
 pub mod thin_high;
 pub mod thin_lists;
+pub mod thin_numbers;
 pub mod thin_rules;
 pub mod value_types;
 
@@ -48,14 +50,15 @@ pub fn requests(seed: u64, count: usize, small: bool) -> impl Iterator<Item = St
 
 fn request(random: &mut Random, small: bool) -> String {
     match random.below(1000) {
-        0..=249 => section_request(random, small),
-        250..=319 => type_request(random, small),
-        320..=539 => body_request(random, small),
-        540..=549 => at_size::room_request(random, small),
-        550..=559 => at_size::small_size_request(random),
-        560..=599 if !small => at_size::size_request(random),
-        600..=639 => thin::thin_request(random, small),
-        640..=719 => thin_casts::branching_casts(random),
+        0..=219 => section_request(random, small),
+        220..=289 => type_request(random, small),
+        290..=509 => body_request(random, small),
+        510..=519 => at_size::room_request(random, small),
+        520..=529 => at_size::small_size_request(random),
+        530..=569 if !small => at_size::size_request(random),
+        570..=609 => thin::thin_request(random, small),
+        610..=689 => thin_casts::branching_casts(random),
+        690..=779 => thin_numbers::numbers(random),
         _ => run_request(random, small),
     }
 }

@@ -2,6 +2,7 @@
 //! blocks and tests. References have their own ways in produce_reference.
 
 use super::make_body::{Maker, DEPTH};
+use super::numbers::{constant, row_giving};
 use super::value_types::{heaps_above, heaps_below, narrower, random_reference};
 use crate::order::{top_of, value_below};
 use crate::syntax::{Abstract, Heap, Instruction, Reference, ValueType};
@@ -29,7 +30,7 @@ impl Maker<'_> {
         match wanted {
             ValueType::I32 => self.produce_i32(depth),
             ValueType::Ref(reference) => self.produce_reference(reference, depth),
-            _ => self.produce_cheaply(wanted, depth),
+            number => self.produce_number(number, depth),
         }
     }
 
@@ -39,13 +40,30 @@ impl Maker<'_> {
             ValueType::Ref(reference) if reference.nullable => self.produce_null(reference.heap),
             ValueType::Ref(reference) => self.produce_non_null_cheaply(reference.heap, depth),
             number => match self.local_below(number) {
-                Some(local) => self.emit(Instruction::LocalGet(local)),
-                None => {
+                Some(local) if self.random.one_in(2) => self.emit(Instruction::LocalGet(local)),
+                _ if self.random.one_in(4) => {
                     let local = self.new_local(number);
                     self.emit(Instruction::LocalGet(local));
                 }
+                _ => self.produce_constant_of(number),
             },
         }
+    }
+
+    pub fn produce_constant_of(&mut self, kind: ValueType) {
+        let constant = constant(self.random, kind);
+        self.emit(constant);
+    }
+
+    /// By a constant or by a code; one that the run does not do is seldom.
+    pub fn produce_number(&mut self, kind: ValueType, depth: usize) {
+        if self.random.one_in(3) {
+            return self.produce_constant_of(kind);
+        }
+        let done = !self.random.one_in(16);
+        let row = row_giving(self.random, kind, done);
+        row.operands.iter().for_each(|&operand| self.produce(operand, depth + 1));
+        self.emit(Instruction::Numeric(row.code));
     }
 
     pub fn produce_constant(&mut self) {
@@ -128,7 +146,7 @@ impl Maker<'_> {
     }
 
     pub fn produce_i32(&mut self, depth: usize) {
-        match self.random.below(8) {
+        match self.random.below(10) {
             0 => {
                 let reference = random_reference(self.random, &self.types);
                 self.produce(ValueType::Ref(reference), depth + 1);
@@ -136,6 +154,7 @@ impl Maker<'_> {
             }
             1 => self.produce_equality(depth),
             2..=4 => self.produce_test(depth),
+            5 | 6 => self.produce_number(ValueType::I32, depth),
             _ => self.produce_constant(),
         }
     }

@@ -1,15 +1,17 @@
 //! Near misses of a body: one thing of valid code is changed.
 
 use super::make_body::DraftBody;
+use super::numbers::{constant, KINDS};
 use super::random::Random;
 use super::spoil_section::{other_exactness, spoil_value};
 use super::value_types::random_heap;
+use crate::numeric::TABLE;
 use crate::syntax::{Abstract, Heap, Instruction, Reference, ValueType};
 
 pub fn spoil_body(random: &mut Random, body: &mut DraftBody, types: usize) {
     let index = random.below(body.code.len());
     let next = (index + 1) % body.code.len();
-    match random.below(24) {
+    match random.below(26) {
         0 => drop(body.code.remove(index)),
         1 => body.code.insert(index, body.code[index]),
         2 => body.code.swap(index, next),
@@ -18,8 +20,9 @@ pub fn spoil_body(random: &mut Random, body: &mut DraftBody, types: usize) {
         5 => spoil_local(random, body),
         6..=10 => read_local(random, body, index),
         11..=13 => body.code.insert(index, random_field_use(random, types)),
-        14..=17 => leave_to_defaults(random, body),
-        18 => spoil_dead_code(random, body),
+        14..=16 => leave_to_defaults(random, body),
+        17..=19 => body.code.insert(index, random_default(random, types)),
+        20 => spoil_dead_code(random, body),
         _ => spoil_likely(random, body, types),
     }
 }
@@ -44,6 +47,15 @@ fn random_field_use(random: &mut Random, types: usize) -> Instruction {
         return Instruction::StructGet(number, field);
     }
     Instruction::StructSet(number, field)
+}
+
+/// A default allocation that nothing asked for: 23 and 29 are looked at before operands.
+fn random_default(random: &mut Random, types: usize) -> Instruction {
+    let number = random.below(types) as u32;
+    if random.one_in(4) {
+        return Instruction::StructNewDefaultDesc(number);
+    }
+    Instruction::StructNewDefault(number)
 }
 
 /// An allocation's fields become defaults, which its type may not have.
@@ -129,6 +141,12 @@ fn relative(instruction: &Instruction) -> Option<Instruction> {
         Instruction::RefCastDescEq(target) => Instruction::RefCastDescEq(flipped(target)),
         Instruction::Br(label) => Instruction::BrIf(label),
         Instruction::BrIf(label) => Instruction::Br(label),
+        Instruction::I32Const(number) => Instruction::I64Const(i64::from(number)),
+        Instruction::I64Const(number) => Instruction::F64Const(number as u64),
+        Instruction::F32Const(bits) => Instruction::I32Const(bits as i32),
+        Instruction::F64Const(bits) => Instruction::F32Const(bits as u32),
+        // The next code; after the last it is none.
+        Instruction::Numeric(code) => Instruction::Numeric(code + 1),
         Instruction::BranchingCast(mut cast) => {
             cast.fail = !cast.fail;
             Instruction::BranchingCast(cast)
@@ -218,7 +236,11 @@ pub fn random_instruction(random: &mut Random, types: usize) -> Instruction {
     let number = random.below(types + 1) as u32;
     let small = random.below(3) as u32;
     let target = Reference { nullable: random.one_in(2), heap: random_heap(random, types) };
+    let kind = random.pick(&KINDS);
+    let code = TABLE[random.below(TABLE.len())].code;
     let choices = [
+        constant(random, kind),
+        Instruction::Numeric(code),
         Instruction::Unreachable,
         Instruction::Nop,
         Instruction::Block(None),
