@@ -56,7 +56,7 @@ accepted: exit status 0.",
         does: "make bytes of WebAssembly's text; judges nothing",
         page: "\
 TEXT is the name of a file, - for standard input, or the text itself: it begins with a parenthesis or has white space in it. A section is a list of \
-(rec ..) and (type ..), a body a (func ..) with flat or folded instructions. The bytes are written in hex, or as they are with --raw.",
+(rec ..) and (type ..), a body a (func ..) with flat or folded instructions. A float is decimal or hex digits, inf, nan, or nan:0x and its payload. The bytes are written in hex, or as they are with --raw.",
     },
     Command {
         name: "lines",

@@ -2,7 +2,7 @@
 
 use super::reader::{Fault, Reader, NOT_LISTED};
 use super::types;
-use crate::syntax::{BranchingCast, Instruction, New, Reference, ValueType, PLAIN};
+use crate::syntax::{BranchingCast, Instruction, New, Numeric, Reference, ValueType, PLAIN};
 
 const LABEL: &str = "a label";
 const LOCAL: &str = "a local's number";
@@ -15,6 +15,9 @@ pub fn instruction(reader: &mut Reader) -> Result<Instruction, Fault> {
     if let Some(row) = PLAIN.iter().find(|row| row.1 == code) {
         return Ok(Instruction::Plain(row.0));
     }
+    if let Some(numeric) = Numeric::of_code(code) {
+        return Ok(Instruction::Numeric(numeric));
+    }
     Ok(match code {
         0x02 => Instruction::Block(block_type(reader)?),
         0x03 => Instruction::Loop(block_type(reader)?),
@@ -24,6 +27,9 @@ pub fn instruction(reader: &mut Reader) -> Result<Instruction, Fault> {
         0x21 => Instruction::LocalSet(reader.unsigned(LOCAL)?),
         0x22 => Instruction::LocalTee(reader.unsigned(LOCAL)?),
         0x41 => Instruction::Constant(reader.signed(32, "a constant")? as i32),
+        0x42 => Instruction::Constant64(reader.signed(64, "a constant")?),
+        0x43 => Instruction::Float32(u32::from_le_bytes(reader.bytes("a float")?)),
+        0x44 => Instruction::Float64(u64::from_le_bytes(reader.bytes("a float")?)),
         0xD0 => Instruction::Null(types::heap(reader)?),
         0xFB => after_fb(reader)?,
         _ => {

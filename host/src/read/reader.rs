@@ -1,4 +1,4 @@
-//! Bytes and LEB128 numbers, one after the other.
+//! Bytes, LEB128 numbers and floats, one after the other.
 
 /// Where reading breaks off, and why.
 #[derive(Clone, Debug)]
@@ -28,8 +28,8 @@ pub struct Reader<'a> {
     pub padded: bool,
 }
 
-/// The greatest length of a number of 32 or 33 bits.
-const LEB_BYTES: usize = 5;
+/// The bits of an unsigned number.
+const UNSIGNED_BITS: u32 = 32;
 
 impl<'a> Reader<'a> {
     pub fn new(bytes: &'a [u8]) -> Reader<'a> {
@@ -58,7 +58,7 @@ impl<'a> Reader<'a> {
 
     pub fn unsigned(&mut self, what: &str) -> Result<u32, Fault> {
         let start = self.place;
-        let (value, length) = self.leb(what)?;
+        let (value, length) = self.leb(UNSIGNED_BITS, what)?;
         self.padded |= length > 1 && value >> (7 * (length - 1)) == 0;
         u32::try_from(value).map_err(|_| out_of_range(start, what, "32 bits"))
     }
@@ -66,13 +66,25 @@ impl<'a> Reader<'a> {
     /// A number of so many bits with a sign.
     pub fn signed(&mut self, bits: u32, what: &str) -> Result<i64, Fault> {
         let start = self.place;
-        let (value, length) = self.leb(what)?;
+        let (value, length) = self.leb(bits, what)?;
         let width = 7 * length as u32;
-        let value = (value << (64 - width)) as i64 >> (64 - width);
+        let value = (value << (128 - width)) as i128 >> (128 - width);
         self.padded |= length > 1 && fits(value, width - 7);
         match fits(value, bits) {
-            true => Ok(value),
+            true => Ok(value as i64),
             false => Err(out_of_range(start, what, &format!("{bits} bits with a sign"))),
+        }
+    }
+
+    /// So many bytes that are one item.
+    pub fn bytes<const COUNT: usize>(&mut self, what: &str) -> Result<[u8; COUNT], Fault> {
+        let start = self.place;
+        match self.bytes[start..].first_chunk() {
+            Some(&bytes) => {
+                self.place += COUNT;
+                Ok(bytes)
+            }
+            None => Err(bytes_end(start, self.bytes.len() - start, what)),
         }
     }
 
@@ -89,31 +101,35 @@ impl<'a> Reader<'a> {
         }
     }
 
-    /// The number's bits, and how many bytes they stood in.
-    fn leb(&mut self, what: &str) -> Result<(u64, usize), Fault> {
+    /// The number's bits, and how many bytes they stood in; of so many bits, seven a byte.
+    fn leb(&mut self, bits: u32, what: &str) -> Result<(u128, usize), Fault> {
         let start = self.place;
+        let most = bits.div_ceil(7) as usize;
         let mut value = 0;
-        for index in 0..LEB_BYTES {
-            let Some(byte) = self.peek() else {
-                let why = match index {
-                    0 => format!("the bytes end where {what} has to begin"),
-                    _ => format!("the bytes end inside {what}"),
-                };
-                return Err(Fault::new(BYTES_END, start, why));
-            };
+        for index in 0..most {
+            let byte = self.peek().ok_or_else(|| bytes_end(start, index, what))?;
             self.place += 1;
-            value |= u64::from(byte & 0x7F) << (7 * index);
+            value |= u128::from(byte & 0x7F) << (7 * index);
             if byte < 0x80 {
                 return Ok((value, index + 1));
             }
         }
-        let why = format!("{what} goes on after {LEB_BYTES} bytes, the most that a number has");
+        let why = format!("{what} goes on after {most} bytes, the most that it has");
         Err(Fault::new(NUMBER_TOO_LONG, start, why))
     }
 }
 
-fn fits(value: i64, bits: u32) -> bool {
-    let half = 1i64 << (bits - 1);
+/// Behind so many bytes of the item.
+fn bytes_end(start: usize, there: usize, what: &str) -> Fault {
+    let why = match there {
+        0 => format!("the bytes end where {what} has to begin"),
+        _ => format!("the bytes end inside {what}"),
+    };
+    Fault::new(BYTES_END, start, why)
+}
+
+fn fits(value: i128, bits: u32) -> bool {
+    let half = 1i128 << (bits - 1);
     (-half..half).contains(&value)
 }
 

@@ -58,6 +58,7 @@ impl Check<'_> {
                 [any].into_iter().chain(self.descriptor_for(target)).collect()
             }
             Instruction::BranchingCast(cast) => self.taken_by_cast(&cast),
+            Instruction::Numeric(numeric) => numeric.operands(),
             _ => Vec::new(),
         };
         values.into_iter().map(Wanted::Of).collect()
@@ -92,6 +93,10 @@ impl Check<'_> {
             Instruction::Plain(Plain::IsNull | Plain::Equal)
             | Instruction::Constant(_)
             | Instruction::Test(_) => vec![ValueType::I32],
+            Instruction::Constant64(_) => vec![ValueType::I64],
+            Instruction::Float32(_) => vec![ValueType::F32],
+            Instruction::Float64(_) => vec![ValueType::F64],
+            Instruction::Numeric(numeric) => vec![numeric.result()],
             Instruction::BrIf(label) => self.label_types(label),
             Instruction::LocalGet(number) => vec![self.locals[number as usize]],
             Instruction::Null(heap) => vec![ValueType::nullable(heap)],

@@ -1,6 +1,6 @@
 //! Instructions, and the parts of a body.
 
-use super::{Heap, Reference, ValueType};
+use super::{float, Heap, Numeric, Reference, ValueType};
 use std::fmt;
 
 #[derive(Clone, Copy, Debug, PartialEq, Eq)]
@@ -15,6 +15,11 @@ pub enum Instruction {
     LocalSet(u32),
     LocalTee(u32),
     Constant(i32),
+    Constant64(i64),
+    /// A float by its bits.
+    Float32(u32),
+    Float64(u64),
+    Numeric(Numeric),
     Null(Heap),
     New(New),
     GetField(u32, u32),
@@ -125,6 +130,10 @@ impl Instruction {
             Instruction::LocalSet(_) => "local.set",
             Instruction::LocalTee(_) => "local.tee",
             Instruction::Constant(_) => "i32.const",
+            Instruction::Constant64(_) => "i64.const",
+            Instruction::Float32(_) => "f32.const",
+            Instruction::Float64(_) => "f64.const",
+            Instruction::Numeric(numeric) => numeric.name(),
             Instruction::Null(_) => "ref.null",
             Instruction::New(New { default: false, by_descriptor: false, .. }) => "struct.new",
             Instruction::New(New { default: true, by_descriptor: false, .. }) => {
@@ -167,11 +176,14 @@ impl fmt::Display for Instruction {
     fn fmt(&self, to: &mut fmt::Formatter) -> fmt::Result {
         write!(to, "{}", self.name())?;
         match self {
-            Instruction::Plain(_) => Ok(()),
+            Instruction::Plain(_) | Instruction::Numeric(_) => Ok(()),
             Instruction::Block(value) | Instruction::Loop(value) => {
                 write!(to, "{}", result(value))
             }
             Instruction::Constant(value) => write!(to, " {value}"),
+            Instruction::Constant64(value) => write!(to, " {value}"),
+            Instruction::Float32(bits) => write!(to, " {}", float::F32.text(u64::from(*bits))),
+            Instruction::Float64(bits) => write!(to, " {}", float::F64.text(*bits)),
             Instruction::Null(heap) => write!(to, " {heap}"),
             Instruction::Br(number)
             | Instruction::BrIf(number)

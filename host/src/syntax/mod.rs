@@ -1,8 +1,11 @@
 //! What a section and a body say, in document 01's names, and its words in WebAssembly's text. Nothing here is judged.
 
+pub mod float;
 mod instruction;
+mod numeric;
 
 pub use instruction::{BranchingCast, Instruction, Item, New, Plain, PLAIN};
+pub use numeric::Numeric;
 
 use std::fmt;
 use std::ops::Range;

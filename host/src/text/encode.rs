@@ -88,6 +88,19 @@ pub fn instruction(to: &mut Vec<u8>, instruction: &Instruction) {
             to.push(0x41);
             signed(to, i64::from(number));
         }
+        Instruction::Constant64(number) => {
+            to.push(0x42);
+            signed(to, number);
+        }
+        Instruction::Float32(bits) => {
+            to.push(0x43);
+            to.extend(bits.to_le_bytes());
+        }
+        Instruction::Float64(bits) => {
+            to.push(0x44);
+            to.extend(bits.to_le_bytes());
+        }
+        Instruction::Numeric(numeric) => to.push(numeric.code()),
         Instruction::Null(of) => {
             to.push(0xD0);
             heap(to, of);

@@ -3,7 +3,7 @@
 use super::assemble::Types;
 use super::encode::{self, Written};
 use super::tokens::{Fault, Words};
-use crate::syntax::{BranchingCast, Instruction, New, Plain, PLAIN};
+use crate::syntax::{float, BranchingCast, Instruction, New, Numeric, Plain, PLAIN};
 use std::collections::HashMap;
 
 /// Folded instructions inside one another.
@@ -206,13 +206,19 @@ impl<'w, 'a> Code<'w, 'a> {
         if let Some(row) = PLAIN.iter().find(|row| row.2 == name && row.0 != Plain::End) {
             return Ok(Instruction::Plain(row.0));
         }
+        if let Some(numeric) = Numeric::of_name(name) {
+            return Ok(Instruction::Numeric(numeric));
+        }
         Ok(match name {
             "br" => Instruction::Br(self.label()?),
             "br_if" => Instruction::BrIf(self.label()?),
             "local.get" => Instruction::LocalGet(self.local()?),
             "local.set" => Instruction::LocalSet(self.local()?),
             "local.tee" => Instruction::LocalTee(self.local()?),
-            "i32.const" => Instruction::Constant(self.words.constant()?),
+            "i32.const" => Instruction::Constant(self.words.constant(32)? as i32),
+            "i64.const" => Instruction::Constant64(self.words.constant(64)?),
+            "f32.const" => Instruction::Float32(self.words.float(&float::F32)? as u32),
+            "f64.const" => Instruction::Float64(self.words.float(&float::F64)?),
             "ref.null" => Instruction::Null(self.types.heap(self.words)?),
             "struct.new" => self.new_struct(false, false)?,
             "struct.new_default" => self.new_struct(true, false)?,

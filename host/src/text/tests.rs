@@ -108,6 +108,48 @@ fn forms_of_bodies() {
     assert_eq!(body_of(text), digits(body));
 }
 
+#[test]
+fn constants_have_their_text() {
+    let cases = [
+        ("42 80 80 80 80 80 80 80 80 80 7F", "i64.const -9223372036854775808"),
+        ("42 FF FF FF FF FF FF FF FF FF 00", "i64.const 9223372036854775807"),
+        ("43 01 00 C0 FF", "f32.const -nan:0x400001"),
+        ("43 01 00 80 7F", "f32.const nan:0x1"),
+        ("43 00 00 00 80", "f32.const -0.0"),
+        ("43 FF FF 7F 7F", "f32.const 3.4028235e38"),
+        ("44 00 00 00 00 00 00 F8 7F", "f64.const nan"),
+        ("44 00 00 00 00 00 00 F0 FF", "f64.const -inf"),
+        ("44 9A 99 99 99 99 99 B9 3F", "f64.const 0.1"),
+    ];
+    for (hex, text) in cases {
+        let body = digits(&format!("00 {hex} 1A 0B"));
+        let printed = format!("(func\n  {text}\n  drop\n)\n");
+        assert_eq!(print_body(&body).expect("it can be read"), printed);
+        assert_eq!(body_of(&printed), body, "{text}");
+    }
+    assert_eq!(body_of("i64.const 0xFFFF_FFFF_FFFF_FFFF"), digits("00 42 7F 0B"));
+    assert_eq!(body_of("f32.const 0x1.8p+1 (;=3;)"), digits("00 43 00 00 40 40 0B"));
+    assert_eq!(body_of("f64.const 1"), digits("00 44 00 00 00 00 00 00 F0 3F 0B"));
+    assert!(assemble_body("f32.const 1e39").is_err());
+    assert!(assemble_body("i64.const 18446744073709551616").is_err());
+    assert!(assemble_body("i64.const -9223372036854775809").is_err());
+    assert!(assemble_body("i32.const -2147483649").is_err());
+}
+
+/// Each by the name that the plain checker's table has for it.
+#[test]
+fn numeric_codes_have_their_names() {
+    for code in 0x45..=0xC4 {
+        let name = plain::numeric::row_of_code(code).expect("a numeric code").name;
+        let body = [0x00, code, 0x0B];
+        assert_eq!(print_body(&body).expect("it can be read"), format!("(func\n  {name}\n)\n"));
+        assert_eq!(body_of(name), body, "{name}");
+    }
+    for code in [0x40, 0xC5, 0xFC] {
+        assert!(print_body(&[0x00, code, 0x0B]).is_err());
+    }
+}
+
 /// What a person writes: names, comments, folded instructions, shorthands.
 #[test]
 fn text_by_hand() {
@@ -237,6 +279,12 @@ fn any_words_are_answered() {
         "(block",
         "nop",
         "i32.const",
+        "i64.const",
+        "f32.const",
+        "f64.const",
+        "nan:0x1",
+        "0x1p3",
+        "i64.eqz",
         "br_on_cast",
         "(;",
         ";)",

@@ -1,5 +1,6 @@
 //! Text as parentheses and words, with where each stands.
 
+use crate::syntax::float::Width;
 use std::fmt;
 
 #[derive(Debug)]
@@ -183,30 +184,48 @@ impl<'a> Words<'a> {
         Ok(number)
     }
 
-    pub fn constant(&mut self) -> Result<i32, Fault> {
-        let number = self.peek().and_then(read_constant);
-        let number = number.ok_or_else(|| self.unexpected("a number of 32 bits"))?;
+    /// An integer of so many bits; one above the greatest with a sign has the same bits as a negative one.
+    pub fn constant(&mut self, bits: u32) -> Result<i64, Fault> {
+        let number = self.peek().and_then(|text| read_constant(text, bits));
+        let number = number.ok_or_else(|| self.unexpected(&format!("a number of {bits} bits")))?;
         self.at += 1;
         Ok(number)
     }
+
+    /// The bits of a float.
+    pub fn float(&mut self, width: &Width) -> Result<u64, Fault> {
+        let bits = self.peek().and_then(|text| width.read(text));
+        let bits = bits.ok_or_else(|| self.unexpected("a float"))?;
+        self.at += 1;
+        Ok(bits)
+    }
+}
+
+fn read_unsigned(text: &str) -> Option<u32> {
+    read_digits(text).and_then(|number| u32::try_from(number).ok())
 }
 
 /// Decimal, or hex digits behind 0x; an underscore may stand between digits.
-fn read_unsigned(text: &str) -> Option<u32> {
+fn read_digits(text: &str) -> Option<u64> {
     if !text.starts_with(|first: char| first.is_ascii_digit()) {
         return None;
     }
     let digits = text.replace('_', "");
     match digits.strip_prefix("0x") {
-        Some(hex) => u32::from_str_radix(hex, 16).ok(),
+        Some(hex) => u64::from_str_radix(hex, 16).ok(),
         None => digits.parse().ok(),
     }
 }
 
-/// From -2^31 to 2^32 - 1; what is above 2^31 - 1 has the same bits as a negative number.
-fn read_constant(text: &str) -> Option<i32> {
-    match text.strip_prefix('-') {
-        Some(digits) => i32::try_from(-i64::from(read_unsigned(digits)?)).ok(),
-        None => read_unsigned(text.strip_prefix('+').unwrap_or(text)).map(|it| it as i32),
-    }
+/// Of 32 bits from -2^31 to 2^32 - 1, of 64 likewise.
+fn read_constant(text: &str, bits: u32) -> Option<i64> {
+    let (negative, digits) = match text.strip_prefix('-') {
+        Some(digits) => (true, digits),
+        None => (false, text.strip_prefix('+').unwrap_or(text)),
+    };
+    let number = i128::from(read_digits(digits)?);
+    let number = if negative { -number } else { number };
+    let within = (-(1i128 << (bits - 1))..1i128 << bits).contains(&number);
+    // The low bits, with the sign that they have at this width.
+    within.then_some(((number << (128 - bits)) >> (128 - bits)) as i64)
 }
