@@ -12,6 +12,8 @@
  *      call is handed.
  *   4. Until the call returns nobody else writes what it was handed, or reads what it was lent for writing. Calls with
  *      buffers of their own may run at the same time.
+ *   5. For chelbugan_try_run the processor's float mode is its default, as a C program starts with it: rounding to nearest,
+ *      subnormal numbers kept. Floats are computed by the processor's own instructions.
  * Lent memory may hold anything beforehand, and may be lent again as it is.
  *
  * ANSWERS. Each call but chelbugan_version returns what the answer is, CHELBUGAN_NO or a yes, and writes the answer's values
@@ -87,12 +89,13 @@ extern "C" {
 #define CHELBUGAN_REFUSAL_VALUES_LEFT 28           /* values left at an end; instruction */
 #define CHELBUGAN_REFUSAL_NO_DEFAULT 29            /* no default; instruction, or 0 for a run's parameters */
 
-/* The traps: 41 to 45. A trap's place is that of the trapping instruction. */
+/* The traps: 41 to 46. A trap's place is that of the trapping instruction. */
 #define CHELBUGAN_TRAP_UNREACHABLE 41
 #define CHELBUGAN_TRAP_NULL 42            /* null used by get, set, as_non_null or ref.get_desc */
 #define CHELBUGAN_TRAP_NULL_DESCRIPTOR 43
 #define CHELBUGAN_TRAP_CAST 44            /* a cast failed */
 #define CHELBUGAN_TRAP_NO_ROOM 45         /* no object or too few cells are left */
+#define CHELBUGAN_TRAP_OTHER_NUMERIC 46   /* a numeric code that the trial run does not do */
 
 /* Sizes of document 01. What goes beyond is refusal 4; of objects and cells it is trap 45. */
 #define CHELBUGAN_SECTION_BYTES 32768
@@ -188,8 +191,8 @@ extern "C" {
 #define CHELBUGAN_KIND_UNSET 0  /* a local that holds no value; bits 0 */
 #define CHELBUGAN_KIND_I32 1    /* bits below 2 to the 32: (int32_t)(uint32_t)bits */
 #define CHELBUGAN_KIND_I64 2    /* (int64_t)bits */
-#define CHELBUGAN_KIND_F32 3    /* bits below 2 to the 32 */
-#define CHELBUGAN_KIND_F64 4
+#define CHELBUGAN_KIND_F32 3    /* bits below 2 to the 32: those of the float, of a NaN its sign and payload too */
+#define CHELBUGAN_KIND_F64 4    /* the 64 bits of the float, the same */
 #define CHELBUGAN_KIND_NULL 5   /* bits 0 */
 #define CHELBUGAN_KIND_OBJECT 6 /* the object's number */
 

@@ -73,7 +73,7 @@ fn operands_are_the_plain_checkers() {
 #[test]
 fn traps_have_a_cause() {
     let mut loader = Loader::new();
-    let mut seen = [0; 5];
+    let mut seen = [0; 6];
     for line in generate::requests(51, 6_000, true).filter(|line| line.starts_with("R ")) {
         let parts: Vec<&str> = line.split(' ').collect();
         let number = parts[2].parse().expect("a number");
@@ -87,7 +87,8 @@ fn traps_have_a_cause() {
             seen[number as usize - 41] += 1;
         }
     }
-    assert!(seen[..4].iter().all(|&count| count > 10), "{seen:?}");
+    let often = [41, 42, 43, 44, 46].iter().all(|trap| seen[trap - 41] > 10);
+    assert!(often, "{seen:?}");
 }
 
 fn operand(operand: &plain::frames::Operand) -> String {

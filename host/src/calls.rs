@@ -393,7 +393,7 @@ mod tests {
         for kind in [4, 5, u64::MAX] {
             assert_eq!(ended(kind, words), Err(Refusal::unknown(kind)));
         }
-        for number in [0, 40, 46, u64::MAX] {
+        for number in [0, 40, 47, u64::MAX] {
             assert_eq!(ended(TRAP, [number, 0, 0, 0]), Err(Refusal::unknown(TRAP)));
         }
     }

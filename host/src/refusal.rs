@@ -138,6 +138,9 @@ numbered! {
     Cast = 44, "cast failed";
     /// No object is left, or too few cells.
     NoRoom = 45, "no room on the heap";
+    /// The add-on was accepted; the run does add, sub, eqz and comparisons of integers, and comparisons, neg, add, sub, mul
+    /// and div of floats.
+    OtherNumeric = 46, "a numeric code that the trial run does not do";
 }
 
 impl Trap {
@@ -171,6 +174,7 @@ mod tests {
     #[test]
     fn traps_have_their_numbers() {
         assert_eq!(Trap::of_number(43), Some(Trap::NullDescriptor));
-        assert_eq!([40, 46].map(Trap::of_number), [None, None]);
+        assert_eq!(Trap::of_number(46), Some(Trap::OtherNumeric));
+        assert_eq!([40, 47].map(Trap::of_number), [None, None]);
     }
 }

@@ -91,6 +91,15 @@ fn traps_are_explained() {
             "fb 16 62 00",
             "ref.cast (ref (exact 0))",
         ),
+        (
+            V,
+            "00 43 01 00 C0 FF 91 1A 0B",
+            "0",
+            ("46", 6, 2),
+            "f32.sqrt is a numeric code that the trial run does not do",
+            "91",
+            "f32.sqrt",
+        ),
     ];
     for (section, body, number, (trap, place, steps), words, marked, instruction) in cases {
         let said = yes(&["run", section, body, number, "100"]);
@@ -264,4 +273,23 @@ fn first_line(answer: &str) -> (i32, String, usize) {
         ["no", number, ..] => (1, format!("no: refusal {number} at "), 3),
         _ => panic!("{answer} is no answer of a run"),
     }
+}
+
+/// Floats are told as their text has them: a NaN with its sign and payload.
+#[test]
+fn numbers_are_told() {
+    let section = "01 60 00 04 7E 7D 7C 7D";
+    let body = "00 42 80 80 80 80 80 80 80 80 80 7F 43 01 00 C0 FF 44 9A 99 99 99 99 99 B9 3F 43 00 00 00 80 0B";
+    let said = yes(&["run", section, body, "0", "9"]);
+    let results = "i64 -9223372036854775808, f32 -nan:0x400001, f64 0.1, f32 -0.0";
+    assert!(said.starts_with("done after 5 steps, results: "), "{said}");
+    for result in results.split(", ") {
+        assert!(said.contains(result), "{said}");
+    }
+    let said = yes(&["run", "--json", section, body, "0", "9"]);
+    let values =
+        r#"["i64:-9223372036854775808","f32:ffc00001","f64:3fb999999999999a","f32:80000000"]"#;
+    assert!(said.contains(&format!("\"results\":{values}")), "{said}");
+    let said = yes(&["dump", "body", body]);
+    assert!(said.contains("f32.const -nan:0x400001"), "{said}");
 }

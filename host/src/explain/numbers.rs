@@ -10,6 +10,10 @@ const V: &str = "01 60 00 00";
 /// Document 01's F1: a struct, its descriptor, and a function that gives an exact reference to the struct.
 const F1: &str = "02 4E 02 4D 01 5F 00 4C 00 5F 00 60 00 01 64 62 00";
 
+/// Functions of nothing to a number.
+const TO_F32: &str = "01 60 00 01 7D";
+const TO_I64: &str = "01 60 00 01 7E";
+
 /// A struct of no fields, and a function type of nothing to nothing.
 const S: &str = "02 5F 00 60 00 00";
 
@@ -17,37 +21,55 @@ pub const ENTRIES: &[Entry] = &[
     Entry {
         number: 1,
         title: "bytes end inside an item",
-        means: "The input is over before the number or the code that has begun, or has to begin, is whole.",
+        means: "The input is over before the number, the float or the code that has begun, or has to begin, is whole.",
         place: "Byte: the item's first; where the byte is missing, the input's length.",
-        rule: "An item is one LEB number or one code byte. Places are byte offsets; a missing byte lies at the input's length.",
-        examples: &[Example {
-            broken: Section(""),
-            place: 0,
-            why: "no bytes at all: the count of groups is missing",
-            mended: Section("00"),
-            mend: "a count of groups, 0",
-        }],
+        rule: "An item is one LEB number or one code byte, and a float's bytes are one item. Places are byte offsets; a missing byte lies at the input's length.",
+        examples: &[
+            Example {
+                broken: Section(""),
+                place: 0,
+                why: "no bytes at all: the count of groups is missing",
+                mended: Section("00"),
+                mend: "a count of groups, 0",
+            },
+            Example {
+                broken: Body(TO_F32, "00 43 00 00 80", 0),
+                place: 2,
+                why: "three of the four bytes of f32.const",
+                mended: Body(TO_F32, "00 43 00 00 80 3F 0B", 0),
+                mend: "all four, and the end: f32.const 1.0",
+            },
+        ],
     },
     Entry {
         number: 2,
         title: "LEB too long or out of range",
-        means: "A number stands in more than five bytes, or does not fit the 32 bits (33 with a sign for a heap type) that it may have.",
+        means: "A number stands in more than five bytes (ten for i64.const), or does not fit the 32 bits (33 with a sign for a heap type, 64 with a sign for i64.const) that it may have.",
         place: "Byte: the number's first.",
         rule: "Numbers are LEB128 as the core standard has them; padding within the greatest length is allowed.",
-        examples: &[Example {
-            broken: Section("80 80 80 80 80"),
-            place: 0,
-            why: "the fifth byte says that a sixth follows",
-            mended: Section("80 80 80 80 00"),
-            mend: "the fifth byte ends the number: 0 groups, padded",
-        }],
+        examples: &[
+            Example {
+                broken: Section("80 80 80 80 80"),
+                place: 0,
+                why: "the fifth byte says that a sixth follows",
+                mended: Section("80 80 80 80 00"),
+                mend: "the fifth byte ends the number: 0 groups, padded",
+            },
+            Example {
+                broken: Body(TO_I64, "00 42 80 80 80 80 80 80 80 80 80 01 0B", 0),
+                place: 2,
+                why: "i64.const of 2 to the 63, one more than the greatest",
+                mended: Body(TO_I64, "00 42 80 80 80 80 80 80 80 80 80 7F 0B", 0),
+                mend: "the least, minus 2 to the 63",
+            },
+        ],
     },
     Entry {
         number: 3,
         title: "byte or FB number not listed, negative number as type",
         means: "A byte stands where a form, a type, an instruction or a flag has to, and is none; or a type number is negative.",
         place: "Byte: the item's first; of an instruction after FB, the number's.",
-        rule: "Byte or FB number not listed, negative number as type. Heap: 62 x (exact x), an abstract code, or a type number as a non-negative s33.",
+        rule: "Byte or FB number not listed, negative number as type. Listed are also i64.const (42), f32.const (43), f64.const (44) and the numeric codes 45 to C4. Heap: 62 x (exact x), an abstract code, or a type number as a non-negative s33.",
         examples: &[
             Example {
                 broken: Section("01 00"),
@@ -62,6 +84,13 @@ pub const ENTRIES: &[Entry] = &[
                 why: "04 begins no instruction that the loader reads",
                 mended: Body(V, "00 01 0B", 0),
                 mend: "01, nop",
+            },
+            Example {
+                broken: Body(V, "00 42 00 C5 1A 0B", 0),
+                place: 3,
+                why: "the numeric codes end at C4",
+                mended: Body(V, "00 42 00 C4 1A 0B", 0),
+                mend: "C4, i64.extend32_s",
             },
         ],
     },
@@ -278,6 +307,13 @@ pub const ENTRIES: &[Entry] = &[
                 mended: Body(F1, "00 D0 62 01 FB 20 00 0B", 2),
                 mend: "ref.null (exact 1)",
             },
+            Example {
+                broken: Body(V, "00 42 01 41 01 6A 1A 0B", 0),
+                place: 5,
+                why: "i32.add takes two i32, and the lower one is an i64",
+                mended: Body(V, "00 41 01 41 01 6A 1A 0B", 0),
+                mend: "i32.const 1 twice",
+            },
         ],
     },
     Entry {
@@ -478,6 +514,20 @@ pub const ENTRIES: &[Entry] = &[
             why: "a loop that makes objects for ever; the 1,025th does not fit",
             mended: Run(S, "00 FB 00 00 1A 0B", 1, 1_000_000),
             mend: "one object, and no loop",
+        }],
+    },
+    Entry {
+        number: 46,
+        title: "a numeric code that the trial run does not do",
+        means: "The run came to a numeric code that the loader reads and checks but does not compute: a multiplication or division of integers, a shift, a rounding, a conversion and the like. The operands stay.",
+        place: "Instruction: the offset of its first byte in the body.",
+        rule: "The run does add, sub, eqz and comparisons of integers, and comparisons, neg, add, sub, mul and div of floats. Another numeric code stops the run with new trap 46.",
+        examples: &[Example {
+            broken: Run(V, "00 41 06 41 07 6C 1A 0B", 0, 10),
+            place: 5,
+            why: "i32.mul",
+            mended: Run(V, "00 41 06 41 07 6A 1A 0B", 0, 10),
+            mend: "i32.add, which the run does",
         }],
     },
 ];

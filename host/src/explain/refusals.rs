@@ -61,7 +61,7 @@ pub fn title(number: u64) -> &'static str {
 }
 
 /// The numbers in words.
-pub const NUMBERS: &str = "refusals 1 to 14, 20 to 25 and 27 to 29, and traps 41 to 45";
+pub const NUMBERS: &str = "refusals 1 to 14, 20 to 25 and 27 to 29, and traps 41 to 46";
 
 impl Case {
     /// As a person asks it.
@@ -131,7 +131,7 @@ made by `chelbugan explain --page`, and a test runs every example and every mend
 
 A refusal has a number and a place. The place is a byte's offset, from 0; or a type's number, from 0; or 0 where neither is \
 meant. Of an instruction it is the first byte. The numbers are 1 to 14, 20 to 25 and 27 to 29; there is no 15 to 19 and no 26. \
-Traps are 41 to 45: the add-on was accepted, and its trial run stopped there.
+Traps are 41 to 46: the add-on was accepted, and its trial run stopped there.
 
 | No. | When | Place |
 |---|---|---|
@@ -227,7 +227,7 @@ mod tests {
     #[test]
     fn the_numbers_are_document_01s() {
         let numbers: Vec<u64> = ENTRIES.iter().map(|entry| entry.number).collect();
-        let wanted: Vec<u64> = (1..=14).chain(20..=25).chain(27..=29).chain(41..=45).collect();
+        let wanted: Vec<u64> = (1..=14).chain(20..=25).chain(27..=29).chain(41..=46).collect();
         assert_eq!(numbers, wanted);
     }
 

@@ -1,6 +1,7 @@
 //! The state of a trial run, part by part: place, heap, locals, operands, open blocks.
 
 use super::{counted, stacked};
+use crate::syntax::float;
 use chelbugan::state::{Block, Object, Value};
 use chelbugan::State;
 
@@ -61,8 +62,8 @@ fn value_text(value: Value) -> String {
     match value {
         Value::I32(number) => format!("i32 {number}"),
         Value::I64(number) => format!("i64 {number}"),
-        Value::F32(bits) => format!("f32 {:?}", f32::from_bits(bits)),
-        Value::F64(bits) => format!("f64 {:?}", f64::from_bits(bits)),
+        Value::F32(bits) => format!("f32 {}", float::F32.text(u64::from(bits))),
+        Value::F64(bits) => format!("f64 {}", float::F64.text(bits)),
         Value::Null => "null".to_string(),
         Value::Object(number) => format!("object {number}"),
     }

@@ -22,6 +22,7 @@ pub fn cause(body: &[u8], number: u64, place: usize, state: &State) -> Option<St
         43 => Some(format!("{name} found null as the descriptor")),
         44 => failed_cast(&instruction, state),
         45 => Some(no_room(&state.objects())),
+        46 => Some(format!("{name} is a numeric code that the trial run does not do")),
         _ => None,
     }
 }
