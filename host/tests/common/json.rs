@@ -174,6 +174,10 @@ fn broken(value: &Json, name: &str, rule: &Json, schema: &Json, root: &Json) -> 
             Json::List(items) => items.iter().find_map(|item| fault(item, schema, root)),
             _ => None,
         },
+        ("pattern", Json::Text(pattern)) => match value {
+            Json::Text(text) if !fits(text, pattern) => Some(format!("{text} is no {pattern}")),
+            _ => None,
+        },
         ("minimum" | "title" | "$schema" | "$defs", _) => None,
         _ => panic!("{name} is not read here"),
     }
@@ -187,5 +191,25 @@ fn is(value: &Json, kind: &str) -> bool {
         Json::Text(_) => kind == "string",
         Json::List(_) => kind == "array",
         Json::Object(_) => kind == "object",
+    }
+}
+
+/// Whether a text is what the schema's patterns say: letters before a colon, a minus that may be missing, and digits, decimal
+/// ones or so many in hex.
+fn fits(text: &str, pattern: &str) -> bool {
+    let (word, rest) = pattern[1..pattern.len() - 1].split_once(':').expect("a word and a colon");
+    let Some(number) = text.strip_prefix(word).and_then(|text| text.strip_prefix(':')) else {
+        return false;
+    };
+    let (number, rest) = match rest.strip_prefix("-?") {
+        Some(rest) => (number.strip_prefix('-').unwrap_or(number), rest),
+        None => (number, rest),
+    };
+    match rest.strip_prefix("[0-9a-f]") {
+        Some(count) => {
+            let count: usize = count.trim_matches(['{', '}']).parse().expect("a count");
+            number.len() == count && number.chars().all(|digit| digit.is_digit(16))
+        }
+        None => !number.is_empty() && number.chars().all(|digit| digit.is_ascii_digit()),
     }
 }
