@@ -12,7 +12,7 @@ const COUNT: usize = 16_000;
 /// What a section is refused by, and what a body is refused by besides; 14 is for tests/memory.rs.
 const OF_SECTIONS: [u64; 13] = [1, 2, 3, 4, 5, 6, 7, 8, 9, 10, 11, 12, 13];
 const OF_BODIES: [u64; 9] = [20, 21, 22, 23, 24, 25, 27, 28, 29];
-const TRAPS: [u64; 5] = [41, 42, 43, 44, 45];
+const TRAPS: [u64; 6] = [41, 42, 43, 44, 45, 46];
 
 #[test]
 fn the_library_and_the_plain_checker_agree() {
@@ -159,11 +159,11 @@ fn section() -> Vec<u8> {
     section
 }
 
-/// A body of type 5 with every instruction, and how many it has.
+/// A body of type 5 with every instruction, of the numeric codes some, and how many it has.
 fn body() -> (Vec<u8>, u64) {
     // Locals: 0 (ref null func) and 1 (ref 0) are parameters, 2 an i32, 3 a (ref 1) that has no default.
     let locals: &[u8] = &[0x02, 0x01, 0x7F, 0x01, 0x64, 0x01];
-    let instructions: [&[u8]; 67] = [
+    let instructions: [&[u8]; 79] = [
         // a descriptor, and an object with it
         &[0xFB, 0x00, 0x01],
         &[0x21, 0x03],
@@ -224,6 +224,19 @@ fn body() -> (Vec<u8>, u64) {
         &[0x20, 0x03],
         &[0xFB, 0x26, 0x00, 0x00, 0x6B, 0x00],
         &[0x0B],
+        &[0x1A],
+        // numbers: constants of every kind, done and not done
+        &[0x42, 0x80, 0x80, 0x80, 0x80, 0x80, 0x80, 0x80, 0x80, 0x80, 0x7F],
+        &[0x42, 0x7F],
+        &[0x7C],
+        &[0x50],
+        &[0x1A],
+        &[0x43, 0x01, 0x00, 0xC0, 0xFF],
+        &[0x43, 0x00, 0x00, 0x80, 0x3F],
+        &[0x95],
+        &[0xBB],
+        &[0x44, 0x00, 0x00, 0x00, 0x00, 0x00, 0x00, 0xF0, 0x3F],
+        &[0x66],
         &[0x1A],
         // a loop that is left, and the function's end
         &[0x03, 0x40],
