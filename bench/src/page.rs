@@ -32,6 +32,7 @@ The proved library and the plain checker of `tests/plain` judge the same inputs,
 All are accepted, so that every byte is looked at. The body's section is judged in the same call and is in the time, while the bytes are the body's alone.
 
 - *ordinary*: objects made with their descriptors, fields read and written, tests, casts, loops and blocks.
+- *arithmetic*: constants and numeric codes of every kind over locals; conversions.
 - *casts up a chain*: each branching cast walks a chain of 63 supertypes twice.
 - *blocks, 256 locals*: blocks opened and closed, 63 of them one in the other, with 256 locals that have no default.
 - *64 fields given*: structs made of 64 operands, each of which walks the chain to its field's type.
@@ -58,6 +59,10 @@ Each is a loop that goes on until its budget is spent, but for the last, which e
 
 - *br*: a branch to the loop, and nothing else.
 - *locals*: local.get, local.set and local.tee.
+- *integers*: sums, differences, orders and eqz of i32 and i64.
+- *f32*: a product, a sum and an order.
+- *f64*: a quotient, a sum, a product, a difference, neg and an order.
+- *subnormal f64*: a product and a difference that are subnormal, which many processors take long for.
 - *fields*: struct.get and struct.set of an object.
 - *casts*: ref.test, ref.cast and ref.as_non_null of an object to its own type.
 - *casts up a chain*: ref.test and ref.cast to a type 63 supertypes above the object's.

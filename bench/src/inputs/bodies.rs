@@ -4,8 +4,9 @@
 use super::sections::CHAIN;
 use super::{heap, leb, of_size, Input, Judged, Size};
 
-pub const KINDS: [&str; 7] = [
+pub const KINDS: [&str; 8] = [
     "ordinary",
+    "arithmetic",
     "casts up a chain",
     "blocks, 256 locals",
     "64 fields given",
@@ -26,6 +27,8 @@ pub fn input(kind: &'static str, kilobytes: usize) -> Input {
 fn section(kind: &str) -> (Vec<u8>, u32) {
     match kind {
         "ordinary" => (routes(), 5),
+        // a parameter of each number kind
+        "arithmetic" => (vec![0x01, 0x60, 0x04, 0x7F, 0x7E, 0x7D, 0x7C, 0x00], 0),
         "casts up a chain" => chain_and(&[function(&[], &[])]),
         "blocks, 256 locals" => (vec![0x02, 0x5F, 0x00, 0x60, 0x00, 0x00], 1),
         "br_if with 64 values" => chain_and(&[function(&[], &reference(0).repeat(64))]),
@@ -39,6 +42,7 @@ fn body(kind: &str, room: usize) -> Judged {
         "ordinary" => {
             Body::new(&ordinary_locals()).filled(&ordinary_code(), &[&[0x41, 0x00]], room)
         }
+        "arithmetic" => Body::new(&[0x00]).filled(&arithmetic_code(), &[], room),
         "casts up a chain" => casts(room),
         "blocks, 256 locals" => blocks(room),
         "64 fields given" => fields_given(room),
@@ -172,6 +176,65 @@ fn ordinary_code() -> Vec<&'static [u8]> {
             &[0xFB, 0x02, 0x04, 0x02],
             &[0xD1],
             &[0x1A],
+        ],
+    ];
+    code.concat()
+}
+
+/// Constants and codes of every kind, over the four parameters.
+fn arithmetic_code() -> Vec<&'static [u8]> {
+    let code: [&[&[u8]]; 6] = [
+        // i32: sums, a difference and an order
+        &[&[0x20, 0x00], &[0x41, 0x07], &[0x6A], &[0x22, 0x00], &[0x20, 0x00], &[0x6B]],
+        &[&[0x41, 0xAC, 0x02], &[0x48], &[0x45], &[0x1A]],
+        // i64: a sum, a product, a shift, and whether it is 0
+        &[
+            &[0x20, 0x01],
+            &[0x42, 0x80, 0x80, 0x80, 0x80, 0x80, 0x20],
+            &[0x7C],
+            &[0x42, 0x03],
+            &[0x7E],
+            &[0x20, 0x01],
+            &[0x87],
+            &[0x22, 0x01],
+            &[0x50],
+            &[0x1A],
+        ],
+        // f32: a product and a sum, and its negative
+        &[
+            &[0x20, 0x02],
+            &[0x43, 0x00, 0x00, 0xC0, 0x3F],
+            &[0x94],
+            &[0x43, 0xCD, 0xCC, 0xCC, 0x3D],
+            &[0x92],
+            &[0x22, 0x02],
+            &[0x8C],
+            &[0x1A],
+        ],
+        // f64: a quotient, its root, and an order
+        &[
+            &[0x20, 0x03],
+            &[0x44, 0x9A, 0x99, 0x99, 0x99, 0x99, 0x99, 0xB9, 0x3F],
+            &[0xA3],
+            &[0x9F],
+            &[0x22, 0x03],
+            &[0x20, 0x03],
+            &[0xA1],
+            &[0x1A],
+        ],
+        // conversions
+        &[
+            &[0x20, 0x00],
+            &[0xB7],
+            &[0x20, 0x03],
+            &[0x63],
+            &[0x1A],
+            &[0x20, 0x01],
+            &[0xA7],
+            &[0x21, 0x00],
+            &[0x20, 0x02],
+            &[0xBB],
+            &[0x21, 0x03],
         ],
     ];
     code.concat()
