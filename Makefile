@@ -3,15 +3,17 @@
 # built; the proofs in target/ stay.
 # demo: judge the sections and bodies of examples/ by the program and run some of them, then answer the requests of
 # examples/requests.txt by computing the definitions.
-# check: run the gate. compare: the library against the plain checker on COUNT requests. valgrind: the library under it.
+# check: run the gate. compare: the library against the plain checker on COUNT requests. floats: its float operations against
+# the processor's own on PAIRS pairs each. valgrind: the library under it.
 # bench: times, to docs/BENCH.md.
 # The library needs the Rattle toolchain's rt, all else cargo, on x86-64 or Arm. With CHELBUGAN_LIB_DIR, a folder with a
 # libchelbugan.a that is there, nothing is proved and rt is not needed.
-.PHONY: all library cargo install uninstall clean demo check compare valgrind bench
+.PHONY: all library cargo install uninstall clean demo check compare floats valgrind bench
 
 REQUESTS := examples/requests.txt
 SEED := 1
 COUNT := 1000000
+PAIRS := 10000000
 PREFIX := /usr/local
 DESTDIR :=
 
@@ -78,6 +80,9 @@ check:
 
 compare: library cargo
 	@cargo run --release --quiet --manifest-path tests/host/Cargo.toml -- compare $(SEED) $(COUNT)
+
+floats: library cargo
+	@cargo run --release --quiet --manifest-path tests/host/Cargo.toml -- floats $(SEED) $(PAIRS)
 
 valgrind: library cargo
 	@tests/host/valgrind

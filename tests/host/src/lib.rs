@@ -1,10 +1,11 @@
 //! The library seen from outside.
 //!
 //! What it should answer, and every word that it should leave in lent memory, comes from the plain checker and from
-//! docs/LAYOUT.md; nothing here was copied from the library's own output.
+//! docs/LAYOUT.md, and what a float operation gives from the processor too; nothing here was copied from the library's own output.
 
 pub mod compare;
 pub mod expected;
+pub mod floats;
 pub mod guarded;
 pub mod memory;
 pub mod painted;

@@ -1,11 +1,14 @@
-//! The program `host_tests`: compares the library with the plain checker on as many requests as asked for.
+//! The program `host_tests`: compares the library with the plain checker, and its float operations with the processor's, on
+//! as many requests or pairs as asked for.
 
 use host_tests::compare::Comparison;
+use host_tests::floats;
 use host_tests::guarded::Guarded;
 use host_tests::requests;
 use std::process::ExitCode;
 
 const USE: &str = "use: host_tests compare SEED COUNT
+     host_tests floats SEED COUNT              COUNT pairs for each operation and width
      host_tests touch before | touch behind    touches a guard page, and so must die of it";
 
 fn main() -> ExitCode {
@@ -14,6 +17,10 @@ fn main() -> ExitCode {
     match arguments[..] {
         ["compare", seed, count] => match (seed.parse(), count.parse()) {
             (Ok(seed), Ok(count)) => compare(seed, count),
+            _ => refuse_use(),
+        },
+        ["floats", seed, count] => match (seed.parse(), count.parse()) {
+            (Ok(seed), Ok(count)) => compare_floats(seed, count),
             _ => refuse_use(),
         },
         ["touch", side @ ("before" | "behind")] => touch(side),
@@ -38,6 +45,18 @@ fn compare(seed: u64, count: usize) -> ExitCode {
     let tally = comparison.tally();
     println!("the library and the plain checker agree on {count} requests and every lent word");
     print!("{tally}");
+    ExitCode::SUCCESS
+}
+
+/// Stops at the first difference, with the operands in hex.
+fn compare_floats(seed: u64, count: usize) -> ExitCode {
+    for operation in &floats::OPERATIONS {
+        if let Err(difference) = floats::compare(operation, seed, count) {
+            println!("{difference}");
+            return ExitCode::FAILURE;
+        }
+        println!("{}: the library and the processor agree on {count} pairs", operation.name);
+    }
     ExitCode::SUCCESS
 }
 
