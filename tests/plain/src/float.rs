@@ -257,6 +257,6 @@ fn aligned(high: (bool, u128, i32), low: (bool, u128, i32)) -> (i128, i128, i32)
 fn quotient_with_rest(one: u128, other: u128) -> (u128, i32) {
     let room = (other.ilog2() + QUOTIENT_DIGITS) - one.ilog2();
     let scaled = one << room;
-    let left = u128::from(scaled % other != 0);
+    let left = u128::from(!scaled.is_multiple_of(other));
     (2 * (scaled / other) + left, room as i32 + 1)
 }

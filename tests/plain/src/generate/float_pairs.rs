@@ -14,8 +14,8 @@ pub fn edges(format: Format) -> Vec<u64> {
     let digits = i64::from(format.fraction_bits);
     let one = field(bias);
     let infinity = field(2 * bias + 1);
-    let quiet = lead / 2;
-    let near_zero = [0, 1, 2, 3, quiet, lead - 2, lead - 1, lead, lead + 1, lead + 3, 2 * lead];
+    let half = lead / 2;
+    let near_zero = [0, 1, 2, 3, half, lead - 2, lead - 1, lead, lead + 1, lead + 3, 2 * lead];
     let near_one = [
         one - lead,
         one - 1,
