@@ -1,6 +1,5 @@
 -- What a numeric code takes and gives, by the ranges of the checker and by the code's line in the list by name: the same at every
 -- line, by one computation over the whole list.
-use Prim.Native.Nat.{ℕ}
 use mathlib.Core.Path.{_≡_, refl}
 use mathlib.Core.Option.{Option, none, some}
 use mathlib.Core.List.{List, map}

@@ -2,9 +2,9 @@
 -- the list, and what is computed of the whole list is read off at each of its lines.
 use Prim.Native.Nat.{ℕ, zero, suc, _+_, _≤_, _<_}
 use native.Mathlib.Omega.{arith}
-use mathlib.Core.Path.{_≡_, refl, sym, _∙_}
+use mathlib.Core.Path.{_≡_, refl}
 use mathlib.Core.Bool.{Bool, true, false, cond, _&&_}
-use mathlib.Core.Option.{Option, none, some}
+use mathlib.Core.Option.{some}
 use mathlib.Core.List.{List, [], _∷_, map}
 use lib.Dec.{eqb, leb}
 use borrow.Author.Tests.{eqb-true, eqb-false, leb-true}
@@ -13,7 +13,7 @@ use Rattle.scope.specs.Numeric.{Numeric, Range, ranges, within, numericOf}
 use Rattle.scope.proofs.Computes.{computes}
 use Rattle.scope.proofs.Truths.{from-both}
 use Rattle.scope.proofs.Impossible.{impossible}
-use Rattle.facts_codes.specs.Numeric.{Typed, Code, typedOf, upward, codes, everyByte, Among, is-first, is-later}
+use Rattle.facts_codes.specs.Numeric.{Code, typedOf, upward, codes, everyByte, Among, is-first, is-later}
 
 -- the codes 45 to C4, each once and in order
 pub codes-in-order : map (λ c. c .byte) codes ≡ upward 0x45 128

@@ -5,23 +5,23 @@ use Prim.Native.Nat.{ℕ, zero, suc, _+_, _-_, _*_, _^_, _<_, _≤_}
 use native.Mathlib.Omega.{arith}
 use native.Mathlib.Nat.{pow-suc}
 use lib.Pow.{pow-add}
-use mathlib.Core.Path.{_≡_, refl, sym, ap, _∙_, subst}
+use mathlib.Core.Path.{_≡_, refl, ap, _∙_, subst}
 use mathlib.Core.Bool.{Bool, true, false, cond}
 use mathlib.Core.Option.{Option, none, some}
 use mathlib.Core.List.{List, [], _∷_}
 use lib.ListN.{getElem?}
 use lib.Dec.{eqb, ltb}
-use borrow.Author.Tests.{ltb-true, ltb-false, leb-true}
-use Rattle.scope.specs.Reading.{Read, got, refused, Reader, given, then, onByte}
+use borrow.Author.Tests.{ltb-true, leb-true}
+use Rattle.scope.specs.Reading.{Read, got, refused, Reader, given, onByte}
 use Rattle.scope.specs.Refusals.{bytesEnd}
 use Rattle.scope.specs.Numbers.{Bits, bits, cut, long, under, bitsAt, greatestLength, inRange, Whole, plus, minus, signed-of, withinSigned, signed, bits32, bits64, littleEndian, floatBytes, u32, s32, s64, float32, float64}
 use Rattle.scope.specs.Syntax.{Val}
 use Rattle.scope.specs.Sections.{heapAt}
 use Rattle.scope.specs.Numeric.{Numeric, numericOf}
-use Rattle.scope.specs.Instructions.{Op, i32-const, i64-const, f32-const, f64-const, numeric, Instr, block, loop, op, bare, having, havingTwo, blockTypeAt, castAt, opening, closing, firstBytes, afterFB, find, instrAt}
+use Rattle.scope.specs.Instructions.{Op, i32-const, i64-const, f32-const, f64-const, numeric, Instr, bare, having, havingTwo, blockTypeAt, castAt, opening, closing, firstBytes, afterFB, find, instrAt}
 use Rattle.scope.proofs.Impossible.{impossible}
 use Rattle.scope.proofs.Telling.{Gives, gives-this, gives-nothing, gives-then, gives-either}
-use Rattle.facts_codes.specs.Numeric.{code, Code, codes, Among}
+use Rattle.facts_codes.specs.Numeric.{code}
 use Rattle.facts_codes.specs.Proper.{AreBytes, CodeListed, code-listed, ProperOp, Proper}
 use Rattle.facts_codes.proofs.Numeric.{numeric-listed}
 

@@ -4,9 +4,9 @@
 use Prim.Native.Nat.{ℕ, _+_, _*_, _^_, _<_, _≤_, min}
 use native.Mathlib.Omega.{arith}
 use native.Mathlib.Nat.{le-of-lt, le-refl, min-eq-left, min-eq-right}
-use mathlib.Core.Path.{_≡_, refl, sym, ap, _∙_, subst}
+use mathlib.Core.Path.{_≡_, refl, ap, subst}
 use mathlib.Core.Bool.{Bool, true, false, cond, _&&_, _||_, not, Bool·beq}
-use mathlib.Core.Option.{Option, none, some}
+use mathlib.Core.Option.{Option, some}
 use mathlib.Core.List.{List, [], _∷_}
 use lib.Dec.{eqb, ltb, leb}
 use borrow.Author.Tests.{eqb-true, leb-true, leb-false}
@@ -16,7 +16,7 @@ use Rattle.scope.specs.Floats.{negative, magnitude, withSign, unitsOf, isInfini
 use Rattle.scope.specs.Integers.{intAdd, intSub, intIsZero, intEqual, intUnequal, intLessSigned, intLessUnsigned, intGreaterSigned, intGreaterUnsigned, intAtMostSigned, intAtMostUnsigned, intAtLeastSigned, intAtLeastUnsigned}
 use Rattle.scope.specs.Numeric.{Numeric, numericOf}
 use Rattle.scope.specs.Instructions.{find}
-use Rattle.scope.specs.Arithmetic.{asBits, asks, compares, Deed, ofOne, ofTwo, deeds, deedOf}
+use Rattle.scope.specs.Arithmetic.{asBits, asks, compares, Deed, deeds, deedOf}
 use Rattle.scope.proofs.Impossible.{impossible}
 use Rattle.facts_codes.specs.Proper.{widthOf}
 use Rattle.facts_numbers.specs.Fitting.{Fits, fits-one, fits-two, ResultsFit}

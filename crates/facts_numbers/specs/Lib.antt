@@ -1,3 +1,4 @@
 pub mod Vectors
 pub mod Samples
 pub mod Fitting
+pub mod Widths

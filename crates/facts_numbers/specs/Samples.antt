@@ -2,13 +2,13 @@
 -- for, worked out before any was computed. A run has nine steps.
 use Prim.Native.Nat.{ℕ}
 use mathlib.Core.Bool.{Bool}
-use mathlib.Core.List.{List, [], _∷_, _++_, map}
+use mathlib.Core.List.{List, [], _∷_, map}
 use lib.Dec.{eqb}
 use Rattle.scope.specs.Lists.{pairwise, joined}
 use Rattle.scope.specs.Syntax.{Number, i32, i64, f32, f64}
 use Rattle.scope.specs.Judging.{Judged, accepted, rejected}
 use Rattle.scope.specs.Bodies.{Body, instructions as countOf, judgeBody}
-use Rattle.scope.specs.Machine.{Value, number, Machine}
+use Rattle.scope.specs.Machine.{Value, number}
 use Rattle.scope.specs.Running.{Ending, done, trapped, spent, wrong, Trial, trialRun, placeOf}
 use Rattle.scope.specs.Memory.{valueWords}
 

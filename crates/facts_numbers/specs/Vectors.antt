@@ -2,8 +2,7 @@
 -- stack before, and what stands there after. Worked out by exact whole numbers and fractions, a float rounded once. Below the
 -- operands lies a null, which stays.
 use Prim.Native.Nat.{ℕ}
-use mathlib.Core.Option.{none}
-use mathlib.Core.Bool.{Bool, true, false}
+use mathlib.Core.Bool.{Bool}
 use mathlib.Core.List.{List, [], _∷_, map}
 use lib.Dec.{eqb}
 use Rattle.scope.specs.Lists.{pairwise, joined}

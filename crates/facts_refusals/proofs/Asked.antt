@@ -25,7 +25,7 @@ use Rattle.facts_sections.specs.TypeRelations.{IsStruct, a-struct}
 use Rattle.facts_bodies.specs.Premises.{Each, of-none, of-first, HeapReached, Default}
 use Rattle.facts_bodies.proofs.Premises.{same-some, allBelow, every-append, append-every, tested-number-reached, number-reached-tested, tested-heap-reached, heap-reached-tested, tested-defaults, defaults-tested, tested-set, set-tested, has-fields, has-none, tested-cast-takes, cast-takes-tested, found-last, last-found, Ordered}
 use Rattle.facts_bodies.proofs.Hierarchies.{tested-shares, shares-tested}
-use Rattle.facts_refusals.specs.Instructions.{codeListed, heapsReached, typeReached, labelThere, localThere, isStruct, hasField, noDescriptor, hasDescriptor, castDescribed, fieldMutable, supertypeShared, labelHasTypes, labelTakes, allDefaults, localSet, Present, present, HasField, has-field, Named, named, CastDescribed, cast-described, FieldMutable, field-mutable, LabelHasTypes, label-has-types, LabelTakes, label-takes, AllDefaults, all-defaults, ruleOf, askedRules}
+use Rattle.facts_refusals.specs.Instructions.{heapsReached, typeReached, labelThere, localThere, isStruct, hasField, noDescriptor, hasDescriptor, castDescribed, fieldMutable, supertypeShared, labelHasTypes, labelTakes, allDefaults, localSet, Present, present, HasField, has-field, Named, named, CastDescribed, cast-described, FieldMutable, field-mutable, LabelHasTypes, label-has-types, LabelTakes, label-takes, AllDefaults, all-defaults, ruleOf, askedRules}
 use Rattle.facts_refusals.proofs.Judged.{Judges, nothing-asked, judges-test, judges-need}
 
 -- what is there is not missing

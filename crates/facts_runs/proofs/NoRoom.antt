@@ -6,20 +6,16 @@ use mathlib.Core.Path.{_≡_, refl, sym, _∙_, ap}
 use mathlib.Core.Bool.{Bool, true, false, cond, _&&_, false≢true}
 use mathlib.Core.Option.{Option, none, some}
 use mathlib.Core.List.{List, [], _∷_, _++_, reverse}
-use lib.ListN.{length, replicate, length-reverse, getElem?}
-use lib.Dec.{eqb, ltb, leb}
+use lib.ListN.{length, replicate, length-reverse}
+use lib.Dec.{ltb, leb}
 use borrow.Author.Tests.{ltb-true, ltb-false, leb-true, leb-false}
 use Rattle.scope.specs.Sizes.{mostObjects, mostCells}
 use Rattle.scope.specs.Refusals.{trapNoRoom}
 use Rattle.scope.specs.Reading.{given}
-use Rattle.scope.specs.Syntax.{Heap, Number, i32, i64, f32, f64, Val, Field, Form, struct, func, Types}
+use Rattle.scope.specs.Syntax.{Val, Field, Form, struct, func}
 use Rattle.scope.specs.BodyRules.{fieldsOf, holdsOf}
-use Rattle.scope.specs.Order.{sameNumber}
-use Rattle.scope.specs.Numeric.{Numeric, numericOf}
-use Rattle.scope.specs.Arithmetic.{Deed, ofOne, ofTwo, deedOf}
 use Rattle.scope.specs.Instructions.{Op, unreachable, nop, return, drop-value, br, br-if, local-get, local-set, local-tee, i32-const, i64-const, f32-const, f64-const, numeric, ref-null, ref-is-null, ref-eq, ref-as-non-null, struct-new, struct-new-default, struct-get, struct-set, ref-test, ref-cast, br-on-cast, br-on-cast-fail, struct-new-desc, struct-new-default-desc, ref-get-desc, ref-cast-desc-eq, br-on-cast-desc-eq, br-on-cast-desc-eq-fail}
-use Rattle.scope.specs.Machine.{Value, number, null, object, Object, Store, Block, openBlock, openLoop, Machine, Program, Outcome, goes, ends, traps, stuck, withOperands, withHeap, onI32, onNumber, onReference, onObject, onTaken, truth, calculate, doNumeric, splitTop, cellsOf, hasRoom, make, makeGiven, defaultsOf, defaultOf, makeDefault, onDescriptor, castPasses, descriptorCastPasses, onSet, finish, jump, doOp}
-use Rattle.scope.proofs.Impossible.{contradiction}
+use Rattle.scope.specs.Machine.{Value, number, null, object, Object, Store, Machine, Program, Outcome, goes, traps, stuck, withOperands, withHeap, splitTop, cellsOf, hasRoom, make, makeGiven, defaultsOf, defaultOf, makeDefault, onDescriptor, doOp}
 use Rattle.scope.proofs.Truths.{none-is-not-some, from-both}
 use Rattle.facts_runs.specs.Counting.{makesObject}
 use Rattle.facts_runs.proofs.Trapping.{Other, goes-on, is-stuck, other-trap, told, Each, other-op}

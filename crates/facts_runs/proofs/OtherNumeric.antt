@@ -3,13 +3,13 @@
 use Prim.Native.Nat.{ℕ}
 use native.Mathlib.Omega.{arith}
 use mathlib.Core.Path.{_≡_, refl, sym, _∙_, subst}
-use mathlib.Core.Bool.{Bool, true, false, cond, false≢true}
+use mathlib.Core.Bool.{Bool, true, false, cond}
 use mathlib.Core.Option.{Option, none, some}
 use mathlib.Core.List.{List, [], _∷_, map}
 use lib.Dec.{eqb}
 use borrow.Author.Tests.{eq-eqb, eqb-true}
-use Rattle.scope.specs.Refusals.{trapNoRoom, trapOtherNumeric}
-use Rattle.scope.specs.Instructions.{Op, numeric, find}
+use Rattle.scope.specs.Refusals.{trapOtherNumeric}
+use Rattle.scope.specs.Instructions.{Op, find}
 use Rattle.scope.specs.Arithmetic.{Deed, deeds, deedOf}
 use Rattle.scope.specs.Machine.{Value, Machine, Program, traps, doNumeric, doOp}
 use Rattle.scope.proofs.Truths.{none-is-not-some}

@@ -7,7 +7,7 @@ use native.Mathlib.Nat.{le-refl}
 use mathlib.Core.Path.{_≡_, refl}
 use mathlib.Core.Bool.{Bool, true, false, cond}
 use mathlib.Core.Option.{Option, none, some}
-use mathlib.Core.List.{List, [], _∷_, _++_, reverse}
+use mathlib.Core.List.{List, [], _∷_, reverse}
 use lib.ListN.{length, getElem?, length-append, length-set}
 use lib.Dec.{eqb}
 use Rattle.scope.specs.Reading.{given}

@@ -1,7 +1,7 @@
 -- Which traps an outcome may be. The machine's combinators say no trap of their own but 42, 43 and 44, `unreachable` 41, an
 -- allocation 45, and a numeric code that has no line in specs/Arithmetic.antt 46. So what holds of those numbers holds of every
 -- trap; one line for each instruction.
-use Prim.Native.Nat.{ℕ, zero, suc, _+_}
+use Prim.Native.Nat.{ℕ, zero, suc}
 use mathlib.Core.Path.{_≡_, refl, subst}
 use mathlib.Core.Bool.{Bool, true, false, cond}
 use mathlib.Core.Option.{Option, none, some}
@@ -10,13 +10,13 @@ use lib.Dec.{eqb}
 use lib.ListN.{length, getElem?}
 use Rattle.scope.specs.Refusals.{trapUnreachable, trapNull, trapNullDescriptor, trapCast, trapNoRoom, trapOtherNumeric}
 use Rattle.scope.specs.Reading.{given}
-use Rattle.scope.specs.Syntax.{Heap, Number, i32, i64, f32, f64, Val, Field, Form, struct, func, Types}
+use Rattle.scope.specs.Syntax.{Heap, Number, i32, i64, f32, f64, Types}
 use Rattle.scope.specs.BodyRules.{fieldsOf, holdsOf}
 use Rattle.scope.specs.Order.{sameNumber}
 use Rattle.scope.specs.Numeric.{Numeric, numericOf}
 use Rattle.scope.specs.Arithmetic.{Deed, ofOne, ofTwo, deedOf}
 use Rattle.scope.specs.Instructions.{Op, unreachable, nop, return, drop-value, br, br-if, local-get, local-set, local-tee, i32-const, i64-const, f32-const, f64-const, numeric, ref-null, ref-is-null, ref-eq, ref-as-non-null, struct-new, struct-new-default, struct-get, struct-set, ref-test, ref-cast, br-on-cast, br-on-cast-fail, struct-new-desc, struct-new-default-desc, ref-get-desc, ref-cast-desc-eq, br-on-cast-desc-eq, br-on-cast-desc-eq-fail}
-use Rattle.scope.specs.Machine.{Value, number, null, object, Object, Store, Block, openBlock, openLoop, Machine, Program, Outcome, goes, ends, traps, stuck, withOperands, withHeap, onI32, onNumber, onReference, onObject, onTaken, truth, calculate, doNumeric, splitTop, cellsOf, hasRoom, make, makeGiven, defaultsOf, defaultOf, makeDefault, onDescriptor, castPasses, descriptorCastPasses, onSet, finish, jump, doOp}
+use Rattle.scope.specs.Machine.{Value, number, null, object, Object, Store, Block, openBlock, openLoop, Machine, Program, Outcome, goes, ends, traps, stuck, withOperands, onI32, onNumber, onReference, onObject, onTaken, truth, calculate, doNumeric, splitTop, hasRoom, make, makeGiven, defaultsOf, makeDefault, onDescriptor, castPasses, descriptorCastPasses, onSet, finish, jump, doOp}
 use Rattle.scope.proofs.Impossible.{contradiction}
 use Rattle.facts_runs.specs.Counting.{makesObject}
 

@@ -4,7 +4,7 @@
 use Prim.Native.Nat.{ℕ}
 use mathlib.Core.Path.{_≡_}
 use mathlib.Core.Logic.{_↔_}
-use mathlib.Core.List.{List, [], _∷_, _++_}
+use mathlib.Core.List.{List, _∷_, _++_}
 use Rattle.scope.specs.Refusals.{trapOtherNumeric}
 use Rattle.scope.specs.Instructions.{Op, numeric}
 use Rattle.scope.specs.Machine.{Value, Machine, Program, traps, doOp}

@@ -2,7 +2,7 @@
 -- kinds in specs/Numeric.antt say: one test of all lines, read off at each. So the operands that the checker asked for are there,
 -- and the result has the kind that it gave. Any other code stops at trap 46.
 use Prim.Native.Nat.{ℕ}
-use mathlib.Core.Path.{_≡_, refl, sym, ap, _∙_, subst}
+use mathlib.Core.Path.{_≡_, refl, subst}
 use mathlib.Core.Bool.{Bool, true, false, cond}
 use mathlib.Core.Option.{Option, none, some}
 use mathlib.Core.List.{List, [], _∷_, Forall₂·cons}
@@ -16,7 +16,7 @@ use Rattle.scope.specs.Order.{numberCode, sameNumber}
 use Rattle.scope.specs.Numeric.{Numeric, numericOf}
 use Rattle.scope.specs.Instructions.{numeric, find}
 use Rattle.scope.specs.Arithmetic.{Deed, ofOne, ofTwo, deeds, deedOf}
-use Rattle.scope.specs.BodyRules.{Wanted, value, operandsOf}
+use Rattle.scope.specs.BodyRules.{value, operandsOf}
 use Rattle.scope.specs.Bodies.{Operand, known, State, Body}
 use Rattle.scope.specs.Machine.{Value, Machine, withOperands, traps, stuck, calculate, doNumeric, doOp}
 use Rattle.scope.specs.Refusals.{trapOtherNumeric}

@@ -1,21 +1,18 @@
 -- Reading a body never moves back either. The argument is that of proofs/Forward.antt, over the two tables of codes: every
 -- row's reader ends no earlier than it begins, so the instruction ends past its first byte.
-use Prim.Native.Nat.{ℕ, zero, suc, _+_, _≤_, _<_}
-use mathlib.Core.Path.{_≡_, refl}
+use Prim.Native.Nat.{ℕ, _+_, _≤_}
 use mathlib.Core.Bool.{Bool, true, false, cond}
 use mathlib.Core.Option.{Option, none, some}
 use mathlib.Core.List.{List, [], _∷_}
 use native.Mathlib.Omega.{arith}
 use native.Mathlib.Nat.{le-trans, le-refl}
 use lib.ListN.{length}
-use lib.Dec.{ltb, leb, eqb}
-use Rattle.scope.specs.Reading.{Read, got, refused, Reader, given, then, onByte}
-use Rattle.scope.specs.Numbers.{u32, s32, s64, float32, float64, bits32, bits64}
+use lib.Dec.{ltb, eqb}
+use Rattle.scope.specs.Reading.{Read, refused, Reader, given}
 use Rattle.scope.specs.Syntax.{Val}
-use Rattle.scope.specs.Sections.{heapAt, valAt}
 use Rattle.scope.specs.Numeric.{numericOf}
 use Rattle.scope.specs.Instructions.{Op, numeric, Instr, bare, having, havingTwo, blockTypeAt, castAt, opening, closing, firstBytes, afterFB, find, instrAt}
-use Rattle.scope.proofs.Forward.{Ends, stops, reaches, Takes, ends-then, ends-cond, ends-given, ends-from, ends-byte, one-less, unsigned-takes, signed-takes, float-takes, heap-takes, val-takes}
+use Rattle.scope.proofs.Forward.{Ends, stops, reaches, Takes, ends-then, ends-cond, ends-from, ends-byte, one-less, unsigned-takes, signed-takes, float-takes, heap-takes, val-takes}
 
 -- a reader of immediates, of which there may be none
 pub record Keeps (r : Reader Instr) : Type 0 where

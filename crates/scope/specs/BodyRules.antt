@@ -1,6 +1,6 @@
 -- What an instruction asks and gives: the body rules of document 01, as document 02 amends them, instruction by instruction. The
 -- tests of one instruction stand in document 01's order: 6, 21, 23, 24, 25, 29, 22; operands come in specs/Bodies.antt.
-use Prim.Native.Nat.{ℕ, zero, suc}
+use Prim.Native.Nat.{ℕ}
 use mathlib.Core.Bool.{Bool, true, false, not, cond, _&&_}
 use mathlib.Core.Option.{Option, none, some}
 use mathlib.Core.List.{List, [], _∷_, _++_, map, reverse}

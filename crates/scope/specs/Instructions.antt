@@ -1,13 +1,13 @@
 -- The instructions that document 01 lists, with those of request 1 of document 02, their immediates, and how they are read.
-use Prim.Native.Nat.{ℕ, zero, suc, _+_, _%_}
+use Prim.Native.Nat.{ℕ, _+_, _%_}
 use mathlib.Core.Bool.{Bool, true, false, cond}
 use mathlib.Core.Option.{Option, none, some}
 use mathlib.Core.List.{List, [], _∷_}
 use lib.Dec.{eqb, ltb, leb}
 use Rattle.scope.specs.Refusals.{notListed}
-use Rattle.scope.specs.Reading.{Read, got, refused, Reader, given, then, onByte}
+use Rattle.scope.specs.Reading.{got, refused, Reader, given, then, onByte}
 use Rattle.scope.specs.Numbers.{bits32, bits64, u32, s32, s64, float32, float64}
-use Rattle.scope.specs.Syntax.{Heap, Val, ref}
+use Rattle.scope.specs.Syntax.{Heap, Val}
 use Rattle.scope.specs.Sections.{heapAt, valAt}
 use Rattle.scope.specs.Numeric.{numericOf}
 

@@ -1,7 +1,7 @@
 -- The machine of the trial run: values, objects, the heap with its two limits, locals, operands, open blocks and place;
 -- one step for each instruction; traps 41 to 46 in the order in which they are looked at.
 use Prim.Native.Nat.{ℕ, zero, suc, _+_}
-use mathlib.Core.Bool.{Bool, true, false, not, cond, _&&_, Bool·beq}
+use mathlib.Core.Bool.{Bool, true, false, cond, _&&_}
 use mathlib.Core.Option.{Option, none, some}
 use mathlib.Core.List.{List, [], _∷_, _++_, map, reverse}
 use lib.ListN.{length, getElem?, set}
@@ -10,11 +10,11 @@ use Rattle.scope.specs.Sizes.{mostObjects, mostCells}
 use Rattle.scope.specs.Refusals.{trapUnreachable, trapNull, trapNullDescriptor, trapCast, trapNoRoom, trapOtherNumeric}
 use Rattle.scope.specs.Reading.{given}
 use Rattle.scope.specs.Lists.{sum, isNone}
-use Rattle.scope.specs.Syntax.{Heap, exact, Number, i32, i64, f32, f64, Val, num, ref, Field, Types}
+use Rattle.scope.specs.Syntax.{Heap, exact, Number, i32, i64, f32, f64, Val, num, ref, Types}
 use Rattle.scope.specs.Order.{sameNumber, heapBelow}
 use Rattle.scope.specs.Numeric.{Numeric, numericOf}
 use Rattle.scope.specs.Arithmetic.{asBits, Deed, ofOne, ofTwo, deedOf}
-use Rattle.scope.specs.Instructions.{Cast, Op, unreachable, nop, return, drop-value, br, br-if, local-get, local-set, local-tee, i32-const, i64-const, f32-const, f64-const, numeric, ref-null, ref-is-null, ref-eq, ref-as-non-null, struct-new, struct-new-default, struct-get, struct-set, ref-test, ref-cast, br-on-cast, br-on-cast-fail, struct-new-desc, struct-new-default-desc, ref-get-desc, ref-cast-desc-eq, br-on-cast-desc-eq, br-on-cast-desc-eq-fail, Instr, block, loop, end, op}
+use Rattle.scope.specs.Instructions.{Op, unreachable, nop, return, drop-value, br, br-if, local-get, local-set, local-tee, i32-const, i64-const, f32-const, f64-const, numeric, ref-null, ref-is-null, ref-eq, ref-as-non-null, struct-new, struct-new-default, struct-get, struct-set, ref-test, ref-cast, br-on-cast, br-on-cast-fail, struct-new-desc, struct-new-default-desc, ref-get-desc, ref-cast-desc-eq, br-on-cast-desc-eq, br-on-cast-desc-eq-fail, Instr, block, loop, end, op}
 use Rattle.scope.specs.BodyRules.{fieldsOf, holdsOf}
 use Rattle.scope.specs.Bodies.{Code}
 

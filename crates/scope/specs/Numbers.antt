@@ -2,7 +2,7 @@
 -- the width: seven bits a byte, lowest first, a byte of 128 or more goes on; then the range of the width. A float is no
 -- LEB number: its bytes are its bits, and one item.
 use Prim.Native.Nat.{ℕ, zero, suc, _+_, _-_, _*_, _^_, _/_}
-use mathlib.Core.Bool.{Bool, true, false, cond}
+use mathlib.Core.Bool.{Bool, cond}
 use mathlib.Core.Option.{Option, none, some}
 use mathlib.Core.List.{List}
 use lib.ListN.{getElem?}
