@@ -6,13 +6,13 @@ use mathlib.Core.List.{List}
 use native.Mathlib.Omega.{arith}
 use borrow.Author.Tests.{ne-eqb}
 use Rattle.scope.specs.Reading.{Read, got, refused, then}
-use Rattle.scope.specs.Numbers.{Whole, plus, minus, u32, s32}
+use Rattle.scope.specs.Numbers.{Whole, plus, minus, u32, s32, s64, float32, float64}
 use Rattle.scope.specs.Instructions.{Op, Instr, op}
 use Rattle.number.specs.declared.Natural.{Natural}
 use Rattle.number.specs.declared.Natural
 use Rattle.number.specs.declared.Integer.{Integer}
 use Rattle.number.specs.declared.Integer
-use Rattle.number.specs.Answers.{naturalIs, integerIs}
+use Rattle.number.specs.Answers.{naturalIs, FloatRead, integerIs}
 use Rattle.number.proofs.Laws.{natural-got, natural-refused, integer-plus, integer-minus, integer-refused, signed-small, signed-least}
 use Rattle.type_table.specs.Kept.{kept}
 use Rattle.body_immediates.specs.declared.Instruction.{Instruction}
@@ -20,7 +20,7 @@ use Rattle.body_immediates.specs.declared.Instruction
 use Rattle.body_immediates.specs.declared.InstructionRead.{InstructionRead}
 use Rattle.body_immediates.specs.declared.InstructionRead
 use Rattle.body_immediates.proofs.Signs.{Bytes, signed-more}
-use Rattle.body_immediates.specs.Coding.{operationOf, instructionOf, instructionIs, numbered, numberedAt, constantAt, typed, typedAt, fielded, fieldedAt}
+use Rattle.body_immediates.specs.Coding.{operationOf, instructionOf, instructionIs, numbered, numberedAt, constantAt, wideAt, float32ConstAt, float64ConstAt, typed, typedAt, fielded, fieldedAt}
 
 -- numbered_at
 
@@ -67,6 +67,57 @@ module _ (s : List ℕ) (at : ℕ) {r : Integer} (a : r ≡ integerIs (s32 s at)
   constant-lacks {v} {next} e bytes = let h = signed-more 32 s at (integer-minus (s32 s at) a e) bytes in omega arith
 
 pub ruleset constant-exits = (constant-refused, constant-plus, constant-minus, constant-bound, constant-narrow, constant-lacks)
+
+-- wide_at
+
+module _ (s : List ℕ) (at : ℕ) {r : Integer} (a : r ≡ integerIs (s64 s at)) where
+  pub wide-refused : {n place : ℕ} → r ≡ Integer.the-variants.Refused n place → InstructionRead.the-variants.Refused n place ≡ instructionIs (wideAt s at)
+  unfolding wideAt
+  wide-refused e = rw (integer-refused (s64 s at) a e)
+
+  pub wide-plus : {v next : ℕ} → r ≡ Integer.the-variants.Plus v next → InstructionRead.the-variants.Is (Instruction.the-variants.I64Const v) next ≡ instructionIs (wideAt s at)
+  unfolding wideAt instructionOf operationOf
+  wide-plus e = rw (integer-plus (s64 s at) a e)
+
+  module _ {v next : ℕ} (e : r ≡ Integer.the-variants.Minus v next) (bytes : Bytes s) where
+    -- it is not zero, so that one less does not go below 0
+    pub wide-some : 1 ≤ v
+    wide-some = let h = signed-more 64 s at (integer-minus (s64 s at) a e) bytes in omega arith
+
+    pub wide-minus : InstructionRead.the-variants.Is (Instruction.the-variants.I64Const (18446744073709551615 - (v - 1))) next ≡ instructionIs (wideAt s at)
+    unfolding wideAt instructionOf operationOf
+    wide-minus =
+        let some : 1 ≤ v = wide-some in
+        let bits : 18446744073709551615 - (v - 1) ≡ 2 ^ 64 - v = omega arith in
+        rw (integer-minus (s64 s at) a e, bits)
+
+pub ruleset wide-exits = (wide-refused, wide-plus, wide-some, wide-minus)
+
+-- float32_const_at, float64_const_at
+
+module _ (s : List ℕ) (at : ℕ) {r : Natural} where
+  module _ (a : FloatRead (2 ^ 32) (float32 s at) r) where
+    pub float32-refused : {n place : ℕ} → r ≡ Natural.the-variants.Refused n place → InstructionRead.the-variants.Refused n place ≡ instructionIs (float32ConstAt s at)
+    unfolding float32ConstAt
+    float32-refused e = rw (natural-refused (float32 s at) (a .is) e)
+
+    pub float32-got : {v next : ℕ} → r ≡ Natural.the-variants.Is v next → InstructionRead.the-variants.Is (Instruction.the-variants.F32Const v) next ≡ instructionIs (float32ConstAt s at)
+    unfolding float32ConstAt instructionOf operationOf
+    float32-got e = rw (natural-got (float32 s at) (a .is) e)
+
+    pub float32-narrow : {v next : ℕ} → r ≡ Natural.the-variants.Is v next → v < 2 ^ 32
+    float32-narrow {v} {next} e = a .small v next e
+
+  module _ (a : FloatRead (2 ^ 64) (float64 s at) r) where
+    pub float64-refused : {n place : ℕ} → r ≡ Natural.the-variants.Refused n place → InstructionRead.the-variants.Refused n place ≡ instructionIs (float64ConstAt s at)
+    unfolding float64ConstAt
+    float64-refused e = rw (natural-refused (float64 s at) (a .is) e)
+
+    pub float64-got : {v next : ℕ} → r ≡ Natural.the-variants.Is v next → InstructionRead.the-variants.Is (Instruction.the-variants.F64Const v) next ≡ instructionIs (float64ConstAt s at)
+    unfolding float64ConstAt instructionOf operationOf
+    float64-got e = rw (natural-got (float64 s at) (a .is) e)
+
+pub ruleset float-exits = (float32-refused, float32-got, float32-narrow, float64-refused, float64-got)
 
 -- typed_at
 

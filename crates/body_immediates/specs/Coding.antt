@@ -5,10 +5,10 @@ use mathlib.Core.Bool.{Bool, true, false, cond}
 use mathlib.Core.List.{List, [], _∷_}
 use lib.Dec.{eqb}
 use Rattle.scope.specs.Reading.{Read, got, refused, Reader}
-use Rattle.scope.specs.Numbers.{bits32, u32, s32}
+use Rattle.scope.specs.Numbers.{bits32, bits64, u32, s32, s64, float32, float64}
 use Rattle.scope.specs.Syntax.{Heap, Val}
 use Rattle.scope.specs.Sections.{heapAt}
-use Rattle.scope.specs.Instructions.{Cast, Op, unreachable, nop, return, drop-value, br, br-if, local-get, local-set, local-tee, i32-const, ref-null, ref-is-null, ref-eq, ref-as-non-null, struct-new, struct-new-default, struct-get, struct-set, ref-test, ref-cast, br-on-cast, br-on-cast-fail, struct-new-desc, struct-new-default-desc, ref-get-desc, ref-cast-desc-eq, br-on-cast-desc-eq, br-on-cast-desc-eq-fail, Instr, block, loop, end, op, having, havingTwo, opening}
+use Rattle.scope.specs.Instructions.{Cast, Op, unreachable, nop, return, drop-value, br, br-if, local-get, local-set, local-tee, i32-const, i64-const, f32-const, f64-const, numeric, ref-null, ref-is-null, ref-eq, ref-as-non-null, struct-new, struct-new-default, struct-get, struct-set, ref-test, ref-cast, br-on-cast, br-on-cast-fail, struct-new-desc, struct-new-default-desc, ref-get-desc, ref-cast-desc-eq, br-on-cast-desc-eq, br-on-cast-desc-eq-fail, Instr, block, loop, end, op, having, havingTwo, opening}
 use Rattle.type_table.specs.Kept.{kept}
 use Rattle.type_read.specs.Codes.{heapCodeKept, valCodeKept}
 use Rattle.body_immediates.specs.declared.Instruction.{Instruction}
@@ -35,6 +35,10 @@ operationOf (local-get x) = Instruction.the-variants.LocalGet x
 operationOf (local-set x) = Instruction.the-variants.LocalSet x
 operationOf (local-tee x) = Instruction.the-variants.LocalTee x
 operationOf (i32-const n) = Instruction.the-variants.I32Const n
+operationOf (i64-const n) = Instruction.the-variants.I64Const n
+operationOf (f32-const n) = Instruction.the-variants.F32Const n
+operationOf (f64-const n) = Instruction.the-variants.F64Const n
+operationOf (numeric b) = Instruction.the-variants.Numeric b
 operationOf (ref-null h) = Instruction.the-variants.RefNull (heapCodeKept h)
 operationOf ref-is-null = Instruction.the-variants.RefIsNull
 operationOf ref-eq = Instruction.the-variants.RefEq
@@ -83,6 +87,15 @@ numberedAt b = having u32 (numbered b)
 
 unfoldable pub constantAt : Reader Instr
 constantAt = having s32 (λ n. i32-const (bits32 n))
+
+unfoldable pub wideAt : Reader Instr
+wideAt = having s64 (λ n. i64-const (bits64 n))
+
+unfoldable pub float32ConstAt : Reader Instr
+float32ConstAt = having float32 f32-const
+
+unfoldable pub float64ConstAt : Reader Instr
+float64ConstAt = having float64 f64-const
 
 unfoldable pub nullAt : Reader Instr
 nullAt = having heapAt ref-null

@@ -9,9 +9,10 @@ use type_read::Coded;
 ghost use mathlib.Core.Path.{_≡_};
 ghost use Rattle.scope.specs.Instructions.{blockTypeAt};
 ghost use Rattle.type_read.specs.Codes.{codedIs};
-ghost use Rattle.body_immediates.specs.Coding.{resultCode, instructionIs, openingAt, numberedAt, constantAt, nullAt, typedAt, fieldedAt, testedAt};
+ghost use Rattle.body_immediates.specs.Coding.{resultCode, instructionIs, openingAt, numberedAt, constantAt, wideAt, float32ConstAt, float64ConstAt, nullAt, typedAt, fieldedAt, testedAt};
 
-// An instruction of document 01, in its order. A block's or loop's result is 0 for none, else one more than its code. A
+// An instruction of document 01, or of request 1 of document 02, in their order. A constant is its bits, a numeric
+// instruction its code. A block's or loop's result is 0 for none, else one more than its code. A
 // bool says "null" where an instruction has both forms. A branching cast: label, whether the source may be null, the
 // source, whether the target may be, the target.
 pub enum Instruction {
@@ -28,6 +29,10 @@ pub enum Instruction {
     LocalSet(u64),
     LocalTee(u64),
     I32Const(u32),
+    I64Const(u64),
+    F32Const(u32),
+    F64Const(u64),
+    Numeric(u8),
     RefNull(u64),
     RefIsNull,
     RefEq,
@@ -119,6 +124,45 @@ pub fn constant_at(s: &[u8], at: usize) -> InstructionRead
         Integer::Minus(v, next) => {
             InstructionRead::Is(Instruction::I32Const((NUMBERS - v) as u32), next)
         }
+    }
+}
+
+// The greatest number of 64 bits.
+const ALL_BITS: u64 = 18446744073709551615;
+
+// 42 i64.const: the number as 64 bits.
+pub fn wide_at(s: &[u8], at: usize) -> InstructionRead
+    ensures { λ r. ⌜ r ≡ instructionIs (wideAt (now (s .entry)) at) ⌝ }
+{
+    let read = number::s64_at(s, at);
+    match read {
+        Integer::Refused(number, place) => InstructionRead::Refused(number, place),
+        Integer::Plus(v, next) => InstructionRead::Is(Instruction::I64Const(v), next),
+        Integer::Minus(v, next) => {
+            InstructionRead::Is(Instruction::I64Const(ALL_BITS - (v - 1)), next)
+        }
+    }
+}
+
+// 43 f32.const: its bytes.
+pub fn float32_const_at(s: &[u8], at: usize) -> InstructionRead
+    ensures { λ r. ⌜ r ≡ instructionIs (float32ConstAt (now (s .entry)) at) ⌝ }
+{
+    let read = number::float32_at(s, at);
+    match read {
+        Natural::Refused(number, place) => InstructionRead::Refused(number, place),
+        Natural::Is(bits, next) => InstructionRead::Is(Instruction::F32Const(bits as u32), next),
+    }
+}
+
+// 44 f64.const: its bytes.
+pub fn float64_const_at(s: &[u8], at: usize) -> InstructionRead
+    ensures { λ r. ⌜ r ≡ instructionIs (float64ConstAt (now (s .entry)) at) ⌝ }
+{
+    let read = number::float64_at(s, at);
+    match read {
+        Natural::Refused(number, place) => InstructionRead::Refused(number, place),
+        Natural::Is(bits, next) => InstructionRead::Is(Instruction::F64Const(bits), next),
     }
 }
 
