@@ -14,7 +14,7 @@ use Rattle.scope.specs.Sizes.{mostTypes}
 use Rattle.scope.specs.Lists.{every, joined}
 use Rattle.scope.specs.Syntax.{Heap, Val}
 use Rattle.scope.specs.TypeRules.{heapNames, valNames}
-use Rattle.scope.specs.Instructions.{Cast, Op, unreachable, nop, return, drop-value, br, br-if, local-get, local-set, local-tee, i32-const, ref-null, ref-is-null, ref-eq, ref-as-non-null, struct-new, struct-new-default, struct-get, struct-set, ref-test, ref-cast, br-on-cast, br-on-cast-fail, struct-new-desc, struct-new-default-desc, ref-get-desc, ref-cast-desc-eq, br-on-cast-desc-eq, br-on-cast-desc-eq-fail, Instr, block, loop, end, op}
+use Rattle.scope.specs.Instructions.{Cast, Op, unreachable, nop, return, drop-value, br, br-if, local-get, local-set, local-tee, i32-const, i64-const, f32-const, f64-const, numeric, ref-null, ref-is-null, ref-eq, ref-as-non-null, struct-new, struct-new-default, struct-get, struct-set, ref-test, ref-cast, br-on-cast, br-on-cast-fail, struct-new-desc, struct-new-default-desc, ref-get-desc, ref-cast-desc-eq, br-on-cast-desc-eq, br-on-cast-desc-eq-fail, Instr, block, loop, end, op}
 use Rattle.scope.specs.BodyRules.{Context, Scope, Plan, Ruled, reached, andRuled, planOf}
 use Rattle.scope.specs.Bodies.{Frame, ofBlock, ofLoop, State, scopeOf, doPlan, entered, judgeInstr}
 use Rattle.scope.proofs.Truths.{decided, from-both}
@@ -136,6 +136,10 @@ module _ (c : Context) (few : c .count ≤ mostTypes) where
     op-kept (local-set x) = refl
     op-kept (local-tee x) = refl
     op-kept (i32-const n) = refl
+    op-kept (i64-const n) = refl
+    op-kept (f32-const n) = refl
+    op-kept (f64-const n) = refl
+    op-kept (numeric b) = refl
     op-kept (ref-null h) = by-heap ref-null _ (λ k. refl) h
     op-kept ref-is-null = refl
     op-kept ref-eq = refl

@@ -1,7 +1,7 @@
 -- A type number is kept as at most 4,095: so whatever instruction is read, an object's word can hold the number of its type.
 use Prim.Native.Nat.{_≤_}
 use native.Mathlib.Omega.{arith}
-use Rattle.scope.specs.Instructions.{Op, unreachable, nop, return, drop-value, br, br-if, local-get, local-set, local-tee, i32-const, ref-null, ref-is-null, ref-eq, ref-as-non-null, struct-new, struct-new-default, struct-get, struct-set, ref-test, ref-cast, br-on-cast, br-on-cast-fail, struct-new-desc, struct-new-default-desc, ref-get-desc, ref-cast-desc-eq, br-on-cast-desc-eq, br-on-cast-desc-eq-fail, Instr, block, loop, end, op}
+use Rattle.scope.specs.Instructions.{Op, unreachable, nop, return, drop-value, br, br-if, local-get, local-set, local-tee, i32-const, i64-const, f32-const, f64-const, numeric, ref-null, ref-is-null, ref-eq, ref-as-non-null, struct-new, struct-new-default, struct-get, struct-set, ref-test, ref-cast, br-on-cast, br-on-cast-fail, struct-new-desc, struct-new-default-desc, ref-get-desc, ref-cast-desc-eq, br-on-cast-desc-eq, br-on-cast-desc-eq-fail, Instr, block, loop, end, op}
 use Rattle.body_immediates.specs.Coding.{operationOf, instructionOf}
 use Rattle.body_decoded.specs.Named.{numberOf, Modest}
 
@@ -17,6 +17,10 @@ kept-number (local-get x) = omega arith
 kept-number (local-set x) = omega arith
 kept-number (local-tee x) = omega arith
 kept-number (i32-const n) = omega arith
+kept-number (i64-const n) = omega arith
+kept-number (f32-const n) = omega arith
+kept-number (f64-const n) = omega arith
+kept-number (numeric b) = omega arith
 kept-number (ref-null h) = omega arith
 kept-number ref-is-null = omega arith
 kept-number ref-eq = omega arith

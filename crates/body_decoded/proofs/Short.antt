@@ -9,10 +9,11 @@ use native.Mathlib.Omega.{arith}
 use lib.ListN.{length, getElem?}
 use lib.Dec.{eqb}
 use Rattle.scope.specs.Reading.{Read, got, refused, Reader, given}
-use Rattle.scope.specs.Numbers.{u32, s32}
+use Rattle.scope.specs.Numbers.{u32, s32, s64, float32, float64}
 use Rattle.scope.specs.Syntax.{Val}
 use Rattle.scope.specs.Sections.{heapAt, valAt}
-use Rattle.scope.specs.Instructions.{Op, Instr, block, loop, end, op, bare, having, havingTwo, blockTypeAt, castAt, opening, closing, firstBytes, afterFB, find, instrAt}
+use Rattle.scope.specs.Instructions.{Op, numeric, Instr, block, loop, end, op, bare, having, havingTwo, blockTypeAt, castAt, opening, closing, firstBytes, afterFB, find, instrAt}
+use Rattle.scope.specs.Numeric.{numericOf}
 use Rattle.scope.proofs.Telling.{Gives, gives-this, gives-nothing, gives-then, gives-either}
 
 pub data Short : Instr → Type 0 where
@@ -73,11 +74,14 @@ first-rows =
     (row-and (having-short u32 _)
     (row-and (having-short u32 _)
     (row-and (having-short s32 _)
+    (row-and (having-short s64 _)
+    (row-and (having-short float32 _)
+    (row-and (having-short float64 _)
     (row-and (having-short heapAt _)
     (row-and (bare-short _)
     (row-and (bare-short _)
     (row-and (bare-short _)
-    none-left))))))))))))))))
+    none-left)))))))))))))))))))
 
 later-rows : Rows afterFB
 later-rows =
@@ -100,11 +104,11 @@ later-rows =
     (row-and (having-short castAt _)
     none-left))))))))))))))))
 
-found-short : (b : ℕ) {rows : List (ℕ × Reader Instr)} → Rows rows → (n p : ℕ) (s : List ℕ) (at : ℕ) → Gives Short (given (find b rows) (refused n p) (λ r. r s at))
-found-short b none-left n p s at = gives-nothing
-found-short b (row-and {code} {r} {more} k rest) n p s at = go (eqb b code) (found-short b rest n p s at)
+found-short : (b : ℕ) {rows : List (ℕ × Reader Instr)} → Rows rows → {z : Read Instr} → Gives Short z → (s : List ℕ) (at : ℕ) → Gives Short (given (find b rows) z (λ r. r s at))
+found-short b none-left other s at = other
+found-short b (row-and {code} {r} {more} k rest) {z} other s at = go (eqb b code) (found-short b rest other s at)
   where
-    go : (t : Bool) → Gives Short (given (find b more) (refused n p) (λ q. q s at)) → Gives Short (given (cond t (some r) (find b more)) (refused n p) (λ q. q s at))
+    go : (t : Bool) → Gives Short (given (find b more) z (λ q. q s at)) → Gives Short (given (cond t (some r) (find b more)) z (λ q. q s at))
     go true later = k .shorts s at
     go false later = later
 
@@ -113,8 +117,8 @@ unfolding instrAt
 instr-short s at =
     gives-given (getElem? s at) gives-nothing (λ b.
     gives-either (eqb b 0xFB)
-    (gives-then (u32 s (at + 1)) (λ n next e. found-short n later-rows _ _ s next))
-    (found-short b first-rows _ _ s (at + 1)))
+    (gives-then (u32 s (at + 1)) (λ n next e. found-short n later-rows gives-nothing s next))
+    (found-short b first-rows (gives-given (numericOf b) gives-nothing (λ kinds. bare-short (numeric b) .shorts s (at + 1))) s (at + 1)))
 
 pub read-short : (s : List ℕ) (at : ℕ) {j : Instr} {next : ℕ} → instrAt s at ≡ got j next → Short j
 read-short s at {j} {next} e = instr-short s at .tells j next e

@@ -5,7 +5,7 @@ use mathlib.Core.Bool.{Bool, cond}
 use mathlib.Core.List.{List, [], _∷_}
 use lib.Dec.{eqb}
 use Rattle.scope.specs.Syntax.{Val}
-use Rattle.scope.specs.Instructions.{Cast, unreachable, nop, return, drop-value, br, br-if, local-get, local-set, local-tee, i32-const, ref-null, ref-is-null, ref-eq, ref-as-non-null, struct-new, struct-new-default, struct-get, struct-set, ref-test, ref-cast, br-on-cast, br-on-cast-fail, struct-new-desc, struct-new-default-desc, ref-get-desc, ref-cast-desc-eq, br-on-cast-desc-eq, br-on-cast-desc-eq-fail, Instr, block, loop, end, op}
+use Rattle.scope.specs.Instructions.{Cast, unreachable, nop, return, drop-value, br, br-if, local-get, local-set, local-tee, i32-const, i64-const, f32-const, f64-const, numeric, ref-null, ref-is-null, ref-eq, ref-as-non-null, struct-new, struct-new-default, struct-get, struct-set, ref-test, ref-cast, br-on-cast, br-on-cast-fail, struct-new-desc, struct-new-default-desc, ref-get-desc, ref-cast-desc-eq, br-on-cast-desc-eq, br-on-cast-desc-eq-fail, Instr, block, loop, end, op}
 use Rattle.type_table.specs.View.{heapAtCode, valAtCode}
 use Rattle.body_immediates.specs.declared.Instruction.{Instruction}
 use Rattle.body_immediates.specs.declared.Instruction
@@ -31,6 +31,10 @@ instrOf (Instruction.the-variants.LocalGet x) = op (local-get x)
 instrOf (Instruction.the-variants.LocalSet x) = op (local-set x)
 instrOf (Instruction.the-variants.LocalTee x) = op (local-tee x)
 instrOf (Instruction.the-variants.I32Const n) = op (i32-const n)
+instrOf (Instruction.the-variants.I64Const n) = op (i64-const n)
+instrOf (Instruction.the-variants.F32Const n) = op (f32-const n)
+instrOf (Instruction.the-variants.F64Const n) = op (f64-const n)
+instrOf (Instruction.the-variants.Numeric b) = op (numeric b)
 instrOf (Instruction.the-variants.RefNull h) = op (ref-null (heapAtCode h))
 instrOf Instruction.the-variants.RefIsNull = op ref-is-null
 instrOf Instruction.the-variants.RefEq = op ref-eq

@@ -16,19 +16,36 @@ use Rattle.number.specs.declared.Natural
 use Rattle.number.specs.Answers.{ByteAt, naturalIs}
 use Rattle.number.proofs.Bits.{byte-got, byte-none, next-fits}
 use Rattle.number.proofs.Laws.{natural-got, natural-refused}
+use Rattle.scope.specs.Numeric.{numericOf}
+use Rattle.body_numeric.specs.declared.NumericRow.{NumericRow}
+use Rattle.body_numeric.specs.Entries.{coded}
+use Rattle.body_numeric.proofs.Laws.{no-code, a-code}
 use Rattle.body_immediates.specs.declared.Instruction.{Instruction}
 use Rattle.body_immediates.specs.declared.Instruction
 use Rattle.body_immediates.specs.declared.InstructionRead.{InstructionRead}
 use Rattle.body_immediates.specs.declared.InstructionRead
 use Rattle.body_cast_immediates.specs.Casting.{castingAt}
-use Rattle.body_immediates.specs.Coding.{operationOf, instructionOf, instructionIs, openingAt, numberedAt, constantAt, nullAt, typedAt, fieldedAt, testedAt}
-use Rattle.body_instruction.specs.Dispatch.{singleAt, listedAt, prefixedAt}
+use Rattle.body_immediates.specs.Coding.{operationOf, instructionOf, instructionIs, openingAt, numberedAt, constantAt, wideAt, float32ConstAt, float64ConstAt, nullAt, typedAt, fieldedAt, testedAt}
+use Rattle.body_instruction.specs.Dispatch.{numericAt, singleAt, listedAt, prefixedAt}
 
 -- At a code that is written out, the list's row and the reader for it compute to the same: a need that says
 -- `unfolding rows` has that by refl.
 unfoldable pub rows : ℕ
-unfolding operationOf instructionOf openingAt numberedAt constantAt nullAt typedAt fieldedAt testedAt castingAt singleAt listedAt
+unfolding operationOf instructionOf openingAt numberedAt constantAt wideAt float32ConstAt float64ConstAt nullAt typedAt fieldedAt testedAt castingAt singleAt listedAt
 rows = 0
+
+-- numeric_at
+
+module _ (b at next : ℕ) {row : NumericRow} (a : row ≡ coded (numericOf b)) where
+  pub numeric-unlisted : row .operands ≡ 0 → InstructionRead.the-variants.Refused notListed at ≡ instructionIs (numericAt b at next)
+  unfolding numericAt
+  numeric-unlisted e = rw (no-code b a e)
+
+  pub numeric-listed : (row .operands ≡ 0 → ⊥) → InstructionRead.the-variants.Is (Instruction.the-variants.Numeric b) next ≡ instructionIs (numericAt b at next)
+  unfolding numericAt instructionOf operationOf
+  numeric-listed n = let (kinds, is, row-is) = a-code b a n in rw is
+
+pub ruleset numeric-exits = (numeric-unlisted, numeric-listed)
 
 -- single_at
 
@@ -45,15 +62,24 @@ module _ (b : ℕ) (s : List ℕ) (at next : ℕ) where
   pub single-constant : {q : InstructionRead} (k : ℕ) → b ≡ k → q ≡ instructionIs (constantAt s next) → constantAt s next ≡ singleAt k s at next → q ≡ instructionIs (singleAt b s at next)
   single-constant k e g f = g ∙ rw e (ap instructionIs f)
 
+  pub single-wide : {q : InstructionRead} (k : ℕ) → b ≡ k → q ≡ instructionIs (wideAt s next) → wideAt s next ≡ singleAt k s at next → q ≡ instructionIs (singleAt b s at next)
+  single-wide k e g f = g ∙ rw e (ap instructionIs f)
+
+  pub single-float32 : {q : InstructionRead} (k : ℕ) → b ≡ k → q ≡ instructionIs (float32ConstAt s next) → float32ConstAt s next ≡ singleAt k s at next → q ≡ instructionIs (singleAt b s at next)
+  single-float32 k e g f = g ∙ rw e (ap instructionIs f)
+
+  pub single-float64 : {q : InstructionRead} (k : ℕ) → b ≡ k → q ≡ instructionIs (float64ConstAt s next) → float64ConstAt s next ≡ singleAt k s at next → q ≡ instructionIs (singleAt b s at next)
+  single-float64 k e g f = g ∙ rw e (ap instructionIs f)
+
   pub single-null : {q : InstructionRead} (k : ℕ) → b ≡ k → q ≡ instructionIs (nullAt s next) → nullAt s next ≡ singleAt k s at next → q ≡ instructionIs (singleAt b s at next)
   single-null k e g f = g ∙ rw e (ap instructionIs f)
 
-  pub single-unlisted : (b ≡ 0x00 → ⊥) → (b ≡ 0x01 → ⊥) → (b ≡ 0x02 → ⊥) → (b ≡ 0x03 → ⊥) → (b ≡ 0x0B → ⊥) → (b ≡ 0x0C → ⊥) → (b ≡ 0x0D → ⊥) → (b ≡ 0x0F → ⊥) → (b ≡ 0x1A → ⊥) → (b ≡ 0x20 → ⊥) → (b ≡ 0x21 → ⊥) → (b ≡ 0x22 → ⊥) → (b ≡ 0x41 → ⊥) → (b ≡ 0xD0 → ⊥) → (b ≡ 0xD1 → ⊥) → (b ≡ 0xD3 → ⊥) → (b ≡ 0xD4 → ⊥) → InstructionRead.the-variants.Refused notListed at ≡ instructionIs (singleAt b s at next)
+  pub single-numeric : {q : InstructionRead} → q ≡ instructionIs (numericAt b at next) → (b ≡ 0x00 → ⊥) → (b ≡ 0x01 → ⊥) → (b ≡ 0x02 → ⊥) → (b ≡ 0x03 → ⊥) → (b ≡ 0x0B → ⊥) → (b ≡ 0x0C → ⊥) → (b ≡ 0x0D → ⊥) → (b ≡ 0x0F → ⊥) → (b ≡ 0x1A → ⊥) → (b ≡ 0x20 → ⊥) → (b ≡ 0x21 → ⊥) → (b ≡ 0x22 → ⊥) → (b ≡ 0x41 → ⊥) → (b ≡ 0x42 → ⊥) → (b ≡ 0x43 → ⊥) → (b ≡ 0x44 → ⊥) → (b ≡ 0xD0 → ⊥) → (b ≡ 0xD1 → ⊥) → (b ≡ 0xD3 → ⊥) → (b ≡ 0xD4 → ⊥) → q ≡ instructionIs (singleAt b s at next)
   unfolding singleAt
-  single-unlisted e0 e1 e2 e3 e4 e5 e6 e7 e8 e9 e10 e11 e12 e13 e14 e15 e16 =
-      rw (ne-eqb b 0x00 e0, ne-eqb b 0x01 e1, ne-eqb b 0x02 e2, ne-eqb b 0x03 e3, ne-eqb b 0x0B e4, ne-eqb b 0x0C e5, ne-eqb b 0x0D e6, ne-eqb b 0x0F e7, ne-eqb b 0x1A e8, ne-eqb b 0x20 e9, ne-eqb b 0x21 e10, ne-eqb b 0x22 e11, ne-eqb b 0x41 e12, ne-eqb b 0xD0 e13, ne-eqb b 0xD1 e14, ne-eqb b 0xD3 e15, ne-eqb b 0xD4 e16)
+  single-numeric g e0 e1 e2 e3 e4 e5 e6 e7 e8 e9 e10 e11 e12 e13 e14 e15 e16 e17 e18 e19 =
+      g ∙ sym (rw (ne-eqb b 0x00 e0, ne-eqb b 0x01 e1, ne-eqb b 0x02 e2, ne-eqb b 0x03 e3, ne-eqb b 0x0B e4, ne-eqb b 0x0C e5, ne-eqb b 0x0D e6, ne-eqb b 0x0F e7, ne-eqb b 0x1A e8, ne-eqb b 0x20 e9, ne-eqb b 0x21 e10, ne-eqb b 0x22 e11, ne-eqb b 0x41 e12, ne-eqb b 0x42 e13, ne-eqb b 0x43 e14, ne-eqb b 0x44 e15, ne-eqb b 0xD0 e16, ne-eqb b 0xD1 e17, ne-eqb b 0xD3 e18, ne-eqb b 0xD4 e19))
 
-pub ruleset single-exits = (single-bare, single-opening, single-numbered, single-constant, single-null, single-unlisted)
+pub ruleset single-exits = (single-bare, single-opening, single-numbered, single-constant, single-wide, single-float32, single-float64, single-null, single-numeric)
 
 -- listed_at
 
@@ -103,7 +129,11 @@ module _ {s : List ℕ} {at : ℕ} {r : Byte} (a : ByteAt s at r) where
     instruction-prefixed f g = g ∙ sym (rw (byte-got (getElem? s at) (a .is) e, eq-eqb b 0xFB f))
 
     pub instruction-single : {q : InstructionRead} → (b ≡ 0xFB → ⊥) → q ≡ instructionIs (singleAt b s at (at + 1)) → q ≡ instructionIs (instrAt s at)
-    unfolding instrAt singleAt
+    unfolding instrAt singleAt numericAt
     instruction-single f g = g ∙ sym (rw (byte-got (getElem? s at) (a .is) e, ne-eqb b 0xFB f))
 
-pub ruleset instruction-exits = (next-fits, instruction-missing, instruction-prefixed, instruction-single)
+    -- what was read is a byte
+    pub instruction-byte : b < 2 ^ 8
+    instruction-byte = a .small b e .0
+
+pub ruleset instruction-exits = (next-fits, instruction-byte, instruction-missing, instruction-prefixed, instruction-single)

@@ -1,16 +1,33 @@
-// Reading one instruction: its code, then what follows it. The first byte decides; after FB, a u32 does.
+// Reading one instruction: its code, then what follows it. The first byte decides; after FB, a u32 does. Which bytes are
+// numeric codes the table of body_numeric knows.
 use body_immediates::Instruction;
 use body_immediates::InstructionRead;
 use number::Byte;
 use number::Natural;
 use scope::refusals;
+ghost use Prim.Native.Nat.{_<_, _^_};
 ghost use mathlib.Core.Path.{_≡_};
 ghost use Rattle.scope.specs.Instructions.{instrAt};
 ghost use Rattle.body_immediates.specs.Coding.{instructionIs};
-ghost use Rattle.body_instruction.specs.Dispatch.{singleAt, listedAt, prefixedAt};
+ghost use Rattle.body_instruction.specs.Dispatch.{numericAt, singleAt, listedAt, prefixedAt};
+
+// A numeric code b at `at`, where the table has it: a code alone.
+fn numeric_at(at: usize, b: u64, next: usize) -> InstructionRead
+    requires { ⌜ b < 2 ^ 8 ⌝ }
+    ensures { λ r. ⌜ r ≡ instructionIs (numericAt b at next) ⌝ }
+{
+    let code = b as u8;
+    let row = body_numeric::numeric_row(code);
+    let operands = row.operands;
+    if operands == 0 {
+        return InstructionRead::Refused(refusals::NOT_LISTED, at);
+    }
+    InstructionRead::Is(Instruction::Numeric(code), next)
+}
 
 // What the first byte b at `at` begins, where it is not FB; what follows the byte is read at `next`.
 fn single_at(s: &[u8], at: usize, b: u64, next: usize) -> InstructionRead
+    requires { ⌜ b < 2 ^ 8 ⌝ }
     ensures { λ r. ⌜ r ≡ instructionIs (singleAt b (now (s .entry)) at next) ⌝ }
 {
     match b {
@@ -27,11 +44,14 @@ fn single_at(s: &[u8], at: usize, b: u64, next: usize) -> InstructionRead
         0x21 => body_immediates::numbered_at(s, next, b),
         0x22 => body_immediates::numbered_at(s, next, b),
         0x41 => body_immediates::constant_at(s, next),
+        0x42 => body_immediates::wide_at(s, next),
+        0x43 => body_immediates::float32_const_at(s, next),
+        0x44 => body_immediates::float64_const_at(s, next),
         0xD0 => body_immediates::null_at(s, next),
         0xD1 => InstructionRead::Is(Instruction::RefIsNull, next),
         0xD3 => InstructionRead::Is(Instruction::RefEq, next),
         0xD4 => InstructionRead::Is(Instruction::RefAsNonNull, next),
-        _ => InstructionRead::Refused(refusals::NOT_LISTED, at),
+        _ => numeric_at(at, b, next),
     }
 }
 

@@ -29,7 +29,7 @@ add-single-at : tie.Need-add-single-at
 add-single-at c = search (instruction-exits, needs)
 
 single-at-requires : tie.Need-single-at-requires
-single-at-requires c κs = search needs
+single-at-requires c κs = search (instruction-exits, needs)
 
 returns-3 : tie.Need-returns-3
 returns-3 c = search (instruction-exits, needs)

@@ -1,4 +1,4 @@
--- `body_instruction::single_at` meets its contract: the byte picks its row, or none.
+-- `body_instruction::single_at` meets its contract: the byte picks its row, or is asked of the table of numeric codes.
 use borrow.Author.Needs.{needs}
 use Rattle.body_instruction.proofs.Codes.{rows, single-exits}
 use Rattle.body_instruction.proofs.single_at.Statement.{statement}
@@ -28,8 +28,20 @@ numbered-at-requires-5 c κs = search needs
 constant-at-requires : tie.Need-constant-at-requires
 constant-at-requires c κs = search needs
 
+wide-at-requires : tie.Need-wide-at-requires
+wide-at-requires c κs = search needs
+
+float32-const-at-requires : tie.Need-float32-const-at-requires
+float32-const-at-requires c κs = search needs
+
+float64-const-at-requires : tie.Need-float64-const-at-requires
+float64-const-at-requires c κs = search needs
+
 null-at-requires : tie.Need-null-at-requires
 null-at-requires c κs = search needs
+
+numeric-at-requires : tie.Need-numeric-at-requires
+numeric-at-requires c κs = search needs
 
 returns : tie.Need-returns
 unfolding rows
@@ -103,6 +115,18 @@ returns-18 : tie.Need-returns-18
 unfolding rows
 returns-18 c = search (single-exits, needs)
 
+returns-19 : tie.Need-returns-19
+unfolding rows
+returns-19 c = search (single-exits, needs)
+
+returns-20 : tie.Need-returns-20
+unfolding rows
+returns-20 c = search (single-exits, needs)
+
+returns-21 : tie.Need-returns-21
+unfolding rows
+returns-21 c = search (single-exits, needs)
+
 pub single-at-spec : {M : Type 1} → statement M
 single-at-spec =
     tie.close
@@ -115,7 +139,11 @@ single-at-spec =
     numbered-at-requires-4
     numbered-at-requires-5
     constant-at-requires
+    wide-at-requires
+    float32-const-at-requires
+    float64-const-at-requires
     null-at-requires
+    numeric-at-requires
     returns
     returns-2
     returns-3
@@ -133,4 +161,7 @@ single-at-spec =
     returns-15
     returns-16
     returns-17
-    returns-18)
+    returns-18
+    returns-19
+    returns-20
+    returns-21)
