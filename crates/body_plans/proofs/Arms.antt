@@ -3,7 +3,7 @@ use Prim.Native.Nat.{ℕ, _+_}
 use mathlib.Core.Path.{_≡_, refl, _∙_}
 use mathlib.Core.Bool.{Bool, true, false}
 use mathlib.Core.List.{List}
-use Rattle.scope.specs.Instructions.{Op, op}
+use Rattle.scope.specs.Instructions.{Op, i64-const, f32-const, f64-const, op}
 use Rattle.scope.specs.BodyRules.{Context, planOf}
 use Rattle.scope.specs.Bodies.{State, scopeOf, judgeInstr}
 use Rattle.type_table.specs.View.{heapAtCode, codesAt, view}
@@ -18,6 +18,7 @@ use Rattle.body_state.specs.State.{valAtWord, valuesOf, plannedOf, setsAt, cont
 use Rattle.body_plan_parts.specs.Planning.{Follows, Anywhere, Takes, Stops}
 use Rattle.body_plan_parts.proofs.Words.{wants-none, wants-any, wants-reference, wants-eq-ref, gives-none, gives-i32}
 use Rattle.body_plan_locals.specs.Uses.{Uses, Sets}
+use Rattle.body_plan_numbers.specs.Everywhere.{Everywhere, Constant}
 use Rattle.body_plan_casts.specs.Casts.{Tests}
 use Rattle.body_plan_labels.specs.Labels.{labelsAt, Goes}
 use Rattle.body_plan_branches.specs.Branches.{Branching}
@@ -54,6 +55,9 @@ module _ (rows codes work : List ℕ) (k : Scene) (st : Check) (i : Instruction)
   pub anywhere : Anywhere (k .types) o p → instrOf j ≡ op o → actOf codes (contextAt rows codes work k) (stateAt work (k .locals) st) (Act.the-variants.Does p) ≡ judgeInstr (contextAt rows codes work k) (stateAt work (k .locals) st) (instrOf i)
   anywhere a f = follows (a .is codes (view rows codes)) f
 
+  pub everywhere : Everywhere o p → instrOf j ≡ op o → actOf codes (contextAt rows codes work k) (stateAt work (k .locals) st) (Act.the-variants.Does p) ≡ judgeInstr (contextAt rows codes work k) (stateAt work (k .locals) st) (instrOf i)
+  everywhere a f = anywhere (a .is (k .types)) f
+
   pub goes : Goes work k (st .depth) o p → instrOf j ≡ op o → actOf codes (contextAt rows codes work k) (stateAt work (k .locals) st) (Act.the-variants.Does p) ≡ judgeInstr (contextAt rows codes work k) (stateAt work (k .locals) st) (instrOf i)
   unfolding contextAt stateAt labelsAt
   goes a f = does codes _ _ i e f p (a .is codes _ _)
@@ -72,6 +76,21 @@ module _ (rows codes work : List ℕ) (k : Scene) (st : Check) (i : Instruction)
 pub tests : (rows codes work : List ℕ) (k : Scene) (st : Check) (i : Instruction) {n : Bool} {h : ℕ} → i ≡ Instruction.the-variants.RefTest n h → {p : Planned} → Tests codes (view rows codes) (k .types) (heapAtCode h) p → actOf codes (contextAt rows codes work k) (stateAt work (k .locals) st) (Act.the-variants.Does p) ≡ judgeInstr (contextAt rows codes work k) (stateAt work (k .locals) st) (instrOf i)
 unfolding instrOf
 tests rows codes work k st i {n} e a = follows rows codes work k st i e (a .is n) refl
+
+-- constants, whatever their bits
+
+module _ (rows codes work : List ℕ) (k : Scene) (st : Check) (i : Instruction) {n : ℕ} {p : Planned} where
+  pub takes-i64 : i ≡ Instruction.the-variants.I64Const n → Constant i64-const p → actOf codes (contextAt rows codes work k) (stateAt work (k .locals) st) (Act.the-variants.Does p) ≡ judgeInstr (contextAt rows codes work k) (stateAt work (k .locals) st) (instrOf i)
+  unfolding instrOf
+  takes-i64 e a = everywhere rows codes work k st i e (a .is n) refl
+
+  pub takes-f32 : i ≡ Instruction.the-variants.F32Const n → Constant f32-const p → actOf codes (contextAt rows codes work k) (stateAt work (k .locals) st) (Act.the-variants.Does p) ≡ judgeInstr (contextAt rows codes work k) (stateAt work (k .locals) st) (instrOf i)
+  unfolding instrOf
+  takes-f32 e a = everywhere rows codes work k st i e (a .is n) refl
+
+  pub takes-f64 : i ≡ Instruction.the-variants.F64Const n → Constant f64-const p → actOf codes (contextAt rows codes work k) (stateAt work (k .locals) st) (Act.the-variants.Does p) ≡ judgeInstr (contextAt rows codes work k) (stateAt work (k .locals) st) (instrOf i)
+  unfolding instrOf
+  takes-f64 e a = everywhere rows codes work k st i e (a .is n) refl
 
 -- plans that are written out
 

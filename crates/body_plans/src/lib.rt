@@ -1,6 +1,6 @@
 // The rule of each instruction: its tests in document 01's order (6, 21, 23, 24, 25, 29, 22), then what it takes and gives.
 // Nothing is written here. Each answer is that of scope's BodyRules.antt over what the table and the scratch say. The plans
-// of locals, structs, casts, labels and branches stand in the crates body_plan_*; this is the dispatch over all instructions.
+// of locals, numbers, structs, casts, labels and branches stand in the crates body_plan_*; this is the dispatch over all instructions.
 use body_immediates::Instruction;
 use body_plan_branches::Reference;
 use body_plan_parts::ANY_REFERENCE;
@@ -88,6 +88,22 @@ pub fn act_of(
         }
         Instruction::I32Const(_) => {
             let plan = body_plan_parts::takes(0, 0, Values::Types(0, 0), I32 + GIVEN);
+            Act::Does(plan)
+        }
+        Instruction::I64Const(_) => {
+            let plan = body_plan_numbers::i64_const();
+            Act::Does(plan)
+        }
+        Instruction::F32Const(_) => {
+            let plan = body_plan_numbers::f32_const();
+            Act::Does(plan)
+        }
+        Instruction::F64Const(_) => {
+            let plan = body_plan_numbers::f64_const();
+            Act::Does(plan)
+        }
+        Instruction::Numeric(b) => {
+            let plan = body_plan_numbers::numeric(b);
             Act::Does(plan)
         }
         Instruction::RefNull(h) => {
