@@ -1,6 +1,6 @@
 -- Each way out of the integer instructions.
 use Prim.Native.Nat.{ℕ, _+_, _-_, _%_, _^_, _<_}
-use mathlib.Core.Path.{_≡_, refl, sym, ap, _∙_}
+use mathlib.Core.Path.{_≡_, refl, ap, _∙_}
 use mathlib.Core.Bool.{Bool}
 use mathlib.Core.Option.{none, some}
 use mathlib.Core.List.{List, [], _∷_}
@@ -9,7 +9,6 @@ use native.Mathlib.Nat.{mod-eq-of-lt}
 use types.Run.{OneOf, miss}
 use denote.Enum.Declared.{tagOf}
 use lib.Dec.{eqb}
-use lib.Ieee.{Float}
 use Rattle.scope.specs.Syntax.{Number, i32, i64}
 use Rattle.scope.specs.Integers.{intAdd, intSub}
 use Rattle.scope.specs.Arithmetic.{asBits}

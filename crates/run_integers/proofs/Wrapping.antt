@@ -1,8 +1,7 @@
 -- Integers that wrap, over the width: a test by its name, and what a sum and a difference are.
-use Prim.Native.Nat.{ℕ, _+_, _-_, _%_, _^_, _<_}
-use mathlib.Core.Path.{_≡_, refl, sym, ap, _∙_}
+use Prim.Native.Nat.{ℕ}
+use mathlib.Core.Path.{_≡_, refl}
 use mathlib.Core.Bool.{not}
-use native.Mathlib.Omega.{arith}
 use lib.Dec.{eqb, ltb, leb}
 use Rattle.scope.specs.Integers.{topTurned, intLessSigned, intAtMostSigned}
 use Rattle.run_integers.specs.declared.IntegerTest
