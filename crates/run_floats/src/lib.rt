@@ -105,8 +105,8 @@ pub fn negated_32(first: Value) -> Calculated
             let v = turned_32(bits);
             Calculated::OfOne(v)
         }
-        Value::Nan32(bits) => {
-            let v = turned_32(bits);
+        Value::Nan32(pattern) => {
+            let v = turned_32(pattern);
             Calculated::OfOne(v)
         }
         _ => Calculated::Wrong,
@@ -183,8 +183,8 @@ pub fn negated_64(first: Value) -> Calculated
             let v = turned_64(bits);
             Calculated::OfOne(v)
         }
-        Value::Nan64(bits) => {
-            let v = turned_64(bits);
+        Value::Nan64(pattern) => {
+            let v = turned_64(pattern);
             Calculated::OfOne(v)
         }
         _ => Calculated::Wrong,
