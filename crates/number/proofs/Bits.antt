@@ -161,7 +161,7 @@ module _ {s : List ℕ} {at b most : ℕ} (g : GoesOn s at b most) where
   pub part-second : Part most s at (b - 128) 128 (at + 1) 1
   part-second =
       let first : Part most s at (0 + 1 * (b - 128)) (1 * 128) (at + 1) (0 + 1) =
-          part-turn (g .room) (part-first most s at) (g .room .some) (record { is = rw (g .byte); small = λ c e. let same : b ≡ c = cc in rw (← same) (g .small, g .inside) }) refl (g .more) in
+      part-turn (g .room) (part-first most s at) (g .room .some) (record { is = rw (g .byte); small = λ c e. let same : b ≡ c = cc in rw (← same) (g .small, g .inside) }) refl (g .more) in
       let value : 0 + 1 * (b - 128) ≡ b - 128 = omega arith in
       rw value at first
 
