@@ -9,7 +9,7 @@ use lib.Dec.{leb}
 use types.Run.{OneOf, miss}
 use denote.Enum.Declared.{tagOf}
 use Rattle.scope.specs.Reading.{Read}
-use Rattle.scope.specs.Instructions.{Op, unreachable, nop, return, drop-value, br, br-if, local-get, local-set, local-tee, i32-const, ref-null, ref-is-null, ref-eq, ref-as-non-null, struct-new, struct-new-default, struct-get, struct-set, ref-test, ref-cast, br-on-cast, br-on-cast-fail, struct-new-desc, struct-new-default-desc, ref-get-desc, ref-cast-desc-eq, br-on-cast-desc-eq, br-on-cast-desc-eq-fail, Instr, block, loop, end, op}
+use Rattle.scope.specs.Instructions.{Op, unreachable, nop, return, drop-value, br, br-if, local-get, local-set, local-tee, i32-const, i64-const, f32-const, f64-const, numeric, ref-null, ref-is-null, ref-eq, ref-as-non-null, struct-new, struct-new-default, struct-get, struct-set, ref-test, ref-cast, br-on-cast, br-on-cast-fail, struct-new-desc, struct-new-default-desc, ref-get-desc, ref-cast-desc-eq, br-on-cast-desc-eq, br-on-cast-desc-eq-fail, Instr, block, loop, end, op}
 use Rattle.scope.proofs.Impossible.{contradiction, impossible}
 use Rattle.body_immediates.specs.declared.Instruction.{Instruction}
 use Rattle.body_immediates.specs.declared.Instruction
@@ -45,6 +45,10 @@ op-inside (local-get x) = refl
 op-inside (local-set x) = refl
 op-inside (local-tee x) = refl
 op-inside (i32-const n) = refl
+op-inside (i64-const n) = refl
+op-inside (f32-const n) = refl
+op-inside (f64-const n) = refl
+op-inside (numeric b) = refl
 op-inside (ref-null h) = refl
 op-inside ref-is-null = refl
 op-inside ref-eq = refl
@@ -66,7 +70,7 @@ op-inside (br-on-cast-desc-eq-fail k) = refl
 
 -- every other code
 abbrev pub other-codes : List ℕ
-other-codes = 0 ∷ 1 ∷ 5 ∷ 6 ∷ 7 ∷ 8 ∷ 9 ∷ 10 ∷ 11 ∷ 12 ∷ 13 ∷ 14 ∷ 15 ∷ 16 ∷ 17 ∷ 18 ∷ 19 ∷ 20 ∷ 21 ∷ 22 ∷ 23 ∷ 24 ∷ 25 ∷ 26 ∷ 27 ∷ 28 ∷ 29 ∷ 30 ∷ []
+other-codes = 0 ∷ 1 ∷ 5 ∷ 6 ∷ 7 ∷ 8 ∷ 9 ∷ 10 ∷ 11 ∷ 12 ∷ 13 ∷ 14 ∷ 15 ∷ 16 ∷ 17 ∷ 18 ∷ 19 ∷ 20 ∷ 21 ∷ 22 ∷ 23 ∷ 24 ∷ 25 ∷ 26 ∷ 27 ∷ 28 ∷ 29 ∷ 30 ∷ 31 ∷ 32 ∷ 33 ∷ 34 ∷ []
 
 module _ {i : Instruction} where
   -- it is none of those inside a block

@@ -1,15 +1,20 @@
 -- Each arm of `move_of`: the move that it answers is what its instruction comes to, by the contract of the call that told it.
 use Prim.Native.Nat.{ℕ, _^_, _<_}
 use mathlib.Core.Path.{_≡_, refl, sym, ap, _∙_}
-use mathlib.Core.List.{List}
+use mathlib.Core.List.{List, _∷_}
 use native.Mathlib.Omega.{arith}
+use native.Mathlib.Nat.{mod-eq-of-lt}
 use lib.ListN.{length, drop}
 use Rattle.scope.specs.Refusals.{trapUnreachable}
 use Rattle.scope.specs.Instructions.{Op, op}
-use Rattle.scope.specs.Machine.{Machine, Program, doOp}
+use Rattle.scope.specs.Syntax.{Number}
+use Rattle.scope.specs.Machine.{Value as Valued, number, Machine, Program, goes, withOperands, doOp}
 use Rattle.scope.proofs.Impossible.{contradiction}
 use Rattle.lent_u16.specs.Words.{wordLimit}
+use Rattle.run_values.specs.Values.{width, within}
 use Rattle.run_value.specs.declared.Value
+use Rattle.run_value.specs.declared.Value.{Value as Carrier}
+use Rattle.run_value.specs.Carried.{decoded, SingleIs, DoubleIs}
 use Rattle.type_table.specs.View.{view}
 use Rattle.body_immediates.specs.declared.Instruction.{Instruction}
 use Rattle.body_immediates.specs.declared.Instruction
@@ -23,7 +28,7 @@ use Rattle.run_state.specs.declared.Move.{Move}
 use Rattle.run_state.specs.declared.Move
 use Rattle.run_state.specs.Moved.{MoveIs}
 use Rattle.run_state.specs.Planned.{Seen, Knows, Holds, TopPlans, LocalPlans, FieldPlans, MakePlans}
-use Rattle.run_state.proofs.Moving.{trapping, leaving, branching, returning, giving-i32, giving-null}
+use Rattle.run_state.proofs.Moving.{trapping, leaving, branching, returning, giving, giving-null}
 use Rattle.run_move_operands.specs.Seconds.{SecondIs}
 use Rattle.run_move_casts.specs.Casts.{CastPlans, DescriptorPlans}
 use Rattle.run_moves.specs.Moving.{MoveOf}
@@ -128,10 +133,27 @@ module _ (rows codes objects cells locals operands : List ℕ) (count : ℕ) (st
     unfolding instrOf doOp
     by-branch {l} e = tells e refl (λ p m types holds. branching 0 l refl (omega arith))
 
-    pub by-const : {n : ℕ} → i ≡ Instruction.the-variants.I32Const n → n < 2 ^ 32 → Tells i (Move.the-variants.Gives 0 (Value.the-variants.I32 n))
+    -- a constant, by the case in which its value is carried
+
+    gives-constant : {j : Instruction} {o : Op} {k : Number} {n : ℕ} {v : Carrier} → i ≡ j → instrOf j ≡ op o → ((p : Program) (m : Machine) → doOp p m (m .operands) o ≡ goes (withOperands m (number k n ∷ m .operands))) → decoded v ≡ number k (within k n) → n < 2 ^ width k → Tells i (Move.the-variants.Gives 0 v)
+    gives-constant {n = n} {v = v} e f does is small =
+        tells e f (λ p m types holds. giving 0 v (does p m ∙ ap (λ (u : Valued). goes (withOperands m (u ∷ m .operands))) (sym (is ∙ ap (number _) (mod-eq-of-lt small)))) (omega arith))
+
+    pub by-i32 : {n : ℕ} → i ≡ Instruction.the-variants.I32Const n → n < 2 ^ 32 → Tells i (Move.the-variants.Gives 0 (Value.the-variants.I32 n))
     unfolding instrOf doOp
-    by-const {n} e small =
-        tells e refl (λ p m types holds. giving-i32 0 n small refl (omega arith))
+    by-i32 e small = gives-constant e refl (λ p m. refl) refl small
+
+    pub by-i64 : {n : ℕ} → i ≡ Instruction.the-variants.I64Const n → n < 2 ^ 64 → Tells i (Move.the-variants.Gives 0 (Value.the-variants.I64 n))
+    unfolding instrOf doOp
+    by-i64 e small = gives-constant e refl (λ p m. refl) refl small
+
+    pub by-f32 : {n : ℕ} {v : Carrier} → i ≡ Instruction.the-variants.F32Const n → SingleIs n v → n < 2 ^ 32 → Tells i (Move.the-variants.Gives 0 v)
+    unfolding instrOf doOp
+    by-f32 e a small = gives-constant e refl (λ p m. refl) (a .is) small
+
+    pub by-f64 : {n : ℕ} {v : Carrier} → i ≡ Instruction.the-variants.F64Const n → DoubleIs n v → n < 2 ^ 64 → Tells i (Move.the-variants.Gives 0 v)
+    unfolding instrOf doOp
+    by-f64 e a small = gives-constant e refl (λ p m. refl) (a .is) small
 
     pub by-null : {h : ℕ} → i ≡ Instruction.the-variants.RefNull h → Tells i (Move.the-variants.Gives 0 Value.the-variants.Null)
     unfolding instrOf doOp
@@ -142,4 +164,4 @@ module _ (rows codes objects cells locals operands : List ℕ) (count : ℕ) (st
 pub by-number : {i j : Instruction} {x : ℕ} → Modest i → i ≡ j → numberOf j ≡ x → x < wordLimit
 by-number a e f = rw (← f, ← e) (a .small)
 
-pub ruleset arm-exits = (by-number, by-block, by-loop, by-end, by-unreachable, by-nop, by-return, by-branch, by-const, by-null, by-tops, by-locals, by-fields, by-making, by-casts, by-descriptors)
+pub ruleset arm-exits = (by-number, by-block, by-loop, by-end, by-unreachable, by-nop, by-return, by-branch, by-i32, by-i64, by-f32, by-f64, by-null, by-tops, by-locals, by-fields, by-making, by-casts, by-descriptors)

@@ -1,5 +1,5 @@
 // The move of each instruction, from the words of a run's memory. Nothing is written here. The moves are told in the
-// crates run_move_operands, run_move_fields, run_move_new and run_move_casts.
+// crates run_move_operands, run_move_numbers, run_move_fields, run_move_new and run_move_casts.
 use body_immediates::Instruction;
 use run_state::Move;
 use run_state::Stage;
@@ -47,6 +47,16 @@ pub fn move_of(
         Instruction::LocalSet(x) => run_move_operands::set_move(locals, count, first, x),
         Instruction::LocalTee(x) => run_move_operands::tee_move(locals, count, first, x),
         Instruction::I32Const(bits) => Move::Gives(0, Value::I32(bits)),
+        Instruction::I64Const(bits) => Move::Gives(0, Value::I64(bits)),
+        Instruction::F32Const(bits) => {
+            let v = run_value::single(bits);
+            Move::Gives(0, v)
+        }
+        Instruction::F64Const(bits) => {
+            let v = run_value::double(bits);
+            Move::Gives(0, v)
+        }
+        Instruction::Numeric(code) => run_move_numbers::numeric_move(first, second, code),
         Instruction::RefNull(_) => Move::Gives(0, Value::Null),
         Instruction::RefIsNull => run_move_operands::is_null_move(first, second),
         Instruction::RefEq => run_move_operands::eq_move(first, second),

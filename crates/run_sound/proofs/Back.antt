@@ -11,7 +11,7 @@ use Rattle.scope.specs.Reading.{got}
 use Rattle.scope.specs.Lists.{joined}
 use Rattle.scope.specs.Syntax.{Val}
 use Rattle.scope.specs.TypeRules.{valNames}
-use Rattle.scope.specs.Instructions.{Op, unreachable, nop, return, drop-value, br, br-if, local-get, local-set, local-tee, i32-const, ref-null, ref-is-null, ref-eq, ref-as-non-null, struct-new, struct-new-default, struct-get, struct-set, ref-test, ref-cast, br-on-cast, br-on-cast-fail, struct-new-desc, struct-new-default-desc, ref-get-desc, ref-cast-desc-eq, br-on-cast-desc-eq, br-on-cast-desc-eq-fail, Instr, block, loop, op, instrAt}
+use Rattle.scope.specs.Instructions.{Op, unreachable, nop, return, drop-value, br, br-if, local-get, local-set, local-tee, i32-const, i64-const, f32-const, f64-const, numeric, ref-null, ref-is-null, ref-eq, ref-as-non-null, struct-new, struct-new-default, struct-get, struct-set, ref-test, ref-cast, br-on-cast, br-on-cast-fail, struct-new-desc, struct-new-default-desc, ref-get-desc, ref-cast-desc-eq, br-on-cast-desc-eq, br-on-cast-desc-eq-fail, Instr, block, loop, op, instrAt}
 use Rattle.scope.specs.BodyRules.{Context, Scope, Ruled, reached, planOf}
 use Rattle.scope.specs.Bodies.{State, scopeOf, Code, Body, judgeInstr}
 use Rattle.scope.specs.Machine.{Machine}
@@ -51,6 +51,10 @@ module _ (c : Context) (few : c .count ≤ mostTypes) where
   op-back here (local-set x) = anyhow refl
   op-back here (local-tee x) = anyhow refl
   op-back here (i32-const n) = anyhow refl
+  op-back here (i64-const n) = anyhow refl
+  op-back here (f32-const n) = anyhow refl
+  op-back here (f64-const n) = anyhow refl
+  op-back here (numeric b) = anyhow refl
   op-back here (ref-null h) = in-reach (heap-read bound) (λ k. op (ref-null k)) h _
   op-back here ref-is-null = anyhow refl
   op-back here ref-eq = anyhow refl
