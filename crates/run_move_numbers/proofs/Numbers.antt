@@ -1,4 +1,4 @@
--- Each way out of an operand and of a numeric instruction's move.
+-- Each way out of a numeric instruction's move.
 use Prim.Native.Nat.{ℕ, _≤_}
 use mathlib.Core.Path.{_≡_, refl, sym, ap, ap₂, _∙_}
 use mathlib.Core.Option.{Option, none, some}
@@ -12,7 +12,6 @@ use Rattle.scope.specs.Arithmetic.{Deed, ofOne, ofTwo, deedOf}
 use Rattle.scope.specs.Instructions.{numeric}
 use Rattle.scope.specs.Machine.{Value, null, number, Machine, Program, doOp}
 use Rattle.scope.proofs.Impossible.{contradiction}
-use Rattle.run_value.specs.declared.Value
 use Rattle.run_value.specs.declared.Value.{Value as Carrier}
 use Rattle.run_value.specs.Carried.{decoded}
 use Rattle.run_calculated.specs.declared.Calculated
@@ -20,23 +19,13 @@ use Rattle.run_calculated.specs.declared.Calculated.{Calculated}
 use Rattle.run_calculated.specs.Calculations.{Comes, one-gives, two-give, other, wrong, bitsAs, byOne, byTwo, byDeed, comesTo, told, CalculatedIs}
 use Rattle.run_calculated.proofs.Laws.{done, numeric-is}
 use Rattle.run_stack.specs.declared.Topmost.{Topmost}
-use Rattle.run_stack.specs.declared.Topmost
-use Rattle.run_stack.specs.Pile.{topOf, headOf}
+use Rattle.run_stack.specs.Pile.{headOf}
 use Rattle.run_state.specs.declared.Move
-use Rattle.run_state.specs.Moved.{MoveIs}
 use Rattle.run_state.specs.Planned.{Seen, TopPlans}
 use Rattle.run_state.proofs.Moving.{strays, trapping, giving}
 use Rattle.run_move_numbers.specs.Operands.{OperandIs}
 
 -- an operand
-
-pub operand-missing : {t : Topmost} → t ≡ Topmost.the-variants.Nothing → OperandIs t Value.the-variants.Null
-operand-missing e = record { is = rw e refl }
-
-pub operand-there : {t : Topmost} {v : Carrier} → t ≡ Topmost.the-variants.Is v → OperandIs t v
-operand-there e = record { is = rw e refl }
-
-pub ruleset operand-exits = (operand-missing, operand-there)
 
 topmost-is : (vs : List Value) → given (headOf vs) null (λ v. v) ≡ getD vs 0 null
 topmost-is [] = refl
@@ -97,29 +86,29 @@ two-low (v ∷ w ∷ vs) code e = omega arith
 -- the move
 
 module _ {first second : Topmost} {code : ℕ} {x y : Carrier} (a : OperandIs first x) (b : OperandIs second y) {r : Calculated} (c : CalculatedIs code x y r) where
-  comes : {m : Machine} → Seen (m .operands) first → Seen (drop 1 (m .operands)) second → {q : Calculated} → r ≡ q → told q ≡ comesTo code (getD (m .operands) 0 null) (getD (m .operands) 1 null)
-  comes {m} top next e =
+  comes : (m : Machine) → Seen (m .operands) first → Seen (drop 1 (m .operands)) second → {q : Calculated} → r ≡ q → told q ≡ comesTo code (getD (m .operands) 0 null) (getD (m .operands) 1 null)
+  comes m top next e =
       ap told (sym e)
       ∙ c .is
       ∙ ap₂ (comesTo code) (seen-is top a ∙ topmost-is (m .operands)) (seen-is next b ∙ under-is (m .operands))
 
-  does : {p : Program} {m : Machine} → Seen (m .operands) first → Seen (drop 1 (m .operands)) second → {q : Calculated} → r ≡ q → doOp p m (m .operands) (numeric code) ≡ done m (m .operands) (told q)
+  does : (p : Program) (m : Machine) → Seen (m .operands) first → Seen (drop 1 (m .operands)) second → {q : Calculated} → r ≡ q → doOp p m (m .operands) (numeric code) ≡ done m (m .operands) (told q)
   unfolding doOp
-  does {p} {m} top next e =
-      numeric-is m (m .operands) code ∙ ap (done m (m .operands)) (sym (comes top next e))
+  does p m top next e =
+      numeric-is m (m .operands) code ∙ ap (done m (m .operands)) (sym (comes m top next e))
 
   pub gives-one : {v : Carrier} → r ≡ Calculated.the-variants.OfOne v → TopPlans first second (numeric code) (Move.the-variants.Gives 1 v)
   gives-one {v} e =
-      record { is = λ p codes m top next. giving 1 v (does top next e) (one-low (m .operands) code (comes top next e)) }
+      record { is = λ p codes m top next. giving 1 v (does p m top next e) (one-low (m .operands) code (comes m top next e)) }
 
   pub gives-two : {v : Carrier} → r ≡ Calculated.the-variants.OfTwo v → TopPlans first second (numeric code) (Move.the-variants.Gives 2 v)
   gives-two {v} e =
-      record { is = λ p codes m top next. giving 2 v (does top next e) (two-low (m .operands) code (comes top next e)) }
+      record { is = λ p codes m top next. giving 2 v (does p m top next e) (two-low (m .operands) code (comes m top next e)) }
 
   pub traps-other : r ≡ Calculated.the-variants.Other → TopPlans first second (numeric code) (Move.the-variants.Traps trapOtherNumeric)
-  traps-other e = record { is = λ p codes m top next. trapping (does top next e) }
+  traps-other e = record { is = λ p codes m top next. trapping (does p m top next e) }
 
   pub strays-wrong : r ≡ Calculated.the-variants.Wrong → TopPlans first second (numeric code) Move.the-variants.Astray
-  strays-wrong e = record { is = λ p codes m top next. strays (does top next e) }
+  strays-wrong e = record { is = λ p codes m top next. strays (does p m top next e) }
 
 pub ruleset numeric-exits = (gives-one, gives-two, traps-other, strays-wrong)

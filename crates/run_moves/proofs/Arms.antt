@@ -136,8 +136,8 @@ module _ (rows codes objects cells locals operands : List ℕ) (count : ℕ) (st
     -- a constant, by the case in which its value is carried
 
     gives-constant : {j : Instruction} {o : Op} {k : Number} {n : ℕ} {v : Carrier} → i ≡ j → instrOf j ≡ op o → ((p : Program) (m : Machine) → doOp p m (m .operands) o ≡ goes (withOperands m (number k n ∷ m .operands))) → decoded v ≡ number k (within k n) → n < 2 ^ width k → Tells i (Move.the-variants.Gives 0 v)
-    gives-constant {n = n} {v = v} e f does is small =
-        tells e f (λ p m types holds. giving 0 v (does p m ∙ ap (λ (u : Valued). goes (withOperands m (u ∷ m .operands))) (sym (is ∙ ap (number _) (mod-eq-of-lt small)))) (omega arith))
+    gives-constant {k = k} {v = v} e f does is small =
+        tells e f (λ p m types holds. giving 0 v (does p m ∙ ap (λ (u : Valued). goes (withOperands m (u ∷ m .operands))) (sym (is ∙ ap (number k) (mod-eq-of-lt small)))) (omega arith))
 
     pub by-i32 : {n : ℕ} → i ≡ Instruction.the-variants.I32Const n → n < 2 ^ 32 → Tells i (Move.the-variants.Gives 0 (Value.the-variants.I32 n))
     unfolding instrOf doOp

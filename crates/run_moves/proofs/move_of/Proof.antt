@@ -66,6 +66,27 @@ tee-move-requires c κs = search (arm-exits, needs)
 enum-known-i-6 : tie.Need-enum-known-i-6
 enum-known-i-6 c = search (arm-exits, needs)
 
+enum-known-i-7 : tie.Need-enum-known-i-7
+enum-known-i-7 c = search (arm-exits, needs)
+
+enum-known-i-8 : tie.Need-enum-known-i-8
+enum-known-i-8 c = search (arm-exits, needs)
+
+single-requires : tie.Need-single-requires
+single-requires c κs = search (arm-exits, needs)
+
+enum-known-i-9 : tie.Need-enum-known-i-9
+enum-known-i-9 c = search (arm-exits, needs)
+
+double-requires : tie.Need-double-requires
+double-requires c κs = search (arm-exits, needs)
+
+enum-known-i-10 : tie.Need-enum-known-i-10
+enum-known-i-10 c = search (arm-exits, needs)
+
+numeric-move-requires : tie.Need-numeric-move-requires
+numeric-move-requires c κs = search (arm-exits, needs)
+
 enum-told-8 : tie.Need-enum-told-8
 enum-told-8 c = search (arm-exits, needs)
 
@@ -87,90 +108,90 @@ enum-told-11 c = search (arm-exits, needs)
 as-non-null-move-requires : tie.Need-as-non-null-move-requires
 as-non-null-move-requires c κs = search (arm-exits, needs)
 
-enum-known-i-7 : tie.Need-enum-known-i-7
-enum-known-i-7 c = search (arm-exits, needs)
+enum-known-i-11 : tie.Need-enum-known-i-11
+enum-known-i-11 c = search (arm-exits, needs)
 
 new-move-requires : tie.Need-new-move-requires
 unfolding numberOf
 new-move-requires c κs = search (arm-exits, needs)
 
-enum-known-i-8 : tie.Need-enum-known-i-8
-enum-known-i-8 c = search (arm-exits, needs)
+enum-known-i-12 : tie.Need-enum-known-i-12
+enum-known-i-12 c = search (arm-exits, needs)
 
 new-default-move-requires : tie.Need-new-default-move-requires
 unfolding numberOf
 new-default-move-requires c κs = search (arm-exits, needs)
 
-enum-known-i-9 : tie.Need-enum-known-i-9
-enum-known-i-9 c = search (arm-exits, needs)
+enum-known-i-13 : tie.Need-enum-known-i-13
+enum-known-i-13 c = search (arm-exits, needs)
 
 get-field-move-requires : tie.Need-get-field-move-requires
 get-field-move-requires c κs = search (arm-exits, needs)
 
-enum-known-i-10 : tie.Need-enum-known-i-10
-enum-known-i-10 c = search (arm-exits, needs)
+enum-known-i-14 : tie.Need-enum-known-i-14
+enum-known-i-14 c = search (arm-exits, needs)
 
 set-field-move-requires : tie.Need-set-field-move-requires
 set-field-move-requires c κs = search (arm-exits, needs)
 
-enum-known-i-11 : tie.Need-enum-known-i-11
-enum-known-i-11 c = search (arm-exits, needs)
+enum-known-i-15 : tie.Need-enum-known-i-15
+enum-known-i-15 c = search (arm-exits, needs)
 
 test-move-requires : tie.Need-test-move-requires
 test-move-requires c κs = search (arm-exits, needs)
 
-enum-known-i-12 : tie.Need-enum-known-i-12
-enum-known-i-12 c = search (arm-exits, needs)
+enum-known-i-16 : tie.Need-enum-known-i-16
+enum-known-i-16 c = search (arm-exits, needs)
 
 cast-move-requires : tie.Need-cast-move-requires
 cast-move-requires c κs = search (arm-exits, needs)
 
-enum-known-i-13 : tie.Need-enum-known-i-13
-enum-known-i-13 c = search (arm-exits, needs)
+enum-known-i-17 : tie.Need-enum-known-i-17
+enum-known-i-17 c = search (arm-exits, needs)
 
 on-cast-move-requires : tie.Need-on-cast-move-requires
 on-cast-move-requires c κs = search (arm-exits, needs)
 
-enum-known-i-14 : tie.Need-enum-known-i-14
-enum-known-i-14 c = search (arm-exits, needs)
+enum-known-i-18 : tie.Need-enum-known-i-18
+enum-known-i-18 c = search (arm-exits, needs)
 
 on-cast-fail-move-requires : tie.Need-on-cast-fail-move-requires
 on-cast-fail-move-requires c κs = search (arm-exits, needs)
 
-enum-known-i-15 : tie.Need-enum-known-i-15
-enum-known-i-15 c = search (arm-exits, needs)
+enum-known-i-19 : tie.Need-enum-known-i-19
+enum-known-i-19 c = search (arm-exits, needs)
 
 new-desc-move-requires : tie.Need-new-desc-move-requires
 unfolding numberOf
 new-desc-move-requires c κs = search (arm-exits, needs)
 
-enum-known-i-16 : tie.Need-enum-known-i-16
-enum-known-i-16 c = search (arm-exits, needs)
+enum-known-i-20 : tie.Need-enum-known-i-20
+enum-known-i-20 c = search (arm-exits, needs)
 
 new-default-desc-move-requires : tie.Need-new-default-desc-move-requires
 unfolding numberOf
 new-default-desc-move-requires c κs = search (arm-exits, needs)
 
-enum-known-i-17 : tie.Need-enum-known-i-17
-enum-known-i-17 c = search (arm-exits, needs)
+enum-known-i-21 : tie.Need-enum-known-i-21
+enum-known-i-21 c = search (arm-exits, needs)
 
 get-descriptor-move-requires : tie.Need-get-descriptor-move-requires
 get-descriptor-move-requires c κs = search (arm-exits, needs)
 
-enum-known-i-18 : tie.Need-enum-known-i-18
-enum-known-i-18 c = search (arm-exits, needs)
+enum-known-i-22 : tie.Need-enum-known-i-22
+enum-known-i-22 c = search (arm-exits, needs)
 
 descriptor-cast-move-requires : tie.Need-descriptor-cast-move-requires
 descriptor-cast-move-requires c κs = search (arm-exits, needs)
 
-enum-known-i-19 : tie.Need-enum-known-i-19
-enum-known-i-19 c = search (arm-exits, needs)
+enum-known-i-23 : tie.Need-enum-known-i-23
+enum-known-i-23 c = search (arm-exits, needs)
 
 on-descriptor-move-requires : tie.Need-on-descriptor-move-requires
 on-descriptor-move-requires c κs = search (arm-exits, needs)
 
-enum-known-i-20 : tie.Need-enum-known-i-20
-enum-known-i-20 c = search (arm-exits, needs)
+enum-known-i-24 : tie.Need-enum-known-i-24
+enum-known-i-24 c = search (arm-exits, needs)
 
 on-descriptor-fail-move-requires : tie.Need-on-descriptor-fail-move-requires
 on-descriptor-fail-move-requires c κs = search (arm-exits, needs)
@@ -299,6 +320,22 @@ returns-31 : tie.Need-returns-31
 unfolding instrOf
 returns-31 c = search (arm-exits, needs)
 
+returns-32 : tie.Need-returns-32
+unfolding instrOf
+returns-32 c = search (arm-exits, needs)
+
+returns-33 : tie.Need-returns-33
+unfolding instrOf
+returns-33 c = search (arm-exits, needs)
+
+returns-34 : tie.Need-returns-34
+unfolding instrOf
+returns-34 c = search (arm-exits, needs)
+
+returns-35 : tie.Need-returns-35
+unfolding instrOf
+returns-35 c = search (arm-exits, needs)
+
 pub move-of-spec : {M : Type 1} → statement M
 move-of-spec =
     tie.close
@@ -323,6 +360,13 @@ move-of-spec =
     enum-known-i-5
     tee-move-requires
     enum-known-i-6
+    enum-known-i-7
+    enum-known-i-8
+    single-requires
+    enum-known-i-9
+    double-requires
+    enum-known-i-10
+    numeric-move-requires
     enum-told-8
     enum-told-9
     is-null-move-requires
@@ -330,33 +374,33 @@ move-of-spec =
     eq-move-requires
     enum-told-11
     as-non-null-move-requires
-    enum-known-i-7
-    new-move-requires
-    enum-known-i-8
-    new-default-move-requires
-    enum-known-i-9
-    get-field-move-requires
-    enum-known-i-10
-    set-field-move-requires
     enum-known-i-11
-    test-move-requires
+    new-move-requires
     enum-known-i-12
-    cast-move-requires
+    new-default-move-requires
     enum-known-i-13
-    on-cast-move-requires
+    get-field-move-requires
     enum-known-i-14
-    on-cast-fail-move-requires
+    set-field-move-requires
     enum-known-i-15
-    new-desc-move-requires
+    test-move-requires
     enum-known-i-16
-    new-default-desc-move-requires
+    cast-move-requires
     enum-known-i-17
-    get-descriptor-move-requires
+    on-cast-move-requires
     enum-known-i-18
-    descriptor-cast-move-requires
+    on-cast-fail-move-requires
     enum-known-i-19
-    on-descriptor-move-requires
+    new-desc-move-requires
     enum-known-i-20
+    new-default-desc-move-requires
+    enum-known-i-21
+    get-descriptor-move-requires
+    enum-known-i-22
+    descriptor-cast-move-requires
+    enum-known-i-23
+    on-descriptor-move-requires
+    enum-known-i-24
     on-descriptor-fail-move-requires
     returns
     returns-2
@@ -388,4 +432,8 @@ move-of-spec =
     returns-28
     returns-29
     returns-30
-    returns-31)
+    returns-31
+    returns-32
+    returns-33
+    returns-34
+    returns-35)
