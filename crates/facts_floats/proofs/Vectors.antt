@@ -5,8 +5,8 @@ use mathlib.Core.Bool.{true, _&&_}
 use Rattle.scope.specs.Lists.{every}
 use Rattle.scope.specs.Rounding.{single, double, infinite, units, one}
 use Rattle.scope.proofs.Computes.{computes}
-use Rattle.facts_floats.specs.Vectors.{caseHolds, turnHolds, comparedHolds, intCaseHolds, zeroTestHolds, intOrderHolds}
-use Rattle.facts_floats.specs.SingleVectors.{singleCases, singleTurned, singleCompared}
+use Rattle.facts_floats.specs.Vectors.{caseHolds, roundHolds, turnHolds, comparedHolds, intCaseHolds, zeroTestHolds, intOrderHolds}
+use Rattle.facts_floats.specs.SingleVectors.{singleCases, singleRounded, singleTurned, singleCompared}
 use Rattle.facts_floats.specs.DoubleVectors.{doubleCases, doubleTurned, doubleCompared}
 use Rattle.facts_floats.specs.IntegerVectors.{bits32Cases, bits32Ordered, bits64Cases, bits64Ordered, zeroTested}
 
@@ -20,7 +20,7 @@ pub infinity-counts : (units single (infinite single) ≡ 2 ^ 277) × (units dou
 unfolding computes
 infinity-counts = (refl, refl)
 
-pub singles-hold : (every (caseHolds single) singleCases && (every (turnHolds single) singleTurned && every (comparedHolds single) singleCompared)) ≡ true
+pub singles-hold : (every (caseHolds single) singleCases && (every (roundHolds single) singleRounded && (every (turnHolds single) singleTurned && every (comparedHolds single) singleCompared))) ≡ true
 unfolding computes
 singles-hold = refl
 

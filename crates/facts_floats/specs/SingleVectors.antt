@@ -1,9 +1,10 @@
--- Float vectors of f32: add, sub, mul and div, neg, and the comparisons. Each was worked out from the remark beside it by
--- exact fractions of whole numbers: the values of the operands, their sum, product or quotient, and by halving intervals the
--- two magnitudes beside it; no processor's float was asked.
+-- Float vectors of f32: add, sub, mul and div, the rounding alone, neg, and the comparisons. Each was worked out from the remark
+-- beside it by exact fractions of whole numbers: the values of the operands, their sum, product or quotient, and by halving
+-- intervals the two magnitudes beside it; no processor's float was asked.
+use Prim.Native.Nat.{_+_, _-_, _^_}
 use mathlib.Core.List.{List, [], _∷_}
 use Rattle.scope.specs.Floats.{floatAdd, floatSub, floatMul, floatDiv}
-use Rattle.facts_floats.specs.Vectors.{Case, gives, Turned, turns, less, equal, greater, unordered, Compared, compares}
+use Rattle.facts_floats.specs.Vectors.{Case, gives, Fraction, rounds, Turned, turns, less, equal, greater, unordered, Compared, compares}
 
 abbrev pub singleCases : List Case
 singleCases =
@@ -91,6 +92,15 @@ singleCases =
     ∷ gives floatMul 0x7F800000 0x7F800001 0x7FC00000  -- inf times a NaN
     ∷ gives floatDiv 0xFFC01234 0xFFC01234 0x7FC00000  -- a NaN by itself
     ∷ gives floatDiv 0x3F800000 0x7F800001 0x7FC00000  -- 1 by a NaN
+    ∷ []
+
+-- Just beside a half-way point: rounded to an f64 first, each would lie on the point, and the tie would go the other way. 2 ^ 149
+-- units are the number 1. No sum, product or quotient of two f32 comes so near to such a point without lying on it.
+abbrev pub singleRounded : List Fraction
+singleRounded =
+    rounds (2 ^ 149 + 2 ^ 125 + 2 ^ 89) 1 0x3F800001  -- 1 + 2^-24 + 2^-60: up, and not down to the even 1
+    ∷ rounds (2 ^ 149 + 2 ^ 126 + 2 ^ 125 - 2 ^ 89) 1 0x3F800001  -- 1 + 3 * 2^-24 - 2^-60: down, and not up to the even one
+    ∷ rounds (2 ^ 59 + 1) (2 ^ 60) 0x00000001  -- half a unit and 2^-60 of one: up, and not down to 0
     ∷ []
 
 abbrev pub singleTurned : List Turned

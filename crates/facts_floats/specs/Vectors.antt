@@ -2,7 +2,7 @@
 use Prim.Native.Nat.{ℕ}
 use mathlib.Core.Bool.{Bool, not, _&&_, Bool·beq}
 use lib.Dec.{eqb}
-use Rattle.scope.specs.Rounding.{Width}
+use Rattle.scope.specs.Rounding.{Width, rounded}
 use Rattle.scope.specs.Floats.{floatNeg, floatEqual, floatUnequal, floatLess, floatGreater, floatAtMost, floatAtLeast}
 use Rattle.scope.specs.Integers.{intIsZero, intEqual, intUnequal, intLessSigned, intLessUnsigned, intGreaterSigned, intGreaterUnsigned, intAtMostSigned, intAtMostUnsigned, intAtLeastSigned, intAtLeastUnsigned}
 
@@ -18,6 +18,18 @@ gives f a b r = record { operation = f; first = a; second = b; result = r }
 
 abbrev pub caseHolds : Width → Case → Bool
 caseHolds w c = eqb (c .operation w (c .first) (c .second)) (c .result)
+
+-- a fraction of units, and the magnitude that it is rounded to
+pub record Fraction : Type 0 where
+  pub over : ℕ
+  pub under : ℕ
+  pub magnitude : ℕ
+
+abbrev pub rounds : ℕ → ℕ → ℕ → Fraction
+rounds n d r = record { over = n; under = d; magnitude = r }
+
+abbrev pub roundHolds : Width → Fraction → Bool
+roundHolds w c = eqb (rounded w (c .over) (c .under)) (c .magnitude)
 
 -- a float, and its negation
 pub record Turned : Type 0 where
