@@ -1,4 +1,4 @@
--- Which calls these are, and what they accept: 1.1.0, as one number. The second number counts the requests that changed what is
+-- Which calls these are, and what they accept: 1.2.0, as one number. The second number counts the requests that changed what is
 -- accepted.
 use Prim.Native.Nat.{ℕ, _+_, _*_}
 
@@ -6,7 +6,7 @@ abbrev pub major : ℕ
 major = 1
 
 abbrev pub minor : ℕ
-minor = 1
+minor = 2
 
 abbrev pub patch : ℕ
 patch = 0

@@ -6,10 +6,10 @@ ghost use Rattle.run_buffers.specs.States.{stateOf, memory};
 ghost use Rattle.chelbugan_told.specs.Told.{SectionTold, TypeTold, BodyTold, RunTold};
 ghost use Rattle.chelbugan.specs.Version.{version};
 
-// 1.1.0: request 4 of document 02 is the first that changes what is accepted
+// 1.2.0: two requests of document 02 changed what is accepted, 4 and then 1
 const MAJOR: u64 = 1;
 
-const MINOR: u64 = 1;
+const MINOR: u64 = 2;
 
 const PATCH: u64 = 0;
 
