@@ -1,4 +1,4 @@
--- An instruction as the code holds it, by the syntax of document 01, and the definitions' readers of instructions, one for
+-- An instruction as the code holds it, by scope's syntax, and the definitions' readers of instructions, one for
 -- each kind of immediates.
 use Prim.Native.Nat.{ℕ, _+_}
 use mathlib.Core.Bool.{Bool, true, false, cond}

@@ -1,4 +1,4 @@
-// Instructions, and the readers of what follows their codes: block types, labels, locals, types and fields. An
+// Instructions, and the readers of what follows their codes: block types, labels, locals, constants, types and fields. An
 // instruction is answered by value. Labels, locals, fields and constants stand as they were read; a type number is the
 // kept one and a type its code, as everywhere in the table (type_table's Kept.antt).
 use number::Byte;

@@ -1,4 +1,4 @@
--- What the number readers answer, by the definitions of document 01.
+-- What the readers of numbers and floats answer, by scope's definitions.
 use Prim.Native.Nat.{ℕ, _+_, _-_, _*_, _<_, _≤_, _^_}
 use mathlib.Core.Path.{_≡_}
 use mathlib.Core.Bool.{Bool}

@@ -1,6 +1,6 @@
 -- The one rounding of change request 1, over whole numbers and over the width: "Each float result is rounded once, to
 -- nearest, ties to even, infinities and signs of zero as in the core standard, stated over whole numbers (a quotient by
--- cross products)". `Nearest` says what a rounded result is; `rounded` computes it. facts_floats has the laws: what
+-- cross products)". `Nearest` says what a rounded result is; `rounded` computes it. proofs/Rounds.antt has the laws: what
 -- `rounded` computes is nearest, and only one number is.
 use Prim.Native.Nat.{ℕ, suc, _+_, _-_, _*_, _/_, _%_, _^_, _≤_, min, compare}
 use mathlib.Core.Path.{_≡_}
