@@ -3,7 +3,7 @@
  * For a host in C or C++. Link libchelbugan.a, which `make` builds and `make install` installs; of other code it needs memset
  * alone. Nothing is allocated, no file is touched, and no state outlives a call. docs/EMBEDDING.md shows a whole host and
  * has an integrator's figures, docs/LAYOUT.md every word of the lent memory. "Document 01" is the paper with the loader's
- * rules, whose numbers the refusals and traps bear.
+ * rules, whose numbers the refusals and traps bear; document 02 amends it (its requests 1 and 4; trap 46 is of request 1).
  *
  * WHAT A CALLER MUST KEEP. The proofs hold for any bytes, numbers and lengths; these are all that they take on trust:
  *   1. No pointer is null, where its length is 0 either, and each is aligned for its element.
@@ -280,7 +280,7 @@ uint64_t chelbugan_judge_body(const uint8_t *section, size_t section_len,
  * CHELBUGAN_NO:    the refusal (above), and all ten are zero. After the body's own refusals: a budget above
  *                  CHELBUGAN_BUDGET is refusal 4 at 0, a parameter without a default is refusal 29 at 0. These two places
  *                  stand for the budget and the parameters, and for no byte.
- * A trap is no refusal: the body keeps every rule, and stopping there is what document 01 says that it does.
+ * A trap is no refusal: the body keeps every rule, and stopping there is what documents 01 and 02 say that it does.
  *
  *   static uint16_t ends[CHELBUGAN_ENDS], objects[CHELBUGAN_OBJECTS], blocks[CHELBUGAN_BLOCKS];
  *   static uint64_t counts[CHELBUGAN_COUNTS], cells[CHELBUGAN_CELLS], locals[CHELBUGAN_LOCALS],

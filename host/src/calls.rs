@@ -65,7 +65,7 @@ pub enum Ended {
     },
     /// Stopped by an instruction.
     Trap {
-        /// The trap's number in document 01; [`Trap::of_number`] names it.
+        /// The trap's number in document 01 or 02; [`Trap::of_number`] names it.
         number: u64,
         /// Of the instruction in the body.
         place: u64,

@@ -1,4 +1,4 @@
-//! A refusal and a trap: numbers of document 01, with a name for each.
+//! A refusal and a trap: numbers of document 01 and, of the traps, of document 02, with a name for each.
 
 use std::error::Error;
 use std::fmt;
@@ -55,7 +55,7 @@ macro_rules! numbered {
             /// All of them, by rising number.
             pub const ALL: [$name; [$($number),*].len()] = [$($name::$case),*];
 
-            /// The number in document 01.
+            /// The number in document 01, or in document 02.
             pub const fn number(self) -> u64 {
                 self as u64
             }
@@ -144,7 +144,7 @@ numbered! {
 }
 
 impl Trap {
-    /// The trap of a number; None for a number that document 01 does not have.
+    /// The trap of a number; None for a number that documents 01 and 02 do not have.
     pub fn of_number(number: u64) -> Option<Trap> {
         Trap::ALL.into_iter().find(|trap| trap.number() == number)
     }

@@ -64,7 +64,7 @@ fn held(request: Request, answer: Answer, words: Words) {
     assert_eq!(difference(&library, &wanted), None, "the library on {request}");
 }
 
-/// docs/LAYOUT.md, "Worked: two states".
+/// docs/LAYOUT.md, "Worked: three states".
 #[test]
 fn the_layouts_worked_states() {
     let body = [0x00, 0xFB, 0x00, 0x01, 0xFB, 0x20, 0x00, 0x0B];
@@ -92,6 +92,17 @@ fn the_layouts_worked_states() {
         blocks: vec![1, 8, 1],
     };
     held(run(&section, 1, &body, 4), Answer::Spent(4), every_buffer);
+    let body = [
+        0x01, 0x01, 0x7E, 0x43, 0x01, 0x00, 0xC0, 0xFF, 0x41, 0x7F, 0x41, 0x00, 0x6D, 0x1A, 0x1A,
+        0x0B,
+    ];
+    let of_three_kinds = Words {
+        counts: [12, 0, 0, 1, 3, 0],
+        locals: vec![2, 0],
+        operands: vec![3, 4_290_772_993, 1, 4_294_967_295, 1, 0],
+        ..Words::default()
+    };
+    held(run(&V, 0, &body, 9), Answer::Trap(46, 12, 4), of_three_kinds);
 }
 
 /// Each trap leaves the state as it was before the trapping step.
