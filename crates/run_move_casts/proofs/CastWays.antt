@@ -27,8 +27,8 @@ module _ {rows codes objects : List ℕ} {n : ℕ} {first : Topmost} {nullToo : 
   unfolding doOp
   test-is a =
       record {
-        is = λ p m second cells total types knows.
-            a .is p m second cells total types knows (λ v below b. goes (withOperands m (truth b ∷ below)))
+        is = λ p m cells total types knows.
+            a .is p m cells total types knows (λ v below b. goes (withOperands m (truth b ∷ below)))
             (λ v top. giving-i32 1 1 (omega arith) refl (top-low (m .operands) top))
             (λ v top. giving-i32 1 0 (omega arith) refl (top-low (m .operands) top));
       }
@@ -39,8 +39,8 @@ module _ {rows codes objects : List ℕ} {n : ℕ} {first : Topmost} {nullToo : 
   unfolding doOp
   cast-is a =
       record {
-        is = λ p m second cells total types knows.
-            a .is p m second cells total types knows (λ v below b. cond b (goes (withOperands m (v ∷ below))) (traps trapCast))
+        is = λ p m cells total types knows.
+            a .is p m cells total types knows (λ v below b. cond b (goes (withOperands m (v ∷ below))) (traps trapCast))
             (λ v top. leaving 0 (ap (λ (vs : List Value). goes (withOperands m vs)) (top-whole (m .operands) top)) (omega arith))
             (λ v top. trapping refl);
       }
@@ -52,8 +52,8 @@ module _ {rows codes objects : List ℕ} {n : ℕ} {first : Topmost} {nullToo : 
     unfolding doOp
     on-cast-is a =
         record {
-          is = λ p m second cells total types knows.
-              a .is p m second cells total types knows (λ v below b. cond b (branch p m l (m .operands)) (goes m))
+          is = λ p m cells total types knows.
+              a .is p m cells total types knows (λ v below b. cond b (branch p m l (m .operands)) (goes m))
               (λ v top. branching 0 l refl (omega arith))
               (λ v top. leaving 0 refl (omega arith));
         }
@@ -64,8 +64,8 @@ module _ {rows codes objects : List ℕ} {n : ℕ} {first : Topmost} {nullToo : 
     unfolding doOp
     on-cast-fail-is a =
         record {
-          is = λ p m second cells total types knows.
-              a .is p m second cells total types knows (λ v below b. cond b (goes m) (branch p m l (m .operands)))
+          is = λ p m cells total types knows.
+              a .is p m cells total types knows (λ v below b. cond b (goes m) (branch p m l (m .operands)))
               (λ v top. leaving 0 refl (omega arith))
               (λ v top. branching 0 l refl (omega arith));
         }
@@ -79,8 +79,8 @@ module _ {objects : List ℕ} {n : ℕ} {first second : Topmost} {nullToo : Bool
   unfolding doOp
   descriptor-cast-is a =
       record {
-        is = λ p codes m cells total knows.
-            a .is p codes m cells total knows (λ others b. cond b (goes (withOperands m others)) (traps trapCast))
+        is = λ p codes m cells total knows next.
+            a .is p codes m cells total knows next (λ others b. cond b (goes (withOperands m others)) (traps trapCast))
             (λ low. leaving 1 refl low)
             (λ low. trapping refl);
       }
@@ -92,8 +92,8 @@ module _ {objects : List ℕ} {n : ℕ} {first second : Topmost} {nullToo : Bool
     unfolding doOp
     on-descriptor-is a =
         record {
-          is = λ p codes m cells total knows.
-              a .is p codes m cells total knows (λ others b. cond b (branch p m l others) (goes (withOperands m others)))
+          is = λ p codes m cells total knows next.
+              a .is p codes m cells total knows next (λ others b. cond b (branch p m l others) (goes (withOperands m others)))
               (λ low. branching 1 l refl low)
               (λ low. leaving 1 refl low);
         }
@@ -104,8 +104,8 @@ module _ {objects : List ℕ} {n : ℕ} {first second : Topmost} {nullToo : Bool
     unfolding doOp
     on-descriptor-fail-is a =
         record {
-          is = λ p codes m cells total knows.
-              a .is p codes m cells total knows (λ others b. cond b (goes (withOperands m others)) (branch p m l others))
+          is = λ p codes m cells total knows next.
+              a .is p codes m cells total knows next (λ others b. cond b (goes (withOperands m others)) (branch p m l others))
               (λ low. leaving 1 refl low)
               (λ low. branching 1 l refl low);
         }

@@ -28,7 +28,7 @@ use Rattle.run_stack.specs.declared.Topmost
 use Rattle.run_state.specs.declared.Move
 use Rattle.run_state.specs.declared.Reference.{Reference}
 use Rattle.run_state.specs.declared.Reference
-use Rattle.run_state.specs.Planned.{referenceAt, Seen, FieldPlans}
+use Rattle.run_state.specs.Planned.{referenceAt, Seen, FieldPlans, SetPlans}
 use Rattle.run_state.proofs.Tops.{on-top, on-none, top-low, two-low, value-top, no-top, wrong-top, null-top, object-top}
 use Rattle.run_state.proofs.Moving.{strays, trapping, giving, setting-field, giving-object}
 
@@ -50,28 +50,28 @@ module _ {vs : List Value} {t : Topmost} {r : Reference} (s : Seen vs t) (is : r
 
 -- struct.get
 
-module _ {objects cells : List ℕ} {n : ℕ} {first second : Topmost} (x i : ℕ) {r : Reference} (is : r ≡ referenceAt first) where
-  pub get-wrong : r ≡ Reference.the-variants.Wrong → FieldPlans objects cells n first second (struct-get x i) Move.the-variants.Astray
+module _ {objects cells : List ℕ} {n : ℕ} {first : Topmost} (x i : ℕ) {r : Reference} (is : r ≡ referenceAt first) where
+  pub get-wrong : r ≡ Reference.the-variants.Wrong → FieldPlans objects cells n first (struct-get x i) Move.the-variants.Astray
   unfolding doOp
   get-wrong e = record { is = λ p codes m total a. strays (look-wrong (a .top) is (m .heap) _ e) }
 
-  pub get-null : r ≡ Reference.the-variants.Null → FieldPlans objects cells n first second (struct-get x i) (Move.the-variants.Traps trapNull)
+  pub get-null : r ≡ Reference.the-variants.Null → FieldPlans objects cells n first (struct-get x i) (Move.the-variants.Traps trapNull)
   unfolding doOp
   get-null e = record { is = λ p codes m total a. trapping (look-null (a .top) is (m .heap) _ e) }
 
   module _ {o : ℕ} (e : r ≡ Reference.the-variants.To o) where
-    pub get-past : n ≤ o → FieldPlans objects cells n first second (struct-get x i) Move.the-variants.Astray
+    pub get-past : n ≤ o → FieldPlans objects cells n first (struct-get x i) Move.the-variants.Astray
     unfolding doOp
     get-past h =
         record { is = λ p codes m total a. strays (look-missing (a .top) is (m .heap) _ e (object-none objects cells (a .heap) h)) }
 
     module _ (h : o < n) {held : Held} (b : HeldField objects cells o i held) where
-      pub get-missed : held ≡ Held.the-variants.Absent → FieldPlans objects cells n first second (struct-get x i) Move.the-variants.Astray
+      pub get-missed : held ≡ Held.the-variants.Absent → FieldPlans objects cells n first (struct-get x i) Move.the-variants.Astray
       unfolding doOp
       get-missed q =
           record { is = λ p codes m total a. strays (look-there (a .top) is (m .heap) _ e (object-there objects cells (a .heap) h) ∙ rw (field-missed b q)) }
 
-      pub get-got : {v : Carrier} → held ≡ Held.the-variants.Is v → FieldPlans objects cells n first second (struct-get x i) (Move.the-variants.Gives 1 v)
+      pub get-got : {v : Carrier} → held ≡ Held.the-variants.Is v → FieldPlans objects cells n first (struct-get x i) (Move.the-variants.Gives 1 v)
       unfolding doOp
       get-got {v} q =
           record {
@@ -84,55 +84,55 @@ module _ {objects cells : List ℕ} {n : ℕ} {first second : Topmost} (x i : �
 -- struct.set
 
 module _ {objects cells : List ℕ} {n : ℕ} {first second : Topmost} (x i : ℕ) where
-  pub set-nothing : first ≡ Topmost.the-variants.Nothing → FieldPlans objects cells n first second (struct-set x i) Move.the-variants.Astray
+  pub set-nothing : first ≡ Topmost.the-variants.Nothing → SetPlans objects cells n first second (struct-set x i) Move.the-variants.Astray
   unfolding doOp
-  set-nothing e = record { is = λ p codes m total a. strays (on-none (m .operands) (no-top (a .top) e) _) }
+  set-nothing e = record { is = λ p codes m total a next. strays (on-none (m .operands) (no-top (a .top) e) _) }
 
   module _ {v : Carrier} (q : first ≡ Topmost.the-variants.Is v) {r : Reference} (is : r ≡ referenceAt second) where
-    pub set-wrong : r ≡ Reference.the-variants.Wrong → FieldPlans objects cells n first second (struct-set x i) Move.the-variants.Astray
+    pub set-wrong : r ≡ Reference.the-variants.Wrong → SetPlans objects cells n first second (struct-set x i) Move.the-variants.Astray
     unfolding doOp
     set-wrong e =
-        record { is = λ p codes m total a. strays (on-top (m .operands) (value-top (a .top) q) _ ∙ look-wrong (a .next) is (m .heap) _ e) }
+        record { is = λ p codes m total a next. strays (on-top (m .operands) (value-top (a .top) q) _ ∙ look-wrong next is (m .heap) _ e) }
 
-    pub set-null : r ≡ Reference.the-variants.Null → FieldPlans objects cells n first second (struct-set x i) (Move.the-variants.Traps trapNull)
+    pub set-null : r ≡ Reference.the-variants.Null → SetPlans objects cells n first second (struct-set x i) (Move.the-variants.Traps trapNull)
     unfolding doOp
     set-null e =
-        record { is = λ p codes m total a. trapping (on-top (m .operands) (value-top (a .top) q) _ ∙ look-null (a .next) is (m .heap) _ e) }
+        record { is = λ p codes m total a next. trapping (on-top (m .operands) (value-top (a .top) q) _ ∙ look-null next is (m .heap) _ e) }
 
     module _ {o : ℕ} (e : r ≡ Reference.the-variants.To o) where
-      pub set-past : n ≤ o → FieldPlans objects cells n first second (struct-set x i) Move.the-variants.Astray
+      pub set-past : n ≤ o → SetPlans objects cells n first second (struct-set x i) Move.the-variants.Astray
       unfolding doOp
       set-past h =
           record {
-            is = λ p codes m total a.
+            is = λ p codes m total a next.
                 strays
                 (on-top (m .operands) (value-top (a .top) q) _
-                ∙ look-missing (a .next) is (m .heap) _ e (object-none objects cells (a .heap) h));
+                ∙ look-missing next is (m .heap) _ e (object-none objects cells (a .heap) h));
           }
 
       module _ (h : o < n) {held : Held} (b : HeldField objects cells o i held) where
-        pub set-missed : held ≡ Held.the-variants.Absent → FieldPlans objects cells n first second (struct-set x i) Move.the-variants.Astray
+        pub set-missed : held ≡ Held.the-variants.Absent → SetPlans objects cells n first second (struct-set x i) Move.the-variants.Astray
         unfolding doOp
         set-missed f =
             record {
-              is = λ p codes m total a.
+              is = λ p codes m total a next.
                   strays
                   (on-top (m .operands) (value-top (a .top) q) _
-                  ∙ look-there (a .next) is (m .heap) _ e (object-there objects cells (a .heap) h)
+                  ∙ look-there next is (m .heap) _ e (object-there objects cells (a .heap) h)
                   ∙ rw (field-missed b f));
             }
 
-        pub set-got : {u : Carrier} → held ≡ Held.the-variants.Is u → FieldPlans objects cells n first second (struct-set x i) (Move.the-variants.SetsField 2 o i v)
+        pub set-got : {u : Carrier} → held ≡ Held.the-variants.Is u → SetPlans objects cells n first second (struct-set x i) (Move.the-variants.SetsField 2 o i v)
         unfolding doOp
         set-got {u} f =
             record {
-              is = λ p codes m total a.
+              is = λ p codes m total a next.
                   let there = object-there objects cells (a .heap) h in
                   setting-field 2 o i v (objectAt objects cells o) there
                   (on-top (m .operands) (value-top (a .top) q) _
-                  ∙ look-there (a .next) is (m .heap) _ e there
+                  ∙ look-there next is (m .heap) _ e there
                   ∙ rw (field-got b f, drop-drop 1 1 (m .operands)))
-                  (two-low (m .operands) (value-top (a .top) q) (object-top (a .next) is e))
+                  (two-low (m .operands) (value-top (a .top) q) (object-top next is e))
                   (b .inside u f);
             }
 
@@ -146,23 +146,23 @@ field-fits {objects} {cells} {o} {i} b {v} e words =
 
 -- ref.get_desc
 
-module _ {objects cells : List ℕ} {n : ℕ} {first second : Topmost} (x : ℕ) {r : Reference} (is : r ≡ referenceAt first) where
-  pub desc-wrong : r ≡ Reference.the-variants.Wrong → FieldPlans objects cells n first second (ref-get-desc x) Move.the-variants.Astray
+module _ {objects cells : List ℕ} {n : ℕ} {first : Topmost} (x : ℕ) {r : Reference} (is : r ≡ referenceAt first) where
+  pub desc-wrong : r ≡ Reference.the-variants.Wrong → FieldPlans objects cells n first (ref-get-desc x) Move.the-variants.Astray
   unfolding doOp
   desc-wrong e = record { is = λ p codes m total a. strays (look-wrong (a .top) is (m .heap) _ e) }
 
-  pub desc-null : r ≡ Reference.the-variants.Null → FieldPlans objects cells n first second (ref-get-desc x) (Move.the-variants.Traps trapNull)
+  pub desc-null : r ≡ Reference.the-variants.Null → FieldPlans objects cells n first (ref-get-desc x) (Move.the-variants.Traps trapNull)
   unfolding doOp
   desc-null e = record { is = λ p codes m total a. trapping (look-null (a .top) is (m .heap) _ e) }
 
   module _ {o : ℕ} (e : r ≡ Reference.the-variants.To o) where
-    pub desc-past : n ≤ o → FieldPlans objects cells n first second (ref-get-desc x) Move.the-variants.Astray
+    pub desc-past : n ≤ o → FieldPlans objects cells n first (ref-get-desc x) Move.the-variants.Astray
     unfolding doOp
     desc-past h =
         record { is = λ p codes m total a. strays (look-missing (a .top) is (m .heap) _ e (object-none objects cells (a .heap) h)) }
 
     module _ (h : o < n) {link : Link} (b : DescriptorOf objects o link) where
-      pub desc-missed : link ≡ Link.the-variants.Nothing → FieldPlans objects cells n first second (ref-get-desc x) Move.the-variants.Astray
+      pub desc-missed : link ≡ Link.the-variants.Nothing → FieldPlans objects cells n first (ref-get-desc x) Move.the-variants.Astray
       unfolding doOp
       desc-missed q =
           record {
@@ -172,7 +172,7 @@ module _ {objects cells : List ℕ} {n : ℕ} {first second : Topmost} (x : ℕ)
                 ∙ rw (link-nothing (objectAt objects cells o .descriptor) (b .is cells) q));
           }
 
-      pub desc-got : {d : ℕ} → link ≡ Link.the-variants.To d → FieldPlans objects cells n first second (ref-get-desc x) (Move.the-variants.Gives 1 (Value.the-variants.Object d))
+      pub desc-got : {d : ℕ} → link ≡ Link.the-variants.To d → FieldPlans objects cells n first (ref-get-desc x) (Move.the-variants.Gives 1 (Value.the-variants.Object d))
       unfolding doOp
       desc-got {d} q =
           record {

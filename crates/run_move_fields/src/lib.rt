@@ -7,7 +7,7 @@ use run_value::Value;
 use scope::traps::NULL as NULL_USED;
 use type_table::Link;
 ghost use Rattle.scope.specs.Instructions.{struct-get, struct-set, ref-get-desc};
-ghost use Rattle.run_state.specs.Planned.{FieldPlans};
+ghost use Rattle.run_state.specs.Planned.{FieldPlans, SetPlans};
 
 // struct.get x i
 pub fn get_field_move(
@@ -15,11 +15,10 @@ pub fn get_field_move(
     cells: &[u64],
     n: u32,
     first: Topmost,
-    second: Topmost,
     x: u64,
     i: u64,
 ) -> Move
-    ensures { λ r. ⌜ FieldPlans (now (objects .entry)) (now (cells .entry)) n first second (struct-get x i) r ⌝ }
+    ensures { λ r. ⌜ FieldPlans (now (objects .entry)) (now (cells .entry)) n first (struct-get x i) r ⌝ }
 {
     let reference = run_state::reference_of(first);
     match reference {
@@ -48,7 +47,7 @@ pub fn set_field_move(
     x: u64,
     i: u64,
 ) -> Move
-    ensures { λ r. ⌜ FieldPlans (now (objects .entry)) (now (cells .entry)) n first second (struct-set x i) r ⌝ }
+    ensures { λ r. ⌜ SetPlans (now (objects .entry)) (now (cells .entry)) n first second (struct-set x i) r ⌝ }
 {
     let Topmost::Is(v) = first else {
         return Move::Astray;
@@ -71,15 +70,8 @@ pub fn set_field_move(
 }
 
 // ref.get_desc x
-pub fn get_descriptor_move(
-    objects: &[u16],
-    cells: &[u64],
-    n: u32,
-    first: Topmost,
-    second: Topmost,
-    x: u64,
-) -> Move
-    ensures { λ r. ⌜ FieldPlans (now (objects .entry)) (now (cells .entry)) n first second (ref-get-desc x) r ⌝ }
+pub fn get_descriptor_move(objects: &[u16], cells: &[u64], n: u32, first: Topmost, x: u64) -> Move
+    ensures { λ r. ⌜ FieldPlans (now (objects .entry)) (now (cells .entry)) n first (ref-get-desc x) r ⌝ }
 {
     let reference = run_state::reference_of(first);
     match reference {

@@ -181,12 +181,12 @@ module _ {rows codes : List ℕ} {n total height : ℕ} {first : Topmost} {x : �
   pub new-plan : MakesGiven rows codes n total height 0 x 0 r → MakePlans rows codes n total height first (struct-new x) r
   unfolding doOp
   new-plan a =
-      record { is = λ p m second objects cells types long knows. a .is p m objects cells types long (omega arith) (knows .heap) (knows .kept) }
+      record { is = λ p m objects cells types long knows. a .is p m objects cells types long (omega arith) (knows .heap) (knows .kept) }
 
   pub new-default-plan : MakesDefaults rows codes n total 0 x 0 r → MakePlans rows codes n total height first (struct-new-default x) r
   unfolding doOp
   new-default-plan a =
-      record { is = λ p m second objects cells types long knows. a .is p m objects cells types (omega arith) (knows .heap) (knows .kept) }
+      record { is = λ p m objects cells types long knows. a .is p m objects cells types (omega arith) (knows .heap) (knows .kept) }
 
 -- struct.new_desc and struct.new_default_desc
 
@@ -197,28 +197,28 @@ link-is {d} h few = let small : (d + 1) % wordLimit ≡ d + 1 = mod-eq-of-lt (om
 module _ {rows codes : List ℕ} {n total height : ℕ} {first : Topmost} (x : ℕ) {to : Reference} (is : to ≡ referenceAt first) where
   pub new-desc-wrong : to ≡ Reference.the-variants.Wrong → MakePlans rows codes n total height first (struct-new-desc x) Move.the-variants.Astray
   unfolding doOp
-  new-desc-wrong e = record { is = λ p m second objects cells types long knows. strays (wrong-top (knows .top) is e _) }
+  new-desc-wrong e = record { is = λ p m objects cells types long knows. strays (wrong-top (knows .top) is e _) }
 
   pub new-default-desc-wrong : to ≡ Reference.the-variants.Wrong → MakePlans rows codes n total height first (struct-new-default-desc x) Move.the-variants.Astray
   unfolding doOp
-  new-default-desc-wrong e = record { is = λ p m second objects cells types long knows. strays (wrong-top (knows .top) is e _) }
+  new-default-desc-wrong e = record { is = λ p m objects cells types long knows. strays (wrong-top (knows .top) is e _) }
 
   pub new-desc-null : to ≡ Reference.the-variants.Null → MakePlans rows codes n total height first (struct-new-desc x) (Move.the-variants.Traps trapNullDescriptor)
   unfolding doOp
   new-desc-null e =
-      record { is = λ p m second objects cells types long knows. trapping (on-top (m .operands) (null-top (knows .top) is e) _) }
+      record { is = λ p m objects cells types long knows. trapping (on-top (m .operands) (null-top (knows .top) is e) _) }
 
   pub new-default-desc-null : to ≡ Reference.the-variants.Null → MakePlans rows codes n total height first (struct-new-default-desc x) (Move.the-variants.Traps trapNullDescriptor)
   unfolding doOp
   new-default-desc-null e =
-      record { is = λ p m second objects cells types long knows. trapping (on-top (m .operands) (null-top (knows .top) is e) _) }
+      record { is = λ p m objects cells types long knows. trapping (on-top (m .operands) (null-top (knows .top) is e) _) }
 
   module _ {d : ℕ} (e : to ≡ Reference.the-variants.To d) where
     -- whatever the instruction comes to
     pub desc-past : n ≤ d → (o : Op) → MakePlans rows codes n total height first o Move.the-variants.Astray
     desc-past h o =
         record {
-          is = λ p m second objects cells types long knows.
+          is = λ p m objects cells types long knows.
               let size = heap-length objects cells (knows .heap) in
               dangles 0 d (head-there (m .operands) (object-top (knows .top) is e)) (omega arith);
         }
@@ -228,7 +228,7 @@ module _ {rows codes : List ℕ} {n total height : ℕ} {first : Topmost} (x : �
       unfolding doOp
       new-desc-plan a =
           record {
-            is = λ p m second objects cells types long knows.
+            is = λ p m objects cells types long knows.
                 let top = object-top (knows .top) is e in
                 let low = top-low (m .operands) top in
                 same-want
@@ -241,7 +241,7 @@ module _ {rows codes : List ℕ} {n total height : ℕ} {first : Topmost} (x : �
       unfolding doOp
       new-default-desc-plan a =
           record {
-            is = λ p m second objects cells types long knows.
+            is = λ p m objects cells types long knows.
                 let top = object-top (knows .top) is e in
                 same-want
                 (on-top (m .operands) top _

@@ -21,7 +21,7 @@ use Rattle.run_calculated.proofs.Laws.{done, numeric-is}
 use Rattle.run_stack.specs.declared.Topmost.{Topmost}
 use Rattle.run_stack.specs.Pile.{headOf}
 use Rattle.run_state.specs.declared.Move
-use Rattle.run_state.specs.Planned.{Seen, TopPlans}
+use Rattle.run_state.specs.Planned.{Seen, PairPlans}
 use Rattle.run_state.proofs.Moving.{strays, trapping, giving}
 use Rattle.run_move_numbers.specs.Operands.{OperandIs}
 
@@ -97,18 +97,18 @@ module _ {first second : Topmost} {code : ℕ} {x y : Carrier} (a : OperandIs fi
   does p m top next e =
       numeric-is m (m .operands) code ∙ ap (done m (m .operands)) (sym (comes m top next e))
 
-  pub gives-one : {v : Carrier} → r ≡ Calculated.the-variants.OfOne v → TopPlans first second (numeric code) (Move.the-variants.Gives 1 v)
+  pub gives-one : {v : Carrier} → r ≡ Calculated.the-variants.OfOne v → PairPlans first second (numeric code) (Move.the-variants.Gives 1 v)
   gives-one {v} e =
       record { is = λ p codes m top next. giving 1 v (does p m top next e) (one-low (m .operands) code (comes m top next e)) }
 
-  pub gives-two : {v : Carrier} → r ≡ Calculated.the-variants.OfTwo v → TopPlans first second (numeric code) (Move.the-variants.Gives 2 v)
+  pub gives-two : {v : Carrier} → r ≡ Calculated.the-variants.OfTwo v → PairPlans first second (numeric code) (Move.the-variants.Gives 2 v)
   gives-two {v} e =
       record { is = λ p codes m top next. giving 2 v (does p m top next e) (two-low (m .operands) code (comes m top next e)) }
 
-  pub traps-other : r ≡ Calculated.the-variants.Other → TopPlans first second (numeric code) (Move.the-variants.Traps trapOtherNumeric)
+  pub traps-other : r ≡ Calculated.the-variants.Other → PairPlans first second (numeric code) (Move.the-variants.Traps trapOtherNumeric)
   traps-other e = record { is = λ p codes m top next. trapping (does p m top next e) }
 
-  pub strays-wrong : r ≡ Calculated.the-variants.Wrong → TopPlans first second (numeric code) Move.the-variants.Astray
+  pub strays-wrong : r ≡ Calculated.the-variants.Wrong → PairPlans first second (numeric code) Move.the-variants.Astray
   strays-wrong e = record { is = λ p codes m top next. strays (does p m top next e) }
 
 pub ruleset numeric-exits = (gives-one, gives-two, traps-other, strays-wrong)

@@ -6,7 +6,7 @@ use run_state::Move;
 use run_value::Value;
 use scope::traps;
 ghost use Rattle.scope.specs.Instructions.{numeric};
-ghost use Rattle.run_state.specs.Planned.{TopPlans};
+ghost use Rattle.run_state.specs.Planned.{PairPlans};
 ghost use Rattle.run_move_numbers.specs.Operands.{OperandIs};
 
 // The operand, or null where there is none: null is of no number's kind.
@@ -21,7 +21,7 @@ fn operand(top: Topmost) -> Value
 
 // 45 to C4
 pub fn numeric_move(first: Topmost, second: Topmost, code: u8) -> Move
-    ensures { λ r. ⌜ TopPlans first second (numeric code) r ⌝ }
+    ensures { λ r. ⌜ PairPlans first second (numeric code) r ⌝ }
 {
     let topmost = operand(first);
     let under = operand(second);

@@ -18,25 +18,25 @@ use Rattle.run_stack.specs.declared.HeldLocal
 use Rattle.run_stack.specs.Pile.{LocalIs}
 use Rattle.run_stack.proofs.Held.{local-there, local-none, locals-length, local-missed, local-empty, local-got}
 use Rattle.run_state.specs.declared.Move
-use Rattle.run_state.specs.Planned.{LocalPlans}
+use Rattle.run_state.specs.Planned.{HeldPlans, LocalPlans}
 use Rattle.run_state.proofs.Tops.{on-top, on-none, top-low, value-top, no-top}
 use Rattle.run_state.proofs.Moving.{strays, giving, setting-local}
 
 -- local.get
 
-module _ {locals : List ℕ} {count x : ℕ} {first : Topmost} {r : HeldLocal} (a : LocalIs locals count x r) where
-  pub get-absent : r ≡ HeldLocal.the-variants.Absent → LocalPlans locals count first (local-get x) Move.the-variants.Astray
+module _ {locals : List ℕ} {count x : ℕ} {r : HeldLocal} (a : LocalIs locals count x r) where
+  pub get-absent : r ≡ HeldLocal.the-variants.Absent → HeldPlans locals count (local-get x) Move.the-variants.Astray
   unfolding doOp
-  get-absent e = record { is = λ p codes m same top. strays (rw (same, local-missed e a)) }
+  get-absent e = record { is = λ p codes m same. strays (rw (same, local-missed e a)) }
 
-  pub get-unset : r ≡ HeldLocal.the-variants.Unset → LocalPlans locals count first (local-get x) Move.the-variants.Astray
+  pub get-unset : r ≡ HeldLocal.the-variants.Unset → HeldPlans locals count (local-get x) Move.the-variants.Astray
   unfolding doOp
-  get-unset e = record { is = λ p codes m same top. strays (rw (same, local-empty e a)) }
+  get-unset e = record { is = λ p codes m same. strays (rw (same, local-empty e a)) }
 
-  pub get-held : {v : Carrier} → r ≡ HeldLocal.the-variants.Is v → LocalPlans locals count first (local-get x) (Move.the-variants.Gives 0 v)
+  pub get-held : {v : Carrier} → r ≡ HeldLocal.the-variants.Is v → HeldPlans locals count (local-get x) (Move.the-variants.Gives 0 v)
   unfolding doOp
   get-held {v} e =
-      record { is = λ p codes m same top. giving 0 v (found m (ap (λ (l : List (Option Value)). getElem? l x) same ∙ local-got e a)) (omega arith) }
+      record { is = λ p codes m same. giving 0 v (found m (ap (λ (l : List (Option Value)). getElem? l x) same ∙ local-got e a)) (omega arith) }
     where
       found :
           (m : Machine) → getElem? (m .locals) x ≡ some (some (decoded v))

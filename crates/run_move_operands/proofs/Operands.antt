@@ -26,21 +26,21 @@ use Rattle.run_state.specs.declared.Move
 use Rattle.run_state.specs.declared.Reference.{Reference}
 use Rattle.run_state.specs.declared.Reference
 use Rattle.run_state.specs.Moved.{MoveIs}
-use Rattle.run_state.specs.Planned.{referenceAt, Seen, TopPlans}
+use Rattle.run_state.specs.Planned.{referenceAt, Seen, TopPlans, PairPlans}
 use Rattle.run_state.proofs.Tops.{on-top, on-none, top-low, two-low, value-top, no-top, looked-first, wrong-top, null-top, object-top}
 use Rattle.run_state.proofs.Moving.{strays, trapping, leaving, branching, giving-i32, giving-object}
 
 -- drop
 
-module _ {first second : Topmost} where
-  pub drop-nothing : first ≡ Topmost.the-variants.Nothing → TopPlans first second drop-value Move.the-variants.Astray
+module _ {first : Topmost} where
+  pub drop-nothing : first ≡ Topmost.the-variants.Nothing → TopPlans first drop-value Move.the-variants.Astray
   unfolding doOp
-  drop-nothing e = record { is = λ p codes m top next. strays (on-none (m .operands) (no-top top e) _) }
+  drop-nothing e = record { is = λ p codes m top. strays (on-none (m .operands) (no-top top e) _) }
 
-  pub drop-one : {v : Carrier} → first ≡ Topmost.the-variants.Is v → TopPlans first second drop-value (Move.the-variants.Leaves 1)
+  pub drop-one : {v : Carrier} → first ≡ Topmost.the-variants.Is v → TopPlans first drop-value (Move.the-variants.Leaves 1)
   unfolding doOp
   drop-one e =
-      record { is = λ p codes m top next. leaving 1 (on-top (m .operands) (value-top top e) _) (top-low (m .operands) (value-top top e)) }
+      record { is = λ p codes m top. leaving 1 (on-top (m .operands) (value-top top e) _) (top-low (m .operands) (value-top top e)) }
 
 -- br_if
 
@@ -61,72 +61,72 @@ no-i32 (Value.the-variants.Nan64 n) h f = refl
 no-i32 Value.the-variants.Null h f = refl
 no-i32 (Value.the-variants.Object o) h f = refl
 
-module _ {first second : Topmost} (label : ℕ) where
-  pub branch-nothing : first ≡ Topmost.the-variants.Nothing → TopPlans first second (br-if label) Move.the-variants.Astray
+module _ {first : Topmost} (label : ℕ) where
+  pub branch-nothing : first ≡ Topmost.the-variants.Nothing → TopPlans first (br-if label) Move.the-variants.Astray
   unfolding doOp
-  branch-nothing e = record { is = λ p codes m top next. strays (on-none (m .operands) (no-top top e) _) }
+  branch-nothing e = record { is = λ p codes m top. strays (on-none (m .operands) (no-top top e) _) }
 
   module _ {v : Carrier} (e : first ≡ Topmost.the-variants.Is v) where
-    pub branch-other : OneOf others (tagOf the-type v) → TopPlans first second (br-if label) Move.the-variants.Astray
+    pub branch-other : OneOf others (tagOf the-type v) → TopPlans first (br-if label) Move.the-variants.Astray
     unfolding doOp
     branch-other h =
-        record { is = λ p codes m top next. strays (on-top (m .operands) (value-top top e) _ ∙ no-i32 v h _) }
+        record { is = λ p codes m top. strays (on-top (m .operands) (value-top top e) _ ∙ no-i32 v h _) }
 
     module _ {n : ℕ} (i : v ≡ Value.the-variants.I32 n) (small : n < 2 ^ 32) where
-      pub branch-zero : n ≡ 0 → TopPlans first second (br-if label) (Move.the-variants.Leaves 1)
+      pub branch-zero : n ≡ 0 → TopPlans first (br-if label) (Move.the-variants.Leaves 1)
       unfolding doOp
       branch-zero z =
           record {
-            is = λ p codes m top next.
+            is = λ p codes m top.
                 let head = value-top top e ∙ ap some (as-i32 i small) in
                 leaving 1 (on-top (m .operands) head _ ∙ rw (eq-eqb n 0 z)) (top-low (m .operands) head);
           }
 
-      pub branch-more : (n ≡ 0 → ⊥) → TopPlans first second (br-if label) (Move.the-variants.Branches 1 label)
+      pub branch-more : (n ≡ 0 → ⊥) → TopPlans first (br-if label) (Move.the-variants.Branches 1 label)
       unfolding doOp
       branch-more z =
           record {
-            is = λ p codes m top next.
+            is = λ p codes m top.
                 let head = value-top top e ∙ ap some (as-i32 i small) in
                 branching 1 label (on-top (m .operands) head _ ∙ rw (ne-eqb n 0 z)) (top-low (m .operands) head);
           }
 
 -- ref.is_null and ref.as_non_null
 
-module _ {first second : Topmost} {r : Reference} (is : r ≡ referenceAt first) where
-  pub is-null-wrong : r ≡ Reference.the-variants.Wrong → TopPlans first second ref-is-null Move.the-variants.Astray
+module _ {first : Topmost} {r : Reference} (is : r ≡ referenceAt first) where
+  pub is-null-wrong : r ≡ Reference.the-variants.Wrong → TopPlans first ref-is-null Move.the-variants.Astray
   unfolding doOp
-  is-null-wrong e = record { is = λ p codes m top next. strays (wrong-top top is e _) }
+  is-null-wrong e = record { is = λ p codes m top. strays (wrong-top top is e _) }
 
-  pub is-null-null : r ≡ Reference.the-variants.Null → TopPlans first second ref-is-null (Move.the-variants.Gives 1 (Value.the-variants.I32 1))
+  pub is-null-null : r ≡ Reference.the-variants.Null → TopPlans first ref-is-null (Move.the-variants.Gives 1 (Value.the-variants.I32 1))
   unfolding doOp
   is-null-null e =
       record {
-        is = λ p codes m top next.
+        is = λ p codes m top.
             let head = null-top top is e in giving-i32 1 1 (omega arith) (on-top (m .operands) head _) (top-low (m .operands) head);
       }
 
-  pub is-null-object : {o : ℕ} → r ≡ Reference.the-variants.To o → TopPlans first second ref-is-null (Move.the-variants.Gives 1 (Value.the-variants.I32 0))
+  pub is-null-object : {o : ℕ} → r ≡ Reference.the-variants.To o → TopPlans first ref-is-null (Move.the-variants.Gives 1 (Value.the-variants.I32 0))
   unfolding doOp
   is-null-object e =
       record {
-        is = λ p codes m top next.
+        is = λ p codes m top.
             let head = object-top top is e in giving-i32 1 0 (omega arith) (on-top (m .operands) head _) (top-low (m .operands) head);
       }
 
-  pub as-non-null-wrong : r ≡ Reference.the-variants.Wrong → TopPlans first second ref-as-non-null Move.the-variants.Astray
+  pub as-non-null-wrong : r ≡ Reference.the-variants.Wrong → TopPlans first ref-as-non-null Move.the-variants.Astray
   unfolding doOp
-  as-non-null-wrong e = record { is = λ p codes m top next. strays (wrong-top top is e _) }
+  as-non-null-wrong e = record { is = λ p codes m top. strays (wrong-top top is e _) }
 
-  pub as-non-null-null : r ≡ Reference.the-variants.Null → TopPlans first second ref-as-non-null (Move.the-variants.Traps trapNull)
+  pub as-non-null-null : r ≡ Reference.the-variants.Null → TopPlans first ref-as-non-null (Move.the-variants.Traps trapNull)
   unfolding doOp
-  as-non-null-null e = record { is = λ p codes m top next. trapping (on-top (m .operands) (null-top top is e) _) }
+  as-non-null-null e = record { is = λ p codes m top. trapping (on-top (m .operands) (null-top top is e) _) }
 
-  pub as-non-null-object : {o : ℕ} → r ≡ Reference.the-variants.To o → TopPlans first second ref-as-non-null (Move.the-variants.Gives 1 (Value.the-variants.Object o))
+  pub as-non-null-object : {o : ℕ} → r ≡ Reference.the-variants.To o → TopPlans first ref-as-non-null (Move.the-variants.Gives 1 (Value.the-variants.Object o))
   unfolding doOp
   as-non-null-object {o} e =
       record {
-        is = λ p codes m top next.
+        is = λ p codes m top.
             let head = object-top top is e in giving-object 1 o (on-top (m .operands) head _) (top-low (m .operands) head);
       }
 
@@ -163,33 +163,33 @@ module _ (p : Program) (codes : List ℕ) (m : Machine) (x : Option ℕ) (top : 
       (two-low (m .operands) top next)
 
 module _ {first second : Topmost} {one other : Reference} (a : one ≡ referenceAt first) (b : other ≡ referenceAt second) where
-  pub eq-wrong : one ≡ Reference.the-variants.Wrong → TopPlans first second ref-eq Move.the-variants.Astray
+  pub eq-wrong : one ≡ Reference.the-variants.Wrong → PairPlans first second ref-eq Move.the-variants.Astray
   unfolding doOp
   eq-wrong e = record { is = λ p codes m top next. strays (looked-first (m .operands) _ ∙ wrong-top top a e _) }
 
   module _ (e : one ≡ Reference.the-variants.Null) where
-    pub eq-null-wrong : other ≡ Reference.the-variants.Wrong → TopPlans first second ref-eq Move.the-variants.Astray
+    pub eq-null-wrong : other ≡ Reference.the-variants.Wrong → PairPlans first second ref-eq Move.the-variants.Astray
     eq-null-wrong f = record { is = λ p codes m top next. eq-missing p codes m none (null-top top a e) next b f }
 
-    pub eq-null-null : other ≡ Reference.the-variants.Null → TopPlans first second ref-eq (Move.the-variants.Gives 2 (Value.the-variants.I32 1))
+    pub eq-null-null : other ≡ Reference.the-variants.Null → PairPlans first second ref-eq (Move.the-variants.Gives 2 (Value.the-variants.I32 1))
     eq-null-null f = record { is = λ p codes m top next. eq-told p codes m none (null-top top a e) none (null-top next b f) refl (omega arith) }
 
-    pub eq-null-object : {q : ℕ} → other ≡ Reference.the-variants.To q → TopPlans first second ref-eq (Move.the-variants.Gives 2 (Value.the-variants.I32 0))
+    pub eq-null-object : {q : ℕ} → other ≡ Reference.the-variants.To q → PairPlans first second ref-eq (Move.the-variants.Gives 2 (Value.the-variants.I32 0))
     eq-null-object {q} f = record { is = λ p codes m top next. eq-told p codes m none (null-top top a e) (some q) (object-top next b f) refl (omega arith) }
 
   module _ {o : ℕ} (e : one ≡ Reference.the-variants.To o) where
-    pub eq-object-wrong : other ≡ Reference.the-variants.Wrong → TopPlans first second ref-eq Move.the-variants.Astray
+    pub eq-object-wrong : other ≡ Reference.the-variants.Wrong → PairPlans first second ref-eq Move.the-variants.Astray
     eq-object-wrong f = record { is = λ p codes m top next. eq-missing p codes m (some o) (object-top top a e) next b f }
 
-    pub eq-object-null : other ≡ Reference.the-variants.Null → TopPlans first second ref-eq (Move.the-variants.Gives 2 (Value.the-variants.I32 0))
+    pub eq-object-null : other ≡ Reference.the-variants.Null → PairPlans first second ref-eq (Move.the-variants.Gives 2 (Value.the-variants.I32 0))
     eq-object-null f = record { is = λ p codes m top next. eq-told p codes m (some o) (object-top top a e) none (null-top next b f) refl (omega arith) }
 
     module _ {q : ℕ} (f : other ≡ Reference.the-variants.To q) where
-      pub eq-same : o ≡ q → TopPlans first second ref-eq (Move.the-variants.Gives 2 (Value.the-variants.I32 1))
+      pub eq-same : o ≡ q → PairPlans first second ref-eq (Move.the-variants.Gives 2 (Value.the-variants.I32 1))
       eq-same h =
           record { is = λ p codes m top next. eq-told p codes m (some o) (object-top top a e) (some q) (object-top next b f) (rw (eq-eqb o q h)) (omega arith) }
 
-      pub eq-other : (o ≡ q → ⊥) → TopPlans first second ref-eq (Move.the-variants.Gives 2 (Value.the-variants.I32 0))
+      pub eq-other : (o ≡ q → ⊥) → PairPlans first second ref-eq (Move.the-variants.Gives 2 (Value.the-variants.I32 0))
       eq-other h =
           record { is = λ p codes m top next. eq-told p codes m (some o) (object-top top a e) (some q) (object-top next b f) (rw (ne-eqb o q h)) (omega arith) }
 

@@ -6,7 +6,7 @@ use run_state::Reference;
 use run_value::Value;
 use scope::traps;
 ghost use Rattle.scope.specs.Instructions.{drop-value, br-if, local-get, local-set, local-tee, ref-is-null, ref-eq, ref-as-non-null};
-ghost use Rattle.run_state.specs.Planned.{TopPlans, LocalPlans};
+ghost use Rattle.run_state.specs.Planned.{TopPlans, PairPlans, HeldPlans, LocalPlans};
 ghost use Rattle.run_move_operands.specs.Seconds.{SecondIs};
 
 // The operand under the topmost.
@@ -20,8 +20,8 @@ pub fn second_of(operands: &[u64], base: u32, height: u32) -> Topmost
 }
 
 // drop
-pub fn drop_move(first: Topmost, second: Topmost) -> Move
-    ensures { λ r. ⌜ TopPlans first second drop-value r ⌝ }
+pub fn drop_move(first: Topmost) -> Move
+    ensures { λ r. ⌜ TopPlans first drop-value r ⌝ }
 {
     match first {
         Topmost::Nothing => Move::Astray,
@@ -30,8 +30,8 @@ pub fn drop_move(first: Topmost, second: Topmost) -> Move
 }
 
 // br_if
-pub fn branch_move(first: Topmost, second: Topmost, label: u64) -> Move
-    ensures { λ r. ⌜ TopPlans first second (br-if label) r ⌝ }
+pub fn branch_move(first: Topmost, label: u64) -> Move
+    ensures { λ r. ⌜ TopPlans first (br-if label) r ⌝ }
 {
     match first {
         Topmost::Nothing => Move::Astray,
@@ -48,8 +48,8 @@ pub fn branch_move(first: Topmost, second: Topmost, label: u64) -> Move
 }
 
 // local.get
-pub fn get_move(locals: &[u64], count: u16, first: Topmost, x: u64) -> Move
-    ensures { λ r. ⌜ LocalPlans (now (locals .entry)) count first (local-get x) r ⌝ }
+pub fn get_move(locals: &[u64], count: u16, x: u64) -> Move
+    ensures { λ r. ⌜ HeldPlans (now (locals .entry)) count (local-get x) r ⌝ }
 {
     let held = run_stack::held_local(locals, count, x);
     match held {
@@ -90,8 +90,8 @@ pub fn tee_move(locals: &[u64], count: u16, first: Topmost, x: u64) -> Move
 }
 
 // ref.is_null
-pub fn is_null_move(first: Topmost, second: Topmost) -> Move
-    ensures { λ r. ⌜ TopPlans first second ref-is-null r ⌝ }
+pub fn is_null_move(first: Topmost) -> Move
+    ensures { λ r. ⌜ TopPlans first ref-is-null r ⌝ }
 {
     let reference = run_state::reference_of(first);
     match reference {
@@ -103,7 +103,7 @@ pub fn is_null_move(first: Topmost, second: Topmost) -> Move
 
 // ref.eq: null is the same as null, an object as itself.
 pub fn eq_move(first: Topmost, second: Topmost) -> Move
-    ensures { λ r. ⌜ TopPlans first second ref-eq r ⌝ }
+    ensures { λ r. ⌜ PairPlans first second ref-eq r ⌝ }
 {
     let one = run_state::reference_of(first);
     let other = run_state::reference_of(second);
@@ -128,8 +128,8 @@ pub fn eq_move(first: Topmost, second: Topmost) -> Move
 }
 
 // ref.as_non_null
-pub fn as_non_null_move(first: Topmost, second: Topmost) -> Move
-    ensures { λ r. ⌜ TopPlans first second ref-as-non-null r ⌝ }
+pub fn as_non_null_move(first: Topmost) -> Move
+    ensures { λ r. ⌜ TopPlans first ref-as-non-null r ⌝ }
 {
     let reference = run_state::reference_of(first);
     match reference {

@@ -27,7 +27,7 @@ use Rattle.run_state.specs.declared.Stage.{Stage}
 use Rattle.run_state.specs.declared.Move.{Move}
 use Rattle.run_state.specs.declared.Move
 use Rattle.run_state.specs.Moved.{MoveIs}
-use Rattle.run_state.specs.Planned.{Seen, Knows, Holds, TopPlans, LocalPlans, FieldPlans, MakePlans}
+use Rattle.run_state.specs.Planned.{Seen, Knows, Holds, TopPlans, PairPlans, HeldPlans, LocalPlans, FieldPlans, SetPlans, MakePlans}
 use Rattle.run_state.proofs.Moving.{trapping, leaving, branching, returning, giving, giving-null}
 use Rattle.run_move_operands.specs.Seconds.{SecondIs}
 use Rattle.run_move_casts.specs.Casts.{CastPlans, DescriptorPlans}
@@ -39,12 +39,12 @@ module _ {m : Machine} {objects cells locals operands : List ℕ} {count : ℕ} 
   sees : Seen (m .operands) first
   sees = record { is = t .is ∙ ap headOf (sym (holds .values)) }
 
-  module _ {second : Topmost} (u : SecondIs operands (st .base) (st .height) second) where
-    sees-next : Seen (drop 1 (m .operands)) second
-    sees-next = rw (holds .values) (u .seen)
+  knows : Knows m first objects cells (st .objects) (st .cells)
+  knows = record { top = sees; heap = holds .heap; kept = holds .kept }
 
-    knows : Knows m first second objects cells (st .objects) (st .cells)
-    knows = record { top = sees; next = sees-next; heap = holds .heap; kept = holds .kept }
+module _ {m : Machine} {objects cells locals operands : List ℕ} {count : ℕ} {st : Stage} (holds : Holds m objects cells locals operands count st) where
+  sees-next : {second : Topmost} → SecondIs operands (st .base) (st .height) second → Seen (drop 1 (m .operands)) second
+  sees-next u = rw (holds .values) (u .seen)
 
   as-high : length (m .operands) ≡ st .height
   as-high = ap length (holds .values) ∙ pile-length operands (st .base) (st .height)
@@ -76,26 +76,35 @@ module _ (rows codes objects cells locals operands : List ℕ) (count : ℕ) (st
               rw same (told p m types holds);
         }
 
-    module _ {o : Op} {r : Move} {first : Topmost} where
-      pub by-locals : LocalPlans locals count first o r → First first → instrOf j ≡ op o → Tells i r
-      by-locals a t f = tells f (λ p m types holds. a .is p codes m (holds .held) (sees t holds))
+    module _ {o : Op} {r : Move} where
+      pub by-held : HeldPlans locals count o r → instrOf j ≡ op o → Tells i r
+      by-held a f = tells f (λ p m types holds. a .is p codes m (holds .held))
 
-      module _ {second : Topmost} where
-        pub by-tops : TopPlans first second o r → First first → Second second → instrOf j ≡ op o → Tells i r
-        by-tops a t u f = tells f (λ p m types holds. a .is p codes m (sees t holds) (sees-next t holds u))
+      module _ {first : Topmost} where
+        pub by-top : TopPlans first o r → First first → instrOf j ≡ op o → Tells i r
+        by-top a t f = tells f (λ p m types holds. a .is p codes m (sees t holds))
 
-        pub by-fields : FieldPlans objects cells (st .objects) first second o r → First first → Second second → instrOf j ≡ op o → Tells i r
-        by-fields a t u f = tells f (λ p m types holds. a .is p codes m (st .cells) (knows t holds u))
+        pub by-locals : LocalPlans locals count first o r → First first → instrOf j ≡ op o → Tells i r
+        by-locals a t f = tells f (λ p m types holds. a .is p codes m (holds .held) (sees t holds))
 
-        pub by-making : MakePlans rows codes (st .objects) (st .cells) (st .height) first o r → First first → Second second → instrOf j ≡ op o → Tells i r
-        by-making a t u f =
-            tells f (λ p m types holds. a .is p m second objects cells types (as-high t holds) (knows t holds u))
+        pub by-fields : FieldPlans objects cells (st .objects) first o r → First first → instrOf j ≡ op o → Tells i r
+        by-fields a t f = tells f (λ p m types holds. a .is p codes m (st .cells) (knows t holds))
 
-        pub by-casts : CastPlans rows codes objects (st .objects) first o r → First first → Second second → instrOf j ≡ op o → Tells i r
-        by-casts a t u f = tells f (λ p m types holds. a .is p m second cells (st .cells) types (knows t holds u))
+        pub by-making : MakePlans rows codes (st .objects) (st .cells) (st .height) first o r → First first → instrOf j ≡ op o → Tells i r
+        by-making a t f = tells f (λ p m types holds. a .is p m objects cells types (as-high holds) (knows t holds))
 
-        pub by-descriptors : DescriptorPlans objects (st .objects) first second o r → First first → Second second → instrOf j ≡ op o → Tells i r
-        by-descriptors a t u f = tells f (λ p m types holds. a .is p codes m cells (st .cells) (knows t holds u))
+        pub by-casts : CastPlans rows codes objects (st .objects) first o r → First first → instrOf j ≡ op o → Tells i r
+        by-casts a t f = tells f (λ p m types holds. a .is p m cells (st .cells) types (knows t holds))
+
+        module _ {second : Topmost} where
+          pub by-pair : PairPlans first second o r → First first → Second second → instrOf j ≡ op o → Tells i r
+          by-pair a t u f = tells f (λ p m types holds. a .is p codes m (sees t holds) (sees-next holds u))
+
+          pub by-setting : SetPlans objects cells (st .objects) first second o r → First first → Second second → instrOf j ≡ op o → Tells i r
+          by-setting a t u f = tells f (λ p m types holds. a .is p codes m (st .cells) (knows t holds) (sees-next holds u))
+
+          pub by-descriptors : DescriptorPlans objects (st .objects) first second o r → First first → Second second → instrOf j ≡ op o → Tells i r
+          by-descriptors a t u f = tells f (λ p m types holds. a .is p codes m cells (st .cells) (knows t holds) (sees-next holds u))
 
   module _ {i : Instruction} where
     -- a block is opened or closed: no operation, and nothing to tell
@@ -164,4 +173,4 @@ module _ (rows codes objects cells locals operands : List ℕ) (count : ℕ) (st
 pub by-number : {i j : Instruction} {x : ℕ} → Modest i → i ≡ j → numberOf j ≡ x → x < wordLimit
 by-number a e f = rw (← f, ← e) (a .small)
 
-pub ruleset arm-exits = (by-number, by-block, by-loop, by-end, by-unreachable, by-nop, by-return, by-branch, by-i32, by-i64, by-f32, by-f64, by-null, by-tops, by-locals, by-fields, by-making, by-casts, by-descriptors)
+pub ruleset arm-exits = (by-number, by-block, by-loop, by-end, by-unreachable, by-nop, by-return, by-branch, by-i32, by-i64, by-f32, by-f64, by-null, by-held, by-top, by-pair, by-locals, by-fields, by-setting, by-making, by-casts, by-descriptors)

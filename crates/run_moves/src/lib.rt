@@ -8,7 +8,8 @@ use scope::traps;
 ghost use Rattle.body_decoded.specs.Named.{Modest};
 ghost use Rattle.run_moves.specs.Moving.{MoveOf};
 
-// What an instruction inside its block comes to; one that opens or closes a block has no move.
+// What an instruction inside its block comes to; one that opens or closes a block has no move. An operand is read only where the
+// instruction looks at it: most look at one or none.
 pub fn move_of(
     rows: &[u16],
     codes: &[u16],
@@ -31,8 +32,6 @@ pub fn move_of(
     let total = stage.cells;
     let base = stage.base;
     let height = stage.height;
-    let first = run_stack::top(operands, base, height);
-    let second = run_move_operands::second_of(operands, base, height);
     match i {
         Instruction::Unreachable => Move::Traps(traps::UNREACHABLE),
         Instruction::Nop => Move::Leaves(0),
@@ -40,12 +39,24 @@ pub fn move_of(
         Instruction::Loop(_) => Move::Astray,
         Instruction::End => Move::Astray,
         Instruction::Br(l) => Move::Branches(0, l),
-        Instruction::BrIf(l) => run_move_operands::branch_move(first, second, l),
+        Instruction::BrIf(l) => {
+            let first = run_stack::top(operands, base, height);
+            run_move_operands::branch_move(first, l)
+        }
         Instruction::Return => Move::Returns,
-        Instruction::Drop => run_move_operands::drop_move(first, second),
-        Instruction::LocalGet(x) => run_move_operands::get_move(locals, count, first, x),
-        Instruction::LocalSet(x) => run_move_operands::set_move(locals, count, first, x),
-        Instruction::LocalTee(x) => run_move_operands::tee_move(locals, count, first, x),
+        Instruction::Drop => {
+            let first = run_stack::top(operands, base, height);
+            run_move_operands::drop_move(first)
+        }
+        Instruction::LocalGet(x) => run_move_operands::get_move(locals, count, x),
+        Instruction::LocalSet(x) => {
+            let first = run_stack::top(operands, base, height);
+            run_move_operands::set_move(locals, count, first, x)
+        }
+        Instruction::LocalTee(x) => {
+            let first = run_stack::top(operands, base, height);
+            run_move_operands::tee_move(locals, count, first, x)
+        }
         Instruction::I32Const(bits) => Move::Gives(0, Value::I32(bits)),
         Instruction::I64Const(bits) => Move::Gives(0, Value::I64(bits)),
         Instruction::F32Const(bits) => {
@@ -56,48 +67,67 @@ pub fn move_of(
             let v = run_value::double(bits);
             Move::Gives(0, v)
         }
-        Instruction::Numeric(code) => run_move_numbers::numeric_move(first, second, code),
+        Instruction::Numeric(code) => {
+            let first = run_stack::top(operands, base, height);
+            let second = run_move_operands::second_of(operands, base, height);
+            run_move_numbers::numeric_move(first, second, code)
+        }
         Instruction::RefNull(_) => Move::Gives(0, Value::Null),
-        Instruction::RefIsNull => run_move_operands::is_null_move(first, second),
-        Instruction::RefEq => run_move_operands::eq_move(first, second),
-        Instruction::RefAsNonNull => run_move_operands::as_non_null_move(first, second),
-        Instruction::StructNew(x) => run_move_new::new_move(
-            rows,
-            codes,
-            n,
-            total,
-            height,
-            first,
-            x,
-        ),
+        Instruction::RefIsNull => {
+            let first = run_stack::top(operands, base, height);
+            run_move_operands::is_null_move(first)
+        }
+        Instruction::RefEq => {
+            let first = run_stack::top(operands, base, height);
+            let second = run_move_operands::second_of(operands, base, height);
+            run_move_operands::eq_move(first, second)
+        }
+        Instruction::RefAsNonNull => {
+            let first = run_stack::top(operands, base, height);
+            run_move_operands::as_non_null_move(first)
+        }
+        Instruction::StructNew(x) => {
+            let first = run_stack::top(operands, base, height);
+            run_move_new::new_move(rows, codes, n, total, height, first, x)
+        }
         Instruction::StructNewDefault(x) => {
+            let first = run_stack::top(operands, base, height);
             run_move_new::new_default_move(rows, codes, n, total, height, first, x)
         }
         Instruction::StructGet(x, f) => {
-            run_move_fields::get_field_move(objects, cells, n, first, second, x, f)
+            let first = run_stack::top(operands, base, height);
+            run_move_fields::get_field_move(objects, cells, n, first, x, f)
         }
         Instruction::StructSet(x, f) => {
+            let first = run_stack::top(operands, base, height);
+            let second = run_move_operands::second_of(operands, base, height);
             run_move_fields::set_field_move(objects, cells, n, first, second, x, f)
         }
         Instruction::RefTest(null, h) => {
+            let first = run_stack::top(operands, base, height);
             run_move_casts::test_move(rows, codes, objects, n, first, null, h)
         }
         Instruction::RefCast(null, h) => {
+            let first = run_stack::top(operands, base, height);
             run_move_casts::cast_move(rows, codes, objects, n, first, null, h)
         }
-        Instruction::BrOnCast(l, source_null, source, null, h) => run_move_casts::on_cast_move(
-            rows,
-            codes,
-            objects,
-            n,
-            first,
-            l,
-            source_null,
-            source,
-            null,
-            h,
-        ),
+        Instruction::BrOnCast(l, source_null, source, null, h) => {
+            let first = run_stack::top(operands, base, height);
+            run_move_casts::on_cast_move(
+                rows,
+                codes,
+                objects,
+                n,
+                first,
+                l,
+                source_null,
+                source,
+                null,
+                h,
+            )
+        }
         Instruction::BrOnCastFail(l, source_null, source, null, h) => {
+            let first = run_stack::top(operands, base, height);
             run_move_casts::on_cast_fail_move(
                 rows,
                 codes,
@@ -112,18 +142,25 @@ pub fn move_of(
             )
         }
         Instruction::StructNewDesc(x) => {
+            let first = run_stack::top(operands, base, height);
             run_move_new::new_desc_move(rows, codes, n, total, height, first, x)
         }
         Instruction::StructNewDefaultDesc(x) => {
+            let first = run_stack::top(operands, base, height);
             run_move_new::new_default_desc_move(rows, codes, n, total, height, first, x)
         }
         Instruction::RefGetDesc(x) => {
-            run_move_fields::get_descriptor_move(objects, cells, n, first, second, x)
+            let first = run_stack::top(operands, base, height);
+            run_move_fields::get_descriptor_move(objects, cells, n, first, x)
         }
         Instruction::RefCastDescEq(null, h) => {
+            let first = run_stack::top(operands, base, height);
+            let second = run_move_operands::second_of(operands, base, height);
             run_move_casts::descriptor_cast_move(objects, n, first, second, null, h)
         }
         Instruction::BrOnCastDescEq(l, source_null, source, null, h) => {
+            let first = run_stack::top(operands, base, height);
+            let second = run_move_operands::second_of(operands, base, height);
             run_move_casts::on_descriptor_move(
                 objects,
                 n,
@@ -137,6 +174,8 @@ pub fn move_of(
             )
         }
         Instruction::BrOnCastDescEqFail(l, source_null, source, null, h) => {
+            let first = run_stack::top(operands, base, height);
+            let second = run_move_operands::second_of(operands, base, height);
             run_move_casts::on_descriptor_fail_move(
                 objects,
                 n,

@@ -41,7 +41,7 @@ pub cast-chosen :
     → {yes′ no′ r : Move} → r ≡ chosenOf passing yes′ no′ → CastChosen rows codes objects n first nullToo h yes′ no′ r
 cast-chosen {codes} {nullToo} {h} {passing} a {yes′} {no′} e =
     record {
-      is = λ p m second cells total types knows f yes-is no-is.
+      is = λ p m cells total types knows f yes-is no-is.
           let here : Answers (m .operands) (castPasses (p .types) (m .heap) nullToo (heapAtCode h)) passing = rw (types, knows .heap) (a .answers (m .operands) cells (knows .top)) in
           rw e (choice p codes m here yes′ no′ f yes-is no-is);
     }
@@ -55,14 +55,14 @@ module _ {objects : List ℕ} {n : ℕ} {first second : Topmost} {nullToo : Bool
   pub descriptor-wrong : q ≡ Reference.the-variants.Wrong → DescriptorChosen objects n first second nullToo yes′ no′ Move.the-variants.Astray
   descriptor-wrong e =
       record {
-        is = λ p codes m cells total knows f yes-is no-is.
+        is = λ p codes m cells total knows next f yes-is no-is.
             strays (wrong-top (knows .top) is e (λ v. pastDescriptor (m .heap) nullToo f));
       }
 
   pub descriptor-null : q ≡ Reference.the-variants.Null → DescriptorChosen objects n first second nullToo yes′ no′ (Move.the-variants.Traps trapNullDescriptor)
   descriptor-null e =
       record {
-        is = λ p codes m cells total knows f yes-is no-is.
+        is = λ p codes m cells total knows next f yes-is no-is.
             trapping (on-top (m .operands) (null-top (knows .top) is e) (λ v others. onReference v (pastDescriptor (m .heap) nullToo f others)));
       }
 
@@ -71,10 +71,10 @@ module _ {objects : List ℕ} {n : ℕ} {first second : Topmost} {nullToo : Bool
       → DescriptorChosen objects n first second nullToo yes′ no′ r
   descriptor-chosen {d} e {passing} a g =
       record {
-        is = λ p codes m cells total knows f yes-is no-is.
+        is = λ p codes m cells total knows next f yes-is no-is.
             let top = object-top (knows .top) is e in
             let low = top-low (m .operands) top in
-            let here : Answers (drop 1 (m .operands)) (descriptorCastPasses (m .heap) nullToo d) passing = rw (knows .heap) (a .answers (drop 1 (m .operands)) cells (knows .next)) in
+            let here : Answers (drop 1 (m .operands)) (descriptorCastPasses (m .heap) nullToo d) passing = rw (knows .heap) (a .answers (drop 1 (m .operands)) cells next) in
             rw (g, on-top (m .operands) top (λ v others. onReference v (pastDescriptor (m .heap) nullToo f others)))
             (choice p codes m here yes′ no′ (λ v below. f (drop 1 (m .operands))) (λ v h. yes-is low) (λ v h. no-is low));
       }

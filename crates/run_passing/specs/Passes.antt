@@ -36,8 +36,8 @@ chosenOf (Passing.the-variants.Is b) yes′ no′ = cond b yes′ no′
 
 -- the two moves are what comes of the two answers, so the one that is chosen is what comes of the cast
 pub record CastChosen (rows codes objects : List ℕ) (n : ℕ) (first : Topmost) (null : Bool) (h : ℕ) (yes′ no′ r : Move) : Type 0 where
-  pub is : (p : Program) (m : Machine) (second : Topmost) (cells : List ℕ) (total : ℕ)
-      → p .types ≡ view rows codes → Knows m first second objects cells n total
+  pub is : (p : Program) (m : Machine) (cells : List ℕ) (total : ℕ)
+      → p .types ≡ view rows codes → Knows m first objects cells n total
       → (f : Value → List Value → Bool → Outcome)
       → ((v : Value) → headOf (m .operands) ≡ some v → MoveIs p codes m (f v (drop 1 (m .operands)) true) yes′)
       → ((v : Value) → headOf (m .operands) ≡ some v → MoveIs p codes m (f v (drop 1 (m .operands)) false) no′)
@@ -45,7 +45,7 @@ pub record CastChosen (rows codes objects : List ℕ) (n : ℕ) (first : Topmost
 
 pub record DescriptorChosen (objects : List ℕ) (n : ℕ) (first second : Topmost) (null : Bool) (yes′ no′ r : Move) : Type 0 where
   pub is : (p : Program) (codes : List ℕ) (m : Machine) (cells : List ℕ) (total : ℕ)
-      → Knows m first second objects cells n total
+      → Knows m first objects cells n total → Seen (drop 1 (m .operands)) second
       → (f : List Value → Bool → Outcome)
       → (1 ≤ length (m .operands) → MoveIs p codes m (f (drop 1 (m .operands)) true) yes′)
       → (1 ≤ length (m .operands) → MoveIs p codes m (f (drop 1 (m .operands)) false) no′)

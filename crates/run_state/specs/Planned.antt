@@ -38,35 +38,52 @@ referenceAt (Topmost.the-variants.Is v) = referring v
 pub record Seen (vs : List Value) (t : Topmost) : Type 0 where
   pub is : topOf t ≡ headOf vs
 
--- the two topmost operands, and the heap
-pub record Knows (m : Machine) (first second : Topmost) (objects cells : List ℕ) (n total : ℕ) : Type 0 where
+-- the topmost operand, and the heap
+pub record Knows (m : Machine) (first : Topmost) (objects cells : List ℕ) (n total : ℕ) : Type 0 where
   pub top : Seen (m .operands) first
-  pub next : Seen (drop 1 (m .operands)) second
   pub heap : m .heap ≡ storeAt objects cells n
   pub kept : Kept objects cells n total
 
--- the move of an instruction, by what it looks at: operands
-pub record TopPlans (first second : Topmost) (o : Op) (r : Move) : Type 0 where
+-- The move of an instruction, by what it looks at, since nothing else is read: the topmost operand,
+pub record TopPlans (first : Topmost) (o : Op) (r : Move) : Type 0 where
+  pub is : (p : Program) (codes : List ℕ) (m : Machine)
+      → Seen (m .operands) first
+      → MoveIs p codes m (doOp p m (m .operands) o) r
+
+-- the two topmost,
+pub record PairPlans (first second : Topmost) (o : Op) (r : Move) : Type 0 where
   pub is : (p : Program) (codes : List ℕ) (m : Machine)
       → Seen (m .operands) first → Seen (drop 1 (m .operands)) second
       → MoveIs p codes m (doOp p m (m .operands) o) r
 
--- locals
+-- locals,
+pub record HeldPlans (locals : List ℕ) (count : ℕ) (o : Op) (r : Move) : Type 0 where
+  pub is : (p : Program) (codes : List ℕ) (m : Machine)
+      → m .locals ≡ heldFrom locals 0 count
+      → MoveIs p codes m (doOp p m (m .operands) o) r
+
+-- locals and the topmost operand,
 pub record LocalPlans (locals : List ℕ) (count : ℕ) (first : Topmost) (o : Op) (r : Move) : Type 0 where
   pub is : (p : Program) (codes : List ℕ) (m : Machine)
       → m .locals ≡ heldFrom locals 0 count → Seen (m .operands) first
       → MoveIs p codes m (doOp p m (m .operands) o) r
 
--- objects and their fields
-pub record FieldPlans (objects cells : List ℕ) (n : ℕ) (first second : Topmost) (o : Op) (r : Move) : Type 0 where
+-- objects and their fields,
+pub record FieldPlans (objects cells : List ℕ) (n : ℕ) (first : Topmost) (o : Op) (r : Move) : Type 0 where
   pub is : (p : Program) (codes : List ℕ) (m : Machine) (total : ℕ)
-      → Knows m first second objects cells n total
+      → Knows m first objects cells n total
+      → MoveIs p codes m (doOp p m (m .operands) o) r
+
+-- a field of an object under the topmost operand,
+pub record SetPlans (objects cells : List ℕ) (n : ℕ) (first second : Topmost) (o : Op) (r : Move) : Type 0 where
+  pub is : (p : Program) (codes : List ℕ) (m : Machine) (total : ℕ)
+      → Knows m first objects cells n total → Seen (drop 1 (m .operands)) second
       → MoveIs p codes m (doOp p m (m .operands) o) r
 
 -- the table, how many objects, cells and operands there are, and the topmost of these
 pub record MakePlans (rows codes : List ℕ) (n total height : ℕ) (first : Topmost) (o : Op) (r : Move) : Type 0 where
-  pub is : (p : Program) (m : Machine) (second : Topmost) (objects cells : List ℕ)
-      → p .types ≡ view rows codes → length (m .operands) ≡ height → Knows m first second objects cells n total
+  pub is : (p : Program) (m : Machine) (objects cells : List ℕ)
+      → p .types ≡ view rows codes → length (m .operands) ≡ height → Knows m first objects cells n total
       → MoveIs p codes m (doOp p m (m .operands) o) r
 
 -- the memory from which a machine's values are read
