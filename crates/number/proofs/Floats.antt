@@ -81,8 +81,8 @@ module _ {n : ℕ} {s : List ℕ} {at bits done : ℕ} (p : Lower n s at bits do
     pub float-product : Fits w64 (bits * 256)
     float-product = let h : bits < 2 ^ 56 = bound in record { fits = omega arith }
 
-    pub float-sum : {b : ℕ} → ByteIs s (at + (n - (done + 1))) b → Fits w64 (bits * 256 + b)
-    float-sum {b} a = let h : bits < 2 ^ 56 = bound in let k : b < 256 = a .small in record { fits = omega arith }
+    pub float-sum : {place b : ℕ} → ByteIs s place b → Fits w64 (bits * 256 + b)
+    float-sum {place} {b} a = let h : bits < 2 ^ 56 = bound in let k : b < 256 = a .small in record { fits = omega arith }
 
     pub float-turn : {b : ℕ} → ByteIs s (at + (n - (done + 1))) b → Lower n s at (bits * 256 + b) (done + 1)
     float-turn {b} a =
