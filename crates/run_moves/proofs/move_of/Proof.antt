@@ -6,12 +6,6 @@ use Rattle.run_moves.proofs.Arms.{arm-exits}
 use Rattle.run_moves.proofs.move_of.Statement.{statement}
 use Rattle.run_moves.proofs.move_of.Tie as tie
 
-top-requires : tie.Need-top-requires
-top-requires c κs = search (arm-exits, needs)
-
-second-of-requires : tie.Need-second-of-requires
-second-of-requires c κs = search (arm-exits, needs)
-
 enum-told : tie.Need-enum-told
 enum-told c = search (arm-exits, needs)
 
@@ -33,6 +27,9 @@ enum-known-i c = search (arm-exits, needs)
 enum-known-i-2 : tie.Need-enum-known-i-2
 enum-known-i-2 c = search (arm-exits, needs)
 
+top-requires : tie.Need-top-requires
+top-requires c κs = search (arm-exits, needs)
+
 branch-move-requires : tie.Need-branch-move-requires
 branch-move-requires c κs = search (arm-exits, needs)
 
@@ -41,6 +38,9 @@ enum-told-6 c = search (arm-exits, needs)
 
 enum-told-7 : tie.Need-enum-told-7
 enum-told-7 c = search (arm-exits, needs)
+
+top-requires-2 : tie.Need-top-requires-2
+top-requires-2 c κs = search (arm-exits, needs)
 
 drop-move-requires : tie.Need-drop-move-requires
 drop-move-requires c κs = search (arm-exits, needs)
@@ -54,11 +54,17 @@ get-move-requires c κs = search (arm-exits, needs)
 enum-known-i-4 : tie.Need-enum-known-i-4
 enum-known-i-4 c = search (arm-exits, needs)
 
+top-requires-3 : tie.Need-top-requires-3
+top-requires-3 c κs = search (arm-exits, needs)
+
 set-move-requires : tie.Need-set-move-requires
 set-move-requires c κs = search (arm-exits, needs)
 
 enum-known-i-5 : tie.Need-enum-known-i-5
 enum-known-i-5 c = search (arm-exits, needs)
+
+top-requires-4 : tie.Need-top-requires-4
+top-requires-4 c κs = search (arm-exits, needs)
 
 tee-move-requires : tie.Need-tee-move-requires
 tee-move-requires c κs = search (arm-exits, needs)
@@ -84,6 +90,12 @@ double-requires c κs = search (arm-exits, needs)
 enum-known-i-10 : tie.Need-enum-known-i-10
 enum-known-i-10 c = search (arm-exits, needs)
 
+top-requires-5 : tie.Need-top-requires-5
+top-requires-5 c κs = search (arm-exits, needs)
+
+second-of-requires : tie.Need-second-of-requires
+second-of-requires c κs = search (arm-exits, needs)
+
 numeric-move-requires : tie.Need-numeric-move-requires
 numeric-move-requires c κs = search (arm-exits, needs)
 
@@ -93,11 +105,20 @@ enum-told-8 c = search (arm-exits, needs)
 enum-told-9 : tie.Need-enum-told-9
 enum-told-9 c = search (arm-exits, needs)
 
+top-requires-6 : tie.Need-top-requires-6
+top-requires-6 c κs = search (arm-exits, needs)
+
 is-null-move-requires : tie.Need-is-null-move-requires
 is-null-move-requires c κs = search (arm-exits, needs)
 
 enum-told-10 : tie.Need-enum-told-10
 enum-told-10 c = search (arm-exits, needs)
+
+top-requires-7 : tie.Need-top-requires-7
+top-requires-7 c κs = search (arm-exits, needs)
+
+second-of-requires-2 : tie.Need-second-of-requires-2
+second-of-requires-2 c κs = search (arm-exits, needs)
 
 eq-move-requires : tie.Need-eq-move-requires
 eq-move-requires c κs = search (arm-exits, needs)
@@ -105,11 +126,17 @@ eq-move-requires c κs = search (arm-exits, needs)
 enum-told-11 : tie.Need-enum-told-11
 enum-told-11 c = search (arm-exits, needs)
 
+top-requires-8 : tie.Need-top-requires-8
+top-requires-8 c κs = search (arm-exits, needs)
+
 as-non-null-move-requires : tie.Need-as-non-null-move-requires
 as-non-null-move-requires c κs = search (arm-exits, needs)
 
 enum-known-i-11 : tie.Need-enum-known-i-11
 enum-known-i-11 c = search (arm-exits, needs)
+
+top-requires-9 : tie.Need-top-requires-9
+top-requires-9 c κs = search (arm-exits, needs)
 
 new-move-requires : tie.Need-new-move-requires
 unfolding numberOf
@@ -118,6 +145,9 @@ new-move-requires c κs = search (arm-exits, needs)
 enum-known-i-12 : tie.Need-enum-known-i-12
 enum-known-i-12 c = search (arm-exits, needs)
 
+top-requires-10 : tie.Need-top-requires-10
+top-requires-10 c κs = search (arm-exits, needs)
+
 new-default-move-requires : tie.Need-new-default-move-requires
 unfolding numberOf
 new-default-move-requires c κs = search (arm-exits, needs)
@@ -125,11 +155,20 @@ new-default-move-requires c κs = search (arm-exits, needs)
 enum-known-i-13 : tie.Need-enum-known-i-13
 enum-known-i-13 c = search (arm-exits, needs)
 
+top-requires-11 : tie.Need-top-requires-11
+top-requires-11 c κs = search (arm-exits, needs)
+
 get-field-move-requires : tie.Need-get-field-move-requires
 get-field-move-requires c κs = search (arm-exits, needs)
 
 enum-known-i-14 : tie.Need-enum-known-i-14
 enum-known-i-14 c = search (arm-exits, needs)
+
+top-requires-12 : tie.Need-top-requires-12
+top-requires-12 c κs = search (arm-exits, needs)
+
+second-of-requires-3 : tie.Need-second-of-requires-3
+second-of-requires-3 c κs = search (arm-exits, needs)
 
 set-field-move-requires : tie.Need-set-field-move-requires
 set-field-move-requires c κs = search (arm-exits, needs)
@@ -137,11 +176,17 @@ set-field-move-requires c κs = search (arm-exits, needs)
 enum-known-i-15 : tie.Need-enum-known-i-15
 enum-known-i-15 c = search (arm-exits, needs)
 
+top-requires-13 : tie.Need-top-requires-13
+top-requires-13 c κs = search (arm-exits, needs)
+
 test-move-requires : tie.Need-test-move-requires
 test-move-requires c κs = search (arm-exits, needs)
 
 enum-known-i-16 : tie.Need-enum-known-i-16
 enum-known-i-16 c = search (arm-exits, needs)
+
+top-requires-14 : tie.Need-top-requires-14
+top-requires-14 c κs = search (arm-exits, needs)
 
 cast-move-requires : tie.Need-cast-move-requires
 cast-move-requires c κs = search (arm-exits, needs)
@@ -149,17 +194,26 @@ cast-move-requires c κs = search (arm-exits, needs)
 enum-known-i-17 : tie.Need-enum-known-i-17
 enum-known-i-17 c = search (arm-exits, needs)
 
+top-requires-15 : tie.Need-top-requires-15
+top-requires-15 c κs = search (arm-exits, needs)
+
 on-cast-move-requires : tie.Need-on-cast-move-requires
 on-cast-move-requires c κs = search (arm-exits, needs)
 
 enum-known-i-18 : tie.Need-enum-known-i-18
 enum-known-i-18 c = search (arm-exits, needs)
 
+top-requires-16 : tie.Need-top-requires-16
+top-requires-16 c κs = search (arm-exits, needs)
+
 on-cast-fail-move-requires : tie.Need-on-cast-fail-move-requires
 on-cast-fail-move-requires c κs = search (arm-exits, needs)
 
 enum-known-i-19 : tie.Need-enum-known-i-19
 enum-known-i-19 c = search (arm-exits, needs)
+
+top-requires-17 : tie.Need-top-requires-17
+top-requires-17 c κs = search (arm-exits, needs)
 
 new-desc-move-requires : tie.Need-new-desc-move-requires
 unfolding numberOf
@@ -168,6 +222,9 @@ new-desc-move-requires c κs = search (arm-exits, needs)
 enum-known-i-20 : tie.Need-enum-known-i-20
 enum-known-i-20 c = search (arm-exits, needs)
 
+top-requires-18 : tie.Need-top-requires-18
+top-requires-18 c κs = search (arm-exits, needs)
+
 new-default-desc-move-requires : tie.Need-new-default-desc-move-requires
 unfolding numberOf
 new-default-desc-move-requires c κs = search (arm-exits, needs)
@@ -175,11 +232,20 @@ new-default-desc-move-requires c κs = search (arm-exits, needs)
 enum-known-i-21 : tie.Need-enum-known-i-21
 enum-known-i-21 c = search (arm-exits, needs)
 
+top-requires-19 : tie.Need-top-requires-19
+top-requires-19 c κs = search (arm-exits, needs)
+
 get-descriptor-move-requires : tie.Need-get-descriptor-move-requires
 get-descriptor-move-requires c κs = search (arm-exits, needs)
 
 enum-known-i-22 : tie.Need-enum-known-i-22
 enum-known-i-22 c = search (arm-exits, needs)
+
+top-requires-20 : tie.Need-top-requires-20
+top-requires-20 c κs = search (arm-exits, needs)
+
+second-of-requires-4 : tie.Need-second-of-requires-4
+second-of-requires-4 c κs = search (arm-exits, needs)
 
 descriptor-cast-move-requires : tie.Need-descriptor-cast-move-requires
 descriptor-cast-move-requires c κs = search (arm-exits, needs)
@@ -187,11 +253,23 @@ descriptor-cast-move-requires c κs = search (arm-exits, needs)
 enum-known-i-23 : tie.Need-enum-known-i-23
 enum-known-i-23 c = search (arm-exits, needs)
 
+top-requires-21 : tie.Need-top-requires-21
+top-requires-21 c κs = search (arm-exits, needs)
+
+second-of-requires-5 : tie.Need-second-of-requires-5
+second-of-requires-5 c κs = search (arm-exits, needs)
+
 on-descriptor-move-requires : tie.Need-on-descriptor-move-requires
 on-descriptor-move-requires c κs = search (arm-exits, needs)
 
 enum-known-i-24 : tie.Need-enum-known-i-24
 enum-known-i-24 c = search (arm-exits, needs)
+
+top-requires-22 : tie.Need-top-requires-22
+top-requires-22 c κs = search (arm-exits, needs)
+
+second-of-requires-6 : tie.Need-second-of-requires-6
+second-of-requires-6 c κs = search (arm-exits, needs)
 
 on-descriptor-fail-move-requires : tie.Need-on-descriptor-fail-move-requires
 on-descriptor-fail-move-requires c κs = search (arm-exits, needs)
@@ -340,8 +418,6 @@ pub move-of-spec : {M : Type 1} → statement M
 move-of-spec =
     tie.close
     (tie.spec
-    top-requires
-    second-of-requires
     enum-told
     enum-told-2
     enum-told-3
@@ -349,15 +425,19 @@ move-of-spec =
     enum-told-5
     enum-known-i
     enum-known-i-2
+    top-requires
     branch-move-requires
     enum-told-6
     enum-told-7
+    top-requires-2
     drop-move-requires
     enum-known-i-3
     get-move-requires
     enum-known-i-4
+    top-requires-3
     set-move-requires
     enum-known-i-5
+    top-requires-4
     tee-move-requires
     enum-known-i-6
     enum-known-i-7
@@ -366,41 +446,65 @@ move-of-spec =
     enum-known-i-9
     double-requires
     enum-known-i-10
+    top-requires-5
+    second-of-requires
     numeric-move-requires
     enum-told-8
     enum-told-9
+    top-requires-6
     is-null-move-requires
     enum-told-10
+    top-requires-7
+    second-of-requires-2
     eq-move-requires
     enum-told-11
+    top-requires-8
     as-non-null-move-requires
     enum-known-i-11
+    top-requires-9
     new-move-requires
     enum-known-i-12
+    top-requires-10
     new-default-move-requires
     enum-known-i-13
+    top-requires-11
     get-field-move-requires
     enum-known-i-14
+    top-requires-12
+    second-of-requires-3
     set-field-move-requires
     enum-known-i-15
+    top-requires-13
     test-move-requires
     enum-known-i-16
+    top-requires-14
     cast-move-requires
     enum-known-i-17
+    top-requires-15
     on-cast-move-requires
     enum-known-i-18
+    top-requires-16
     on-cast-fail-move-requires
     enum-known-i-19
+    top-requires-17
     new-desc-move-requires
     enum-known-i-20
+    top-requires-18
     new-default-desc-move-requires
     enum-known-i-21
+    top-requires-19
     get-descriptor-move-requires
     enum-known-i-22
+    top-requires-20
+    second-of-requires-4
     descriptor-cast-move-requires
     enum-known-i-23
+    top-requires-21
+    second-of-requires-5
     on-descriptor-move-requires
     enum-known-i-24
+    top-requires-22
+    second-of-requires-6
     on-descriptor-fail-move-requires
     returns
     returns-2
