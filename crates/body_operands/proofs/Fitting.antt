@@ -1,5 +1,5 @@
 -- Each way out of the test of one operand: what the two words say, and whether the one fits the other.
-use Prim.Native.Nat.{ℕ, _-_, _≤_, _<_}
+use Prim.Native.Nat.{ℕ, zero, suc, _-_, _≤_, _<_}
 use mathlib.Core.Path.{_≡_, refl, sym, ap, _∙_}
 use mathlib.Core.Logic.{_⊎_, inl, inr}
 use mathlib.Core.Bool.{Bool, true, false}
@@ -11,6 +11,7 @@ use Rattle.scope.specs.Order.{valBelow}
 use Rattle.scope.specs.BodyRules.{anyValue}
 use Rattle.scope.specs.Bodies.{Operand, known, unknown, unknownReference, isReference, fits}
 use Rattle.scope.proofs.Truths.{decided}
+use Rattle.scope.proofs.Order.{value-below-reflexive}
 use Rattle.type_table.specs.View.{valAtCode}
 use Rattle.type_table.proofs.Codes.{val-number, val-ref}
 use Rattle.body_state.specs.State.{operandAtCode, wantedAtCode}
@@ -36,6 +37,19 @@ any-fits ts unknown = refl
 any-fits ts unknownReference = refl
 
 module _ (ts : Types) (o w : ℕ) where
+  -- whatever a word says, it fits itself
+  pub fits-same : o ≡ w → true ≡ fits ts (operandAtCode o) (wantedAtCode w)
+  unfolding fits operandAtCode wantedAtCode
+  fits-same e = rw (← e) (go o)
+    where
+      go : (c : ℕ) → true ≡ fits ts (operandAtCode c) (wantedAtCode c)
+      go zero = refl
+      go (suc zero) = refl
+      go (suc (suc n)) =
+          let some : suc (suc n) ≡ 0 → ⊥ = λ q. absurd (omega (arith, q)) in
+          let more : suc (suc n) ≡ 1 → ⊥ = λ q. absurd (omega (arith, q)) in
+          rw (known-word some more, value-word some more) (sym (value-below-reflexive ts (valAtCode (suc (suc n) - 2))))
+
   pub fits-unknown : o ≡ 0 → true ≡ fits ts (operandAtCode o) (wantedAtCode w)
   unfolding fits operandAtCode
   fits-unknown e = rw e
@@ -62,4 +76,4 @@ module _ (ts : Types) (o w : ℕ) where
     unfolding fits
     fits-below c d e = rw (known-word a b, value-word c d) e
 
-pub ruleset fit-exits = (fits-unknown, fits-any, fits-reference, fits-by-code, fits-any-reference, fits-below)
+pub ruleset fit-exits = (fits-same, fits-unknown, fits-any, fits-reference, fits-by-code, fits-any-reference, fits-below)

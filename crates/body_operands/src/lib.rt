@@ -39,10 +39,14 @@ pub enum Left {
     Missing,
 }
 
-// "An unknown is below every type": a non-null reference of unknown heap, below every reference type.
+// "An unknown is below every type": a non-null reference of unknown heap, below every reference type. Most operands are of the
+// very type that is wanted, so that is asked first.
 pub fn fits_word(rows: &[u16], codes: &[u16], o: u64, w: u64) -> bool
     ensures { λ r. ⌜ r ≡ fits (view (now (rows .entry)) (now (codes .entry))) (operandAtCode o) (wantedAtCode w) ⌝ }
 {
+    if o == w {
+        return true;
+    }
     if o == UNKNOWN {
         return true;
     }

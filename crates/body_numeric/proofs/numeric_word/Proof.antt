@@ -8,9 +8,6 @@ use Rattle.body_numeric.proofs.Table.{entry-at}
 use Rattle.body_numeric.proofs.numeric_word.Statement.{statement}
 use Rattle.body_numeric.proofs.numeric_word.Tie as tie
 
-mul-result : tie.Need-mul-result
-mul-result c = search needs
-
 array-read-result : tie.Need-array-read-result
 array-read-result c = search needs
 
@@ -19,4 +16,4 @@ unfolding entryOf numericOf
 returns c = entry-at {b = c .args .b} refl (search needs)
 
 pub numeric-word-spec : {M : Type 1} → statement M
-numeric-word-spec = tie.close (tie.spec mul-result array-read-result returns)
+numeric-word-spec = tie.close (tie.spec array-read-result returns)

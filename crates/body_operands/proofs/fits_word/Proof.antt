@@ -19,6 +19,9 @@ returns-4 c = search (fit-exits, needs)
 returns-5 : tie.Need-returns-5
 returns-5 c = search (fit-exits, needs)
 
+returns-6 : tie.Need-returns-6
+returns-6 c = search (fit-exits, needs)
+
 sub-val-below : tie.Need-sub-val-below
 sub-val-below c = search (fit-exits, needs)
 
@@ -28,8 +31,8 @@ sub-val-below-2 c = search (fit-exits, needs)
 val-below-requires : tie.Need-val-below-requires
 val-below-requires c κs = search (fit-exits, needs)
 
-returns-6 : tie.Need-returns-6
-returns-6 c = search (fit-exits, needs)
+returns-7 : tie.Need-returns-7
+returns-7 c = search (fit-exits, needs)
 
 pub fits-word-spec : {M : Type 1} → statement M
 fits-word-spec =
@@ -40,7 +43,8 @@ fits-word-spec =
     returns-3
     returns-4
     returns-5
+    returns-6
     sub-val-below
     sub-val-below-2
     val-below-requires
-    returns-6)
+    returns-7)
