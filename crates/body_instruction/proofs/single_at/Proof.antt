@@ -40,9 +40,6 @@ float64-const-at-requires c κs = search needs
 null-at-requires : tie.Need-null-at-requires
 null-at-requires c κs = search needs
 
-numeric-at-requires : tie.Need-numeric-at-requires
-numeric-at-requires c κs = search needs
-
 returns : tie.Need-returns
 unfolding rows
 returns c = search (single-exits, needs)
@@ -143,7 +140,6 @@ single-at-spec =
     float32-const-at-requires
     float64-const-at-requires
     null-at-requires
-    numeric-at-requires
     returns
     returns-2
     returns-3
