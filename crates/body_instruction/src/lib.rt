@@ -5,16 +5,27 @@ use body_immediates::InstructionRead;
 use number::Byte;
 use number::Natural;
 use scope::refusals;
+ghost use Prim.Native.Nat.{_<_, _^_};
 ghost use mathlib.Core.Path.{_≡_};
-ghost use mathlib.Core.Bool.{false};
 ghost use Rattle.scope.specs.Instructions.{instrAt};
-ghost use Rattle.body_numeric.specs.Entries.{isNumeric};
 ghost use Rattle.body_immediates.specs.Coding.{instructionIs};
-ghost use Rattle.body_instruction.specs.Dispatch.{singleAt, listedAt, prefixedAt, codedAt};
+ghost use Rattle.body_instruction.specs.Dispatch.{numericAt, singleAt, listedAt, prefixedAt};
 
-// What the first byte b at `at` begins, where it is neither FB nor a numeric code; what follows the byte is read at `next`.
+// A numeric code b at `at`, where it is one: a code alone.
+fn numeric_at(at: usize, b: u64, next: usize) -> InstructionRead
+    requires { ⌜ b < 2 ^ 8 ⌝ }
+    ensures { λ r. ⌜ r ≡ instructionIs (numericAt b at next) ⌝ }
+{
+    let code = b as u8;
+    if body_numeric::is_numeric(code) {
+        return InstructionRead::Is(Instruction::Numeric(code), next);
+    }
+    InstructionRead::Refused(refusals::NOT_LISTED, at)
+}
+
+// What the first byte b at `at` begins, where it is not FB; what follows the byte is read at `next`.
 fn single_at(s: &[u8], at: usize, b: u64, next: usize) -> InstructionRead
-    requires { ⌜ isNumeric b ≡ false ⌝ }
+    requires { ⌜ b < 2 ^ 8 ⌝ }
     ensures { λ r. ⌜ r ≡ instructionIs (singleAt b (now (s .entry)) at next) ⌝ }
 {
     match b {
@@ -38,7 +49,7 @@ fn single_at(s: &[u8], at: usize, b: u64, next: usize) -> InstructionRead
         0xD1 => InstructionRead::Is(Instruction::RefIsNull, next),
         0xD3 => InstructionRead::Is(Instruction::RefEq, next),
         0xD4 => InstructionRead::Is(Instruction::RefAsNonNull, next),
-        _ => InstructionRead::Refused(refusals::NOT_LISTED, at),
+        _ => numeric_at(at, b, next),
     }
 }
 
@@ -79,19 +90,6 @@ fn prefixed_at(s: &[u8], at: usize) -> InstructionRead
     }
 }
 
-// What the first byte b at `at` begins, where it is no numeric code; what follows the byte is read at `next`.
-fn other_at(s: &[u8], at: usize, b: u64, next: usize) -> InstructionRead
-    requires { ⌜ isNumeric b ≡ false ⌝ }
-    ensures { λ r. ⌜ r ≡ instructionIs (codedAt b (now (s .entry)) at next) ⌝ }
-{
-    if b == 0xFB {
-        return prefixed_at(s, next);
-    }
-    single_at(s, at, b, next)
-}
-
-// The instruction at `at`. A numeric code, which is a byte alone, comes first: so much is little enough to be put into each
-// caller, and the rest is called.
 pub fn instruction_at(s: &[u8], at: usize) -> InstructionRead
     ensures { λ r. ⌜ r ≡ instructionIs (instrAt (now (s .entry)) at) ⌝ }
 {
@@ -99,10 +97,8 @@ pub fn instruction_at(s: &[u8], at: usize) -> InstructionRead
     let Byte::Is(b) = first else {
         return InstructionRead::Refused(refusals::BYTES_END, at);
     };
-    let next = at + 1;
-    let code = b as u8;
-    if body_numeric::is_numeric(code) {
-        return InstructionRead::Is(Instruction::Numeric(code), next);
+    if b == 0xFB {
+        return prefixed_at(s, at + 1);
     }
-    other_at(s, at, b, next)
+    single_at(s, at, b, at + 1)
 }

@@ -26,15 +26,6 @@ at-number f zero i k d h = absurd (not-suc-le-zero h)
 at-number f (suc n) i zero d h = ap f (sym (add-zero i))
 at-number f (suc n) i (suc k) d h = at-number f n (suc i) k d (le-of-suc-le-suc h) ∙ ap f (suc-add i k ∙ sym (add-suc i k))
 
--- what is the same at all of them is the same at each
-pub each : {A : Type 0} (f g : ℕ → A) (d : A) {n b : ℕ} → numbered f 0 n ≡ numbered g 0 n → b < n → f b ≡ g b
-each {A} f g d {n} {b} e h =
-    ap f (sym (zero-add b))
-    ∙ sym (at-number f n 0 b d h)
-    ∙ ap (λ (l : List A). getD l b d) e
-    ∙ at-number g n 0 b d h
-    ∙ ap g (zero-add b)
-
 -- the fact at each byte, from the test of the whole table
 pub entry-at : {words : List ℕ} {b : ℕ} → words ≡ numbered (λ b. entryOf (numericOf b)) 0 256 → b < 256 → getD words b 0 ≡ entryOf (numericOf b)
 entry-at {words} {b} e h =
@@ -71,7 +62,12 @@ unfolding isNumeric numericOf
 covers-all = refl
 
 covers : {b : ℕ} → b < 256 → coversAt b ≡ isNumeric b
-covers = each coversAt isNumeric false covers-all
+covers {b} h =
+    ap coversAt (sym (zero-add b))
+    ∙ sym (at-number coversAt 256 0 b false h)
+    ∙ ap (λ (l : List Bool). getD l b false) covers-all
+    ∙ at-number isNumeric 256 0 b false h
+    ∙ ap isNumeric (zero-add b)
 
 pub before-first : {b : ℕ} → b < 256 → b < 0x45 → false ≡ isNumeric b
 before-first {b} h l = sym (rw (lt-ltb b 0x45 l)) ∙ covers h

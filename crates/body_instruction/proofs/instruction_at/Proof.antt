@@ -1,35 +1,35 @@
--- `body_instruction::instruction_at` meets its contract.
+-- `body_instruction::instruction_at` meets its contract: FB or any other byte.
 use borrow.Author.Needs.{needs}
 use Rattle.body_instruction.proofs.Codes.{instruction-exits}
 use Rattle.body_instruction.proofs.instruction_at.Statement.{statement}
 use Rattle.body_instruction.proofs.instruction_at.Tie as tie
 
 byte-at-requires : tie.Need-byte-at-requires
-byte-at-requires c κs = search (instruction-exits, needs)
+byte-at-requires c κs = search needs
 
 enum-known-first : tie.Need-enum-known-first
-enum-known-first c = search (instruction-exits, needs)
+enum-known-first c = search needs
 
 enum-told : tie.Need-enum-told
-enum-told c = search (instruction-exits, needs)
+enum-told c = search needs
 
 returns : tie.Need-returns
 returns c = search (instruction-exits, needs)
 
-add-next : tie.Need-add-next
-add-next c = search (instruction-exits, needs)
+add-prefixed-at : tie.Need-add-prefixed-at
+add-prefixed-at c = search (instruction-exits, needs)
 
-cast-code : tie.Need-cast-code
-cast-code c = search (instruction-exits, needs)
-
-is-numeric-requires : tie.Need-is-numeric-requires
-is-numeric-requires c κs = search (instruction-exits, needs)
+prefixed-at-requires : tie.Need-prefixed-at-requires
+prefixed-at-requires c κs = search needs
 
 returns-2 : tie.Need-returns-2
 returns-2 c = search (instruction-exits, needs)
 
-other-at-requires : tie.Need-other-at-requires
-other-at-requires c κs = search (instruction-exits, needs)
+add-single-at : tie.Need-add-single-at
+add-single-at c = search (instruction-exits, needs)
+
+single-at-requires : tie.Need-single-at-requires
+single-at-requires c κs = search (instruction-exits, needs)
 
 returns-3 : tie.Need-returns-3
 returns-3 c = search (instruction-exits, needs)
@@ -42,9 +42,9 @@ instruction-at-spec =
     enum-known-first
     enum-told
     returns
-    add-next
-    cast-code
-    is-numeric-requires
+    add-prefixed-at
+    prefixed-at-requires
     returns-2
-    other-at-requires
+    add-single-at
+    single-at-requires
     returns-3)

@@ -40,6 +40,9 @@ float64-const-at-requires c κs = search needs
 null-at-requires : tie.Need-null-at-requires
 null-at-requires c κs = search needs
 
+numeric-at-requires : tie.Need-numeric-at-requires
+numeric-at-requires c κs = search needs
+
 returns : tie.Need-returns
 unfolding rows
 returns c = search (single-exits, needs)
@@ -140,6 +143,7 @@ single-at-spec =
     float32-const-at-requires
     float64-const-at-requires
     null-at-requires
+    numeric-at-requires
     returns
     returns-2
     returns-3
