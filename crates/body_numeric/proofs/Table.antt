@@ -1,20 +1,17 @@
 -- The table's rule. One test of the whole table, that it is what the ranges say of each byte from 0 to 255, is computed where
 -- the code reads the table; entry-at turns it into the fact at each byte.
-use Prim.Native.Nat.{ℕ, zero, suc, _+_, _*_, _/_, _%_, _≤_, _<_}
+use Prim.Native.Nat.{ℕ, zero, suc, _+_, _*_, _/_, _%_, _<_}
 use native.Mathlib.Nat.{le-of-suc-le-suc, not-suc-le-zero, zero-add, add-suc, suc-add, add-zero}
 use native.Mathlib.Omega.{arith}
-use mathlib.Core.Path.{_≡_, refl, sym, ap, _∙_}
-use mathlib.Core.Bool.{Bool, false, cond}
+use mathlib.Core.Path.{_≡_, sym, ap, _∙_}
 use mathlib.Core.Option.{Option, none, some}
 use mathlib.Core.List.{List, [], _∷_}
 use lib.ListN.{getD}
-use lib.Dec.{ltb, leb}
-use borrow.Author.Tests.{lt-ltb, le-ltb}
 use Rattle.scope.specs.Syntax.{Number, i32, i64, f32, f64}
 use Rattle.scope.specs.Order.{numberCode}
 use Rattle.scope.specs.Numeric.{Numeric, numericOf}
 use Rattle.body_numeric.specs.declared.NumericRow.{NumericRow}
-use Rattle.body_numeric.specs.Entries.{entryOf, coded, isNumeric}
+use Rattle.body_numeric.specs.Entries.{entryOf, coded}
 
 -- what f gives at so many numbers from i on
 abbrev pub numbered : {A : Type 0} → (ℕ → A) → ℕ → ℕ → List A
@@ -33,7 +30,7 @@ entry-at {words} {b} e h =
     ∙ at-number (λ b. entryOf (numericOf b)) 256 0 b 0 h
     ∙ ap (λ (x : ℕ). entryOf (numericOf x)) (zero-add b)
 
--- an entry's pairs of digits
+-- an entry's parts
 digits : (o k r : ℕ) → k < 4 → r < 4 → ((16 * o + 4 * k + r) / 16 ≡ o) × ((16 * o + 4 * k + r) / 4 % 4 ≡ k) × ((16 * o + 4 * k + r) % 4 ≡ r)
 digits o k r h l = (omega arith, omega arith, omega arith)
 
@@ -51,28 +48,3 @@ taken-apart (some x) e =
     rw (e, d .0, d .1, d .2)
 
 pub ruleset apart = (taken-apart)
-
--- Which bytes are numeric codes: one test of all 256, as for the table.
-
-abbrev pub coversAt : ℕ → Bool
-coversAt b = cond (ltb b 0x45) false (leb b 0xC4)
-
-covers-all : numbered coversAt 0 256 ≡ numbered isNumeric 0 256
-unfolding isNumeric numericOf
-covers-all = refl
-
-covers : {b : ℕ} → b < 256 → coversAt b ≡ isNumeric b
-covers {b} h =
-    ap coversAt (sym (zero-add b))
-    ∙ sym (at-number coversAt 256 0 b false h)
-    ∙ ap (λ (l : List Bool). getD l b false) covers-all
-    ∙ at-number isNumeric 256 0 b false h
-    ∙ ap isNumeric (zero-add b)
-
-pub before-first : {b : ℕ} → b < 256 → b < 0x45 → false ≡ isNumeric b
-before-first {b} h l = sym (rw (lt-ltb b 0x45 l)) ∙ covers h
-
-pub from-first : {b : ℕ} → b < 256 → 0x45 ≤ b → leb b 0xC4 ≡ isNumeric b
-from-first {b} h l = sym (rw (le-ltb b 0x45 l)) ∙ covers h
-
-pub ruleset covered = (before-first, from-first)

@@ -8,12 +8,12 @@ use Rattle.body_numeric.proofs.Table.{entry-at}
 use Rattle.body_numeric.proofs.numeric_word.Statement.{statement}
 use Rattle.body_numeric.proofs.numeric_word.Tie as tie
 
-array-read-result : tie.Need-array-read-result
-array-read-result c = search needs
+element-copy-out-result : tie.Need-element-copy-out-result
+element-copy-out-result c = search needs
 
 returns : tie.Need-returns
 unfolding entryOf numericOf
-returns c = entry-at {b = c .args .b} refl (search needs)
+returns c = entry-at {b = c .before .before .args .b} refl (search needs)
 
 pub numeric-word-spec : {M : Type 1} → statement M
-numeric-word-spec = tie.close (tie.spec array-read-result returns)
+numeric-word-spec = tie.close (tie.spec element-copy-out-result returns)
