@@ -2,6 +2,8 @@
 -- of that row is the one for its kind of immediates; a code that is none of the rows' is not listed.
 use Prim.Native.Nat.{ℕ, _+_, _^_, _<_}
 use mathlib.Core.Path.{_≡_, refl, sym, ap, _∙_}
+use mathlib.Core.Bool.{Bool, true, false, not, false≢true}
+use mathlib.Core.Option.{Option, none, some}
 use mathlib.Core.List.{List}
 use lib.ListN.{length, getElem?}
 use borrow.Author.Tests.{eq-eqb, ne-eqb}
@@ -16,10 +18,9 @@ use Rattle.number.specs.declared.Natural
 use Rattle.number.specs.Answers.{ByteAt, naturalIs}
 use Rattle.number.proofs.Bits.{byte-got, byte-none, next-fits}
 use Rattle.number.proofs.Laws.{natural-got, natural-refused}
-use Rattle.scope.specs.Numeric.{numericOf}
-use Rattle.body_numeric.specs.declared.NumericRow.{NumericRow}
-use Rattle.body_numeric.specs.Entries.{coded}
-use Rattle.body_numeric.proofs.Laws.{no-code, a-code}
+use Rattle.scope.specs.Lists.{isNone}
+use Rattle.scope.specs.Numeric.{Numeric, numericOf}
+use Rattle.body_numeric.specs.Entries.{isNumeric}
 use Rattle.body_immediates.specs.declared.Instruction.{Instruction}
 use Rattle.body_immediates.specs.declared.Instruction
 use Rattle.body_immediates.specs.declared.InstructionRead.{InstructionRead}
@@ -36,14 +37,27 @@ rows = 0
 
 -- numeric_at
 
-module _ (b at next : ℕ) {row : NumericRow} (a : row ≡ coded (numericOf b)) where
-  pub numeric-unlisted : row .operands ≡ 0 → InstructionRead.the-variants.Refused notListed at ≡ instructionIs (numericAt b at next)
-  unfolding numericAt
-  numeric-unlisted e = rw (no-code b a e)
+module _ (b at next : ℕ) {listed : Bool} (a : listed ≡ isNumeric b) where
+  -- by what the ranges say of the byte
+  asked : (o : Option Numeric) → numericOf b ≡ o → listed ≡ not (isNone o)
+  unfolding isNumeric
+  asked o e = rw e at a
 
-  pub numeric-listed : (row .operands ≡ 0 → ⊥) → InstructionRead.the-variants.Is (Instruction.the-variants.Numeric b) next ≡ instructionIs (numericAt b at next)
+  pub numeric-unlisted : listed ≡ false → InstructionRead.the-variants.Refused notListed at ≡ instructionIs (numericAt b at next)
+  unfolding numericAt
+  numeric-unlisted f = go (numericOf b) refl
+    where
+      go : (o : Option Numeric) → numericOf b ≡ o → InstructionRead.the-variants.Refused notListed at ≡ instructionIs (numericAt b at next)
+      go none e = rw e
+      go (some kinds) e = absurd (false≢true (sym f ∙ asked (some kinds) e))
+
+  pub numeric-listed : listed ≡ true → InstructionRead.the-variants.Is (Instruction.the-variants.Numeric b) next ≡ instructionIs (numericAt b at next)
   unfolding numericAt instructionOf operationOf
-  numeric-listed n = let (kinds, is, row-is) = a-code b a n in rw is
+  numeric-listed t = go (numericOf b) refl
+    where
+      go : (o : Option Numeric) → numericOf b ≡ o → InstructionRead.the-variants.Is (Instruction.the-variants.Numeric b) next ≡ instructionIs (numericAt b at next)
+      go none e = absurd (false≢true (sym (asked none e) ∙ t))
+      go (some kinds) e = rw e
 
 pub ruleset numeric-exits = (numeric-unlisted, numeric-listed)
 

@@ -1,5 +1,5 @@
 // Reading one instruction: its code, then what follows it. The first byte decides; after FB, a u32 does. Which bytes are
-// numeric codes the table of body_numeric knows.
+// numeric codes body_numeric knows.
 use body_immediates::Instruction;
 use body_immediates::InstructionRead;
 use number::Byte;
@@ -11,18 +11,16 @@ ghost use Rattle.scope.specs.Instructions.{instrAt};
 ghost use Rattle.body_immediates.specs.Coding.{instructionIs};
 ghost use Rattle.body_instruction.specs.Dispatch.{numericAt, singleAt, listedAt, prefixedAt};
 
-// A numeric code b at `at`, where the table has it: a code alone.
+// A numeric code b at `at`, where it is one: a code alone.
 fn numeric_at(at: usize, b: u64, next: usize) -> InstructionRead
     requires { ⌜ b < 2 ^ 8 ⌝ }
     ensures { λ r. ⌜ r ≡ instructionIs (numericAt b at next) ⌝ }
 {
     let code = b as u8;
-    let row = body_numeric::numeric_row(code);
-    let operands = row.operands;
-    if operands == 0 {
-        return InstructionRead::Refused(refusals::NOT_LISTED, at);
+    if body_numeric::is_numeric(code) {
+        return InstructionRead::Is(Instruction::Numeric(code), next);
     }
-    InstructionRead::Is(Instruction::Numeric(code), next)
+    InstructionRead::Refused(refusals::NOT_LISTED, at)
 }
 
 // What the first byte b at `at` begins, where it is not FB; what follows the byte is read at `next`.

@@ -1,17 +1,20 @@
--- The table's rule. The test of the whole table, that it is what the ranges say of each byte from 0 to 255, is computed row by row
--- where the code reads the table; row-at turns it into the fact at each byte.
+-- The table's rule. One test of the whole table, that it is what the ranges say of each byte from 0 to 255, is computed where
+-- the code reads the table; entry-at turns it into the fact at each byte.
 use Prim.Native.Nat.{ℕ, zero, suc, _+_, _*_, _/_, _%_, _≤_, _<_}
-use native.Mathlib.Nat.{le-of-suc-le-suc, not-suc-le-zero, add-suc, suc-add, add-zero}
+use native.Mathlib.Nat.{le-of-suc-le-suc, not-suc-le-zero, zero-add, add-suc, suc-add, add-zero}
 use native.Mathlib.Omega.{arith}
-use mathlib.Core.Path.{_≡_, sym, ap, _∙_}
+use mathlib.Core.Path.{_≡_, refl, sym, ap, _∙_}
+use mathlib.Core.Bool.{Bool, false, cond}
 use mathlib.Core.Option.{Option, none, some}
 use mathlib.Core.List.{List, [], _∷_}
 use lib.ListN.{getD}
+use lib.Dec.{ltb, leb}
+use borrow.Author.Tests.{lt-ltb, le-ltb}
 use Rattle.scope.specs.Syntax.{Number, i32, i64, f32, f64}
 use Rattle.scope.specs.Order.{numberCode}
 use Rattle.scope.specs.Numeric.{Numeric, numericOf}
 use Rattle.body_numeric.specs.declared.NumericRow.{NumericRow}
-use Rattle.body_numeric.specs.Entries.{entryOf, coded}
+use Rattle.body_numeric.specs.Entries.{entryOf, coded, isNumeric}
 
 -- what f gives at so many numbers from i on
 abbrev pub numbered : {A : Type 0} → (ℕ → A) → ℕ → ℕ → List A
@@ -23,26 +26,14 @@ at-number f zero i k d h = absurd (not-suc-le-zero h)
 at-number f (suc n) i zero d h = ap f (sym (add-zero i))
 at-number f (suc n) i (suc k) d h = at-number f n (suc i) k d (le-of-suc-le-suc h) ∙ ap f (suc-add i k ∙ sym (add-suc i k))
 
--- the fact at each byte, from the test of its row
-pub row-at : (h b : ℕ) {words : List ℕ} → words ≡ numbered (λ b. entryOf (numericOf b)) (16 * h) 16 → b / 16 ≡ h → getD words (b % 16) 0 ≡ entryOf (numericOf b)
-row-at h b {words} e q =
-    let small : b % 16 < 16 = omega arith in
-    let whole : 16 * h + b % 16 ≡ b = omega (arith, q) in
-    ap (λ (l : List ℕ). getD l (b % 16) 0) e
-    ∙ at-number (λ b. entryOf (numericOf b)) 16 (16 * h) (b % 16) 0 small
-    ∙ ap (λ (x : ℕ). entryOf (numericOf x)) whole
+-- the fact at each byte, from the test of the whole table
+pub entry-at : {words : List ℕ} {b : ℕ} → words ≡ numbered (λ b. entryOf (numericOf b)) 0 256 → b < 256 → getD words b 0 ≡ entryOf (numericOf b)
+entry-at {words} {b} e h =
+    ap (λ (l : List ℕ). getD l b 0) e
+    ∙ at-number (λ b. entryOf (numericOf b)) 256 0 b 0 h
+    ∙ ap (λ (x : ℕ). entryOf (numericOf x)) (zero-add b)
 
--- the last row, where it is none of the others
-
-above : {n q : ℕ} → n ≤ q → (q ≡ n → ⊥) → n + 1 ≤ q
-above h e = omega (arith, h, e)
-
-pub last-row : (b : ℕ) → b < 256 → (b / 16 ≡ 0 → ⊥) → (b / 16 ≡ 1 → ⊥) → (b / 16 ≡ 2 → ⊥) → (b / 16 ≡ 3 → ⊥) → (b / 16 ≡ 4 → ⊥) → (b / 16 ≡ 5 → ⊥) → (b / 16 ≡ 6 → ⊥) → (b / 16 ≡ 7 → ⊥) → (b / 16 ≡ 8 → ⊥) → (b / 16 ≡ 9 → ⊥) → (b / 16 ≡ 10 → ⊥) → (b / 16 ≡ 11 → ⊥) → (b / 16 ≡ 12 → ⊥) → (b / 16 ≡ 13 → ⊥) → (b / 16 ≡ 14 → ⊥) → b / 16 ≡ 15
-last-row b h e0 e1 e2 e3 e4 e5 e6 e7 e8 e9 e10 e11 e12 e13 e14 =
-    let least : 15 ≤ b / 16 = above (above (above (above (above (above (above (above (above (above (above (above (above (above (above (omega arith) e0) e1) e2) e3) e4) e5) e6) e7) e8) e9) e10) e11) e12) e13) e14 in
-    omega (arith, least)
-
--- an entry's parts
+-- an entry's pairs of digits
 digits : (o k r : ℕ) → k < 4 → r < 4 → ((16 * o + 4 * k + r) / 16 ≡ o) × ((16 * o + 4 * k + r) / 4 % 4 ≡ k) × ((16 * o + 4 * k + r) % 4 ≡ r)
 digits o k r h l = (omega arith, omega arith, omega arith)
 
@@ -60,3 +51,28 @@ taken-apart (some x) e =
     rw (e, d .0, d .1, d .2)
 
 pub ruleset apart = (taken-apart)
+
+-- Which bytes are numeric codes: one test of all 256, as for the table.
+
+abbrev pub coversAt : ℕ → Bool
+coversAt b = cond (ltb b 0x45) false (leb b 0xC4)
+
+covers-all : numbered coversAt 0 256 ≡ numbered isNumeric 0 256
+unfolding isNumeric numericOf
+covers-all = refl
+
+covers : {b : ℕ} → b < 256 → coversAt b ≡ isNumeric b
+covers {b} h =
+    ap coversAt (sym (zero-add b))
+    ∙ sym (at-number coversAt 256 0 b false h)
+    ∙ ap (λ (l : List Bool). getD l b false) covers-all
+    ∙ at-number isNumeric 256 0 b false h
+    ∙ ap isNumeric (zero-add b)
+
+pub before-first : {b : ℕ} → b < 256 → b < 0x45 → false ≡ isNumeric b
+before-first {b} h l = sym (rw (lt-ltb b 0x45 l)) ∙ covers h
+
+pub from-first : {b : ℕ} → b < 256 → 0x45 ≤ b → leb b 0xC4 ≡ isNumeric b
+from-first {b} h l = sym (rw (le-ltb b 0x45 l)) ∙ covers h
+
+pub ruleset covered = (before-first, from-first)

@@ -2,7 +2,7 @@
 // of 256 entries; its rule, the core standard's ranges in scope's specs/Numeric.antt, is proved once over the whole.
 ghost use mathlib.Core.Path.{_≡_};
 ghost use Rattle.scope.specs.Numeric.{numericOf};
-ghost use Rattle.body_numeric.specs.Entries.{entryOf, coded};
+ghost use Rattle.body_numeric.specs.Entries.{entryOf, coded, isNumeric};
 
 // What a first byte says: how many operands, and the codes of their type and of the result's type; no operands where the
 // byte is no numeric code.
@@ -12,89 +12,304 @@ pub struct NumericRow {
     pub result: u64,
 }
 
-// The entry of a first byte. The table has one for each, a row for each first digit. An entry's first hexadecimal digit says how
-// many operands, its second is four times the code of their type and the code of the result's type (0 i32, 1 i64, 2 f32, 3 f64):
-// \x14 takes one i64 and gives an i32, \x2F takes two f64 and gives an f64; 00 is no numeric code. The rows are apart, since the
-// compiler lays a constant out anew wherever it is read.
+// One entry for each first byte, by its pairs of binary digits: how many operands, the code of their type, the code of the
+// result's type (00 i32, 01 i64, 10 f32, 11 f64); 0 where the byte is no numeric code. Of single bytes, since the compiler lays
+// the table out anew wherever it is read.
+const NUMERIC: [u8; 256] = [
+    // 00 to 44: no numeric code
+    0,
+    0,
+    0,
+    0,
+    0,
+    0,
+    0,
+    0,
+    0,
+    0,
+    0,
+    0,
+    0,
+    0,
+    0,
+    0,
+    0,
+    0,
+    0,
+    0,
+    0,
+    0,
+    0,
+    0,
+    0,
+    0,
+    0,
+    0,
+    0,
+    0,
+    0,
+    0,
+    0,
+    0,
+    0,
+    0,
+    0,
+    0,
+    0,
+    0,
+    0,
+    0,
+    0,
+    0,
+    0,
+    0,
+    0,
+    0,
+    0,
+    0,
+    0,
+    0,
+    0,
+    0,
+    0,
+    0,
+    0,
+    0,
+    0,
+    0,
+    0,
+    0,
+    0,
+    0,
+    0,
+    0,
+    0,
+    0,
+    0,
+    // eqz and the comparisons of i32
+    0b01_00_00, // 45 i32.eqz
+    0b10_00_00, // 46 i32.eq
+    0b10_00_00, // 47 i32.ne
+    0b10_00_00, // 48 i32.lt_s
+    0b10_00_00, // 49 i32.lt_u
+    0b10_00_00, // 4A i32.gt_s
+    0b10_00_00, // 4B i32.gt_u
+    0b10_00_00, // 4C i32.le_s
+    0b10_00_00, // 4D i32.le_u
+    0b10_00_00, // 4E i32.ge_s
+    0b10_00_00, // 4F i32.ge_u
+    // of i64
+    0b01_01_00, // 50 i64.eqz
+    0b10_01_00, // 51 i64.eq
+    0b10_01_00, // 52 i64.ne
+    0b10_01_00, // 53 i64.lt_s
+    0b10_01_00, // 54 i64.lt_u
+    0b10_01_00, // 55 i64.gt_s
+    0b10_01_00, // 56 i64.gt_u
+    0b10_01_00, // 57 i64.le_s
+    0b10_01_00, // 58 i64.le_u
+    0b10_01_00, // 59 i64.ge_s
+    0b10_01_00, // 5A i64.ge_u
+    // of f32
+    0b10_10_00, // 5B f32.eq
+    0b10_10_00, // 5C f32.ne
+    0b10_10_00, // 5D f32.lt
+    0b10_10_00, // 5E f32.gt
+    0b10_10_00, // 5F f32.le
+    0b10_10_00, // 60 f32.ge
+    // of f64
+    0b10_11_00, // 61 f64.eq
+    0b10_11_00, // 62 f64.ne
+    0b10_11_00, // 63 f64.lt
+    0b10_11_00, // 64 f64.gt
+    0b10_11_00, // 65 f64.le
+    0b10_11_00, // 66 f64.ge
+    // i32 to i32
+    0b01_00_00, // 67 i32.clz
+    0b01_00_00, // 68 i32.ctz
+    0b01_00_00, // 69 i32.popcnt
+    0b10_00_00, // 6A i32.add
+    0b10_00_00, // 6B i32.sub
+    0b10_00_00, // 6C i32.mul
+    0b10_00_00, // 6D i32.div_s
+    0b10_00_00, // 6E i32.div_u
+    0b10_00_00, // 6F i32.rem_s
+    0b10_00_00, // 70 i32.rem_u
+    0b10_00_00, // 71 i32.and
+    0b10_00_00, // 72 i32.or
+    0b10_00_00, // 73 i32.xor
+    0b10_00_00, // 74 i32.shl
+    0b10_00_00, // 75 i32.shr_s
+    0b10_00_00, // 76 i32.shr_u
+    0b10_00_00, // 77 i32.rotl
+    0b10_00_00, // 78 i32.rotr
+    // i64 to i64
+    0b01_01_01, // 79 i64.clz
+    0b01_01_01, // 7A i64.ctz
+    0b01_01_01, // 7B i64.popcnt
+    0b10_01_01, // 7C i64.add
+    0b10_01_01, // 7D i64.sub
+    0b10_01_01, // 7E i64.mul
+    0b10_01_01, // 7F i64.div_s
+    0b10_01_01, // 80 i64.div_u
+    0b10_01_01, // 81 i64.rem_s
+    0b10_01_01, // 82 i64.rem_u
+    0b10_01_01, // 83 i64.and
+    0b10_01_01, // 84 i64.or
+    0b10_01_01, // 85 i64.xor
+    0b10_01_01, // 86 i64.shl
+    0b10_01_01, // 87 i64.shr_s
+    0b10_01_01, // 88 i64.shr_u
+    0b10_01_01, // 89 i64.rotl
+    0b10_01_01, // 8A i64.rotr
+    // f32 to f32
+    0b01_10_10, // 8B f32.abs
+    0b01_10_10, // 8C f32.neg
+    0b01_10_10, // 8D f32.ceil
+    0b01_10_10, // 8E f32.floor
+    0b01_10_10, // 8F f32.trunc
+    0b01_10_10, // 90 f32.nearest
+    0b01_10_10, // 91 f32.sqrt
+    0b10_10_10, // 92 f32.add
+    0b10_10_10, // 93 f32.sub
+    0b10_10_10, // 94 f32.mul
+    0b10_10_10, // 95 f32.div
+    0b10_10_10, // 96 f32.min
+    0b10_10_10, // 97 f32.max
+    0b10_10_10, // 98 f32.copysign
+    // f64 to f64
+    0b01_11_11, // 99 f64.abs
+    0b01_11_11, // 9A f64.neg
+    0b01_11_11, // 9B f64.ceil
+    0b01_11_11, // 9C f64.floor
+    0b01_11_11, // 9D f64.trunc
+    0b01_11_11, // 9E f64.nearest
+    0b01_11_11, // 9F f64.sqrt
+    0b10_11_11, // A0 f64.add
+    0b10_11_11, // A1 f64.sub
+    0b10_11_11, // A2 f64.mul
+    0b10_11_11, // A3 f64.div
+    0b10_11_11, // A4 f64.min
+    0b10_11_11, // A5 f64.max
+    0b10_11_11, // A6 f64.copysign
+    // to i32
+    0b01_01_00, // A7 i32.wrap_i64
+    0b01_10_00, // A8 i32.trunc_f32_s
+    0b01_10_00, // A9 i32.trunc_f32_u
+    0b01_11_00, // AA i32.trunc_f64_s
+    0b01_11_00, // AB i32.trunc_f64_u
+    // to i64
+    0b01_00_01, // AC i64.extend_i32_s
+    0b01_00_01, // AD i64.extend_i32_u
+    0b01_10_01, // AE i64.trunc_f32_s
+    0b01_10_01, // AF i64.trunc_f32_u
+    0b01_11_01, // B0 i64.trunc_f64_s
+    0b01_11_01, // B1 i64.trunc_f64_u
+    // to f32
+    0b01_00_10, // B2 f32.convert_i32_s
+    0b01_00_10, // B3 f32.convert_i32_u
+    0b01_01_10, // B4 f32.convert_i64_s
+    0b01_01_10, // B5 f32.convert_i64_u
+    0b01_11_10, // B6 f32.demote_f64
+    // to f64
+    0b01_00_11, // B7 f64.convert_i32_s
+    0b01_00_11, // B8 f64.convert_i32_u
+    0b01_01_11, // B9 f64.convert_i64_s
+    0b01_01_11, // BA f64.convert_i64_u
+    0b01_10_11, // BB f64.promote_f32
+    // the same bits read as another kind
+    0b01_10_00, // BC i32.reinterpret_f32
+    0b01_11_01, // BD i64.reinterpret_f64
+    0b01_00_10, // BE f32.reinterpret_i32
+    0b01_01_11, // BF f64.reinterpret_i64
+    // the low bits with their sign
+    0b01_00_00, // C0 i32.extend8_s
+    0b01_00_00, // C1 i32.extend16_s
+    0b01_01_01, // C2 i64.extend8_s
+    0b01_01_01, // C3 i64.extend16_s
+    0b01_01_01, // C4 i64.extend32_s
+    // C5 to FF: no numeric code
+    0,
+    0,
+    0,
+    0,
+    0,
+    0,
+    0,
+    0,
+    0,
+    0,
+    0,
+    0,
+    0,
+    0,
+    0,
+    0,
+    0,
+    0,
+    0,
+    0,
+    0,
+    0,
+    0,
+    0,
+    0,
+    0,
+    0,
+    0,
+    0,
+    0,
+    0,
+    0,
+    0,
+    0,
+    0,
+    0,
+    0,
+    0,
+    0,
+    0,
+    0,
+    0,
+    0,
+    0,
+    0,
+    0,
+    0,
+    0,
+    0,
+    0,
+    0,
+    0,
+    0,
+    0,
+    0,
+    0,
+    0,
+    0,
+    0,
+];
+
 fn numeric_word(b: u8) -> u8
     ensures { λ r. ⌜ r ≡ entryOf (numericOf b) ⌝ }
 {
-    let k = (b % 16) as usize;
-    match b / 16 {
-        0x0 => {
-            let row = b"\x00\x00\x00\x00\x00\x00\x00\x00\x00\x00\x00\x00\x00\x00\x00\x00";
-            row[k]
-        }
-        0x1 => {
-            let row = b"\x00\x00\x00\x00\x00\x00\x00\x00\x00\x00\x00\x00\x00\x00\x00\x00";
-            row[k]
-        }
-        0x2 => {
-            let row = b"\x00\x00\x00\x00\x00\x00\x00\x00\x00\x00\x00\x00\x00\x00\x00\x00";
-            row[k]
-        }
-        0x3 => {
-            let row = b"\x00\x00\x00\x00\x00\x00\x00\x00\x00\x00\x00\x00\x00\x00\x00\x00";
-            row[k]
-        }
-        // 45 i32.eqz, 46 to 4F the comparisons of i32
-        0x4 => {
-            let row = b"\x00\x00\x00\x00\x00\x10\x20\x20\x20\x20\x20\x20\x20\x20\x20\x20";
-            row[k]
-        }
-        // 50 i64.eqz, 51 to 5A the comparisons of i64, 5B to 60 of f32
-        0x5 => {
-            let row = b"\x14\x24\x24\x24\x24\x24\x24\x24\x24\x24\x24\x28\x28\x28\x28\x28";
-            row[k]
-        }
-        // 61 to 66 the comparisons of f64, 67 to 69 clz to popcnt of i32, 6A add and on of i32
-        0x6 => {
-            let row = b"\x28\x2C\x2C\x2C\x2C\x2C\x2C\x10\x10\x10\x20\x20\x20\x20\x20\x20";
-            row[k]
-        }
-        // to 78 rotr of i32, 79 to 7B clz to popcnt of i64, 7C add and on of i64
-        0x7 => {
-            let row = b"\x20\x20\x20\x20\x20\x20\x20\x20\x20\x15\x15\x15\x25\x25\x25\x25";
-            row[k]
-        }
-        // to 8A rotr of i64, 8B abs and on of f32
-        0x8 => {
-            let row = b"\x25\x25\x25\x25\x25\x25\x25\x25\x25\x25\x25\x1A\x1A\x1A\x1A\x1A";
-            row[k]
-        }
-        // to 91 sqrt of f32, 92 to 98 add to copysign of f32, 99 to 9F abs to sqrt of f64
-        0x9 => {
-            let row = b"\x1A\x1A\x2A\x2A\x2A\x2A\x2A\x2A\x2A\x1F\x1F\x1F\x1F\x1F\x1F\x1F";
-            row[k]
-        }
-        // A0 to A6 add to copysign of f64, A7 i32.wrap_i64, A8 to AB truncations to i32, AC and AD extensions, AE on truncations to i64
-        0xA => {
-            let row = b"\x2F\x2F\x2F\x2F\x2F\x2F\x2F\x14\x18\x18\x1C\x1C\x11\x11\x19\x19";
-            row[k]
-        }
-        // to B1, B2 to B6 conversions to f32, B7 to BB to f64, BC to BF reinterpretations
-        0xB => {
-            let row = b"\x1D\x1D\x12\x12\x16\x16\x1E\x13\x13\x17\x17\x1B\x18\x1D\x12\x17";
-            row[k]
-        }
-        // C0 to C4 sign extensions: the last
-        0xC => {
-            let row = b"\x10\x10\x15\x15\x15\x00\x00\x00\x00\x00\x00\x00\x00\x00\x00\x00";
-            row[k]
-        }
-        0xD => {
-            let row = b"\x00\x00\x00\x00\x00\x00\x00\x00\x00\x00\x00\x00\x00\x00\x00\x00";
-            row[k]
-        }
-        0xE => {
-            let row = b"\x00\x00\x00\x00\x00\x00\x00\x00\x00\x00\x00\x00\x00\x00\x00\x00";
-            row[k]
-        }
-        _ => {
-            let row = b"\x00\x00\x00\x00\x00\x00\x00\x00\x00\x00\x00\x00\x00\x00\x00\x00";
-            row[k]
-        }
+    let k = b as usize;
+    NUMERIC[k]
+}
+
+// The first and the last numeric code.
+const FIRST: u8 = 0x45;
+
+const LAST: u8 = 0xC4;
+
+// Whether a first byte is a numeric code: "45 to C4". The table has an entry for no other.
+pub fn is_numeric(b: u8) -> bool
+    ensures { λ r. ⌜ r ≡ isNumeric b ⌝ }
+{
+    if b < FIRST {
+        return false;
     }
+    b <= LAST
 }
 
 // What a first byte says of a numeric instruction.

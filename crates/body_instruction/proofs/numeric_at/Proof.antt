@@ -1,15 +1,14 @@
--- `body_instruction::numeric_at` meets its contract: a row of the table with operands, or none.
+-- `body_instruction::numeric_at` meets its contract.
 use borrow.Author.Needs.{needs}
 use Rattle.body_instruction.proofs.Codes.{numeric-exits}
 use Rattle.body_instruction.proofs.numeric_at.Statement.{statement}
 use Rattle.body_instruction.proofs.numeric_at.Tie as tie
-use Rattle.body_numeric.proofs.numeric_row.Reads as numeric-row-reads
 
 cast-code : tie.Need-cast-code
 cast-code c = search needs
 
-numeric-row-requires : tie.Need-numeric-row-requires
-numeric-row-requires c κs = search needs
+is-numeric-requires : tie.Need-is-numeric-requires
+is-numeric-requires c κs = search needs
 
 returns : tie.Need-returns
 returns c = search (numeric-exits, needs)
@@ -18,4 +17,4 @@ returns-2 : tie.Need-returns-2
 returns-2 c = search (numeric-exits, needs)
 
 pub numeric-at-spec : {M : Type 1} → statement M
-numeric-at-spec = tie.close (tie.spec cast-code numeric-row-requires returns returns-2)
+numeric-at-spec = tie.close (tie.spec cast-code is-numeric-requires returns returns-2)
