@@ -50,7 +50,7 @@ fn judge_typed(
                         first: second,
                         results: m,
                     };
-                    let ended = body_loop::judge_from(rows, codes, work, scene, s, next);
+                    let ended = body_instructions::judge_all(rows, codes, work, scene, s, next);
                     finish(s, ended)
                 }
             }

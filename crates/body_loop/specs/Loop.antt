@@ -7,6 +7,7 @@ use lib.ListN.{length}
 use Rattle.scope.specs.Sizes.{mostBytes, mostTypes}
 use Rattle.scope.specs.Reading.{Read, got, refused}
 use Rattle.scope.specs.Bodies.{Code, judgeFrom}
+use Rattle.body_numeric.specs.Entries.{Tabled}
 use Rattle.body_state.specs.declared.Check.{Check}
 use Rattle.body_state.specs.declared.Scene.{Scene}
 use Rattle.body_state.specs.State.{contextAt, stateAt, Upright, Stamped}
@@ -23,6 +24,11 @@ pub record Begun (work : List ℕ) (k : Scene) (s : List ℕ) (at : ℕ) : Type 
   pub few : k .types ≤ mostTypes
   pub inside : at ≤ length s
   pub short : length s ≤ mostBytes
+
+-- with the table of numeric codes at hand
+pub record Ready (table work : List ℕ) (k : Scene) (s : List ℕ) (at : ℕ) : Type 0 where
+  pub tabled : Tabled table
+  pub begun : Begun work k s at
 
 -- so many instructions before, and those that were read
 abbrev pub endedIs : ℕ → Read Code → Ended

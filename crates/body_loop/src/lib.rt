@@ -4,7 +4,7 @@ use body_state::Check;
 use body_state::Scene;
 use body_state::Step;
 use scope::refusals;
-ghost use Rattle.body_loop.specs.Loop.{Begun, JudgedFrom};
+ghost use Rattle.body_loop.specs.Loop.{Ready, JudgedFrom};
 
 // How many instructions there are, and the place after the last `end`; or a refusal's number and place.
 pub enum Ended {
@@ -16,12 +16,13 @@ pub enum Ended {
 pub fn judge_from(
     rows: &[u16],
     codes: &[u16],
+    table: &[u8],
     work: &mut [u32],
     scene: Scene,
     s: &[u8],
     at: usize,
 ) -> Ended
-    requires { ⌜ Begun (now work) scene (now s) at ⌝ }
+    requires { ⌜ Ready (now table) (now work) scene (now s) at ⌝ }
     ensures { λ r. ⌜ JudgedFrom (now (rows .entry)) (now (codes .entry)) (now (work .entry)) (now (work .exit)) scene (now (s .entry)) at r ⌝ }
 {
     let mut next = at;
@@ -40,7 +41,16 @@ pub fn judge_from(
                 return Ended::Refused(number, place);
             }
             InstructionRead::Is(i, following) => {
-                let stepped = body_step::step(rows, codes, work, scene, check, next as u64, i);
+                let stepped = body_step::step(
+                    rows,
+                    codes,
+                    table,
+                    work,
+                    scene,
+                    check,
+                    next as u64,
+                    i,
+                );
                 match stepped {
                     Step::Fault(number) => {
                         return Ended::Refused(number, next);

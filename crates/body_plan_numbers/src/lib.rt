@@ -6,6 +6,7 @@ use body_state::Planned;
 use body_state::Values;
 use scope::refusals;
 ghost use Rattle.scope.specs.Instructions.{i64-const, f32-const, f64-const, numeric};
+ghost use Rattle.body_numeric.specs.Entries.{Tabled};
 ghost use Rattle.body_plan_numbers.specs.Everywhere.{Everywhere, Constant};
 
 // The codes of i64, f32 and f64.
@@ -37,10 +38,11 @@ pub fn f64_const() -> Planned
 }
 
 // A numeric instruction by its code: one operand or two of one kind, and its result.
-pub fn numeric(b: u8) -> Planned
+pub fn numeric(table: &[u8], b: u8) -> Planned
+    requires { ⌜ Tabled (now table) ⌝ }
     ensures { λ r. ⌜ Everywhere (numeric b) r ⌝ }
 {
-    let row = body_numeric::numeric_row(b);
+    let row = body_numeric::numeric_row(table, b);
     let operands = row.operands;
     if operands == 0 {
         return Planned::Fault(refusals::NOT_LISTED);

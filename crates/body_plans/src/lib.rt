@@ -15,6 +15,7 @@ use body_state::Scene;
 use body_state::Values;
 ghost use mathlib.Core.Path.{_≡_};
 ghost use Rattle.scope.specs.Bodies.{judgeInstr};
+ghost use Rattle.body_numeric.specs.Entries.{Tabled};
 ghost use Rattle.body_state.specs.State.{contextAt, stateAt};
 ghost use Rattle.body_decoded.specs.Decoded.{instrOf};
 ghost use Rattle.body_plans.specs.Acts.{actOf};
@@ -31,11 +32,13 @@ pub enum Act {
 pub fn act_of(
     rows: &[u16],
     codes: &[u16],
+    table: &[u8],
     work: &[u32],
     scene: Scene,
     check: Check,
     i: Instruction,
 ) -> Act
+    requires { ⌜ Tabled (now table) ⌝ }
     ensures { λ r.
         let context = contextAt (now (rows .entry)) (now (codes .entry)) (now (work .entry)) scene in
         let state = stateAt (now (work .entry)) (scene .locals) check in
@@ -103,7 +106,7 @@ pub fn act_of(
             Act::Does(plan)
         }
         Instruction::Numeric(b) => {
-            let plan = body_plan_numbers::numeric(b);
+            let plan = body_plan_numbers::numeric(table, b);
             Act::Does(plan)
         }
         Instruction::RefNull(h) => {

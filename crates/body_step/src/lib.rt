@@ -7,20 +7,20 @@ use body_state::Step;
 ghost use Rattle.scope.specs.Bodies.{judgeInstr};
 ghost use Rattle.body_decoded.specs.Decoded.{instrOf};
 ghost use Rattle.body_state.specs.State.{contextAt, stateAt};
-ghost use Rattle.body_frames.specs.Frames.{Opening};
-ghost use Rattle.body_step.specs.Stepping.{SteppedAt};
+ghost use Rattle.body_step.specs.Stepping.{Standing, SteppedAt};
 
 // One instruction at the place `at`: its tests, its operands, 28 and 4.
 pub fn step(
     rows: &[u16],
     codes: &[u16],
+    table: &[u8],
     work: &mut [u32],
     scene: Scene,
     check: Check,
     at: u64,
     i: Instruction,
 ) -> Step
-    requires { ⌜ Opening (now work) (scene .locals) check at ⌝ }
+    requires { ⌜ Standing (now table) (now work) (scene .locals) check at ⌝ }
     ensures { λ r.
         let before = now (work .entry) in
         let after = now (work .exit) in
@@ -28,7 +28,7 @@ pub fn step(
         let want = judgeInstr context (stateAt before (scene .locals) check) (instrOf i) in
         ⌜ SteppedAt before after (scene .locals) at want r ⌝ }
 {
-    let act = body_plans::act_of(rows, codes, work, scene, check, i);
+    let act = body_plans::act_of(rows, codes, table, work, scene, check, i);
     match act {
         Act::Opens(is_loop, w) => body_frames::open(work, scene, check, is_loop, w, at),
         Act::Closes => body_end::close(rows, codes, work, scene, check),

@@ -22,8 +22,8 @@ enum-known-started c = search (typed-exits, needs)
 enum-known-started-2 : tie.Need-enum-known-started-2
 enum-known-started-2 c = search (typed-exits, needs)
 
-judge-from-requires : tie.Need-judge-from-requires
-judge-from-requires c κs = search (typed-exits, needs)
+judge-all-requires : tie.Need-judge-all-requires
+judge-all-requires c κs = search (typed-exits, needs)
 
 finish-requires : tie.Need-finish-requires
 finish-requires c κs = search (typed-exits, needs)
@@ -53,7 +53,7 @@ judge-typed-spec =
     start-requires
     enum-known-started
     enum-known-started-2
-    judge-from-requires
+    judge-all-requires
     finish-requires
     returns
     same-length

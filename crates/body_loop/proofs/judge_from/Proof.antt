@@ -5,10 +5,10 @@ use Rattle.body_loop.proofs.judge_from.Statement.{statement}
 use Rattle.body_loop.proofs.judge_from.Tie as tie
 
 abbrev Inv-loop : tie.InvT-loop
-Inv-loop rows codes work₀ scene s at next₀ count₀ left₀ check₀ work next count left check = Going rows codes work₀ scene s at work next count left check
+Inv-loop rows codes table work₀ scene s at next₀ count₀ left₀ check₀ work next count left check = Going rows codes work₀ scene s at work next count left check
 
 abbrev μ-loop : tie.MeasureT-loop
-μ-loop rows codes work₀ scene s at next₀ count₀ left₀ check₀ work next count left check = left
+μ-loop rows codes table work₀ scene s at next₀ count₀ left₀ check₀ work next count left check = left
 
 loop-holds : tie.Need-loop-holds Inv-loop μ-loop
 loop-holds c = search (loop-exits, needs)
@@ -43,8 +43,8 @@ returns-2 c = search (loop-exits, needs)
 enum-told : tie.Need-enum-told Inv-loop μ-loop
 enum-told c = search (loop-exits, needs)
 
-add-t23 : tie.Need-add-t23 Inv-loop μ-loop
-add-t23 c = search (loop-exits, needs)
+add-t24 : tie.Need-add-t24 Inv-loop μ-loop
+add-t24 c = search (loop-exits, needs)
 
 same-length-3 : tie.Need-same-length-3 Inv-loop μ-loop
 same-length-3 c = search (loop-exits, needs)
@@ -90,7 +90,7 @@ judge-from-spec =
     same-length-2
     returns-2
     enum-told
-    add-t23
+    add-t24
     same-length-3
     returns-3
     enum-known-stepped-2
