@@ -5,7 +5,7 @@ use lib.Ieee.{size}
 use Rattle.scope.specs.Reading.{entries}
 use Rattle.scope.specs.Numbers.{bitsAt, unsigned, signed, littleEndian, floatBytes}
 use Rattle.scope.specs.Sections.{heapAt, valAt, fieldAt, fewAt, supersAt, headAt, clauseAt, formAt, definitionAt, groupAt, groupsAt, readSection}
-use Rattle.scope.specs.Order.{upTable, climbs, heapBelow, valBelow, sameHeap, sameVal}
+use Rattle.scope.specs.Order.{upTable, climbs, heapBelow, valBelow, valFit, sameHeap, sameVal}
 use Rattle.scope.specs.TypeRules.{names, inReach, superEarlierAndOpen, shortChain, formMatches, matchesSuper, clausesOnStruct, describesEarlier, clausesAgree, descriptorFollows, describesFollows}
 use Rattle.scope.specs.Judging.{linksFault, ruleFault, scan, judgeTypes, judgeSection, askType}
 use Rattle.scope.specs.Rounding.{units, rounded}
@@ -15,11 +15,11 @@ use Rattle.scope.specs.Numeric.{numericOf}
 use Rattle.scope.specs.Arithmetic.{deedOf}
 use Rattle.scope.specs.Instructions.{blockTypeAt, castAt, instrAt}
 use Rattle.scope.specs.BodyRules.{lastOf, planOf}
-use Rattle.scope.specs.Bodies.{fits, takeAll, put, doPlan, judgeEnd, judgeInstr, judgeFrom, localsAt, bodyAt, judgeBody}
+use Rattle.scope.specs.Bodies.{fits, fit, takeAll, put, doPlan, judgeEnd, judgeInstr, judgeFrom, localsAt, bodyAt, judgeBody}
 use Rattle.scope.specs.Machine.{splitTop, defaultsOf, doNumeric, pastEnds, jump, doOp, doInstr, step}
 use Rattle.scope.specs.Running.{runBy, run, trialRun}
 use Rattle.scope.specs.Memory.{rowWords, rowsFrom, objectsFrom, blockWords, stateWords}
 
 unfoldable pub computes : ℕ
-unfolding entries bitsAt unsigned signed littleEndian floatBytes heapAt valAt fieldAt fewAt supersAt headAt clauseAt formAt definitionAt groupAt groupsAt readSection upTable climbs heapBelow valBelow sameHeap sameVal names inReach superEarlierAndOpen shortChain formMatches matchesSuper clausesOnStruct describesEarlier clausesAgree descriptorFollows describesFollows linksFault ruleFault scan judgeTypes judgeSection askType size units rounded floatNeg floatAdd floatSub floatMul floatDiv floatEqual floatLess intAdd intSub intLessSigned intAtMostSigned numericOf deedOf blockTypeAt castAt instrAt lastOf planOf fits takeAll put doPlan judgeEnd judgeInstr judgeFrom localsAt bodyAt judgeBody splitTop defaultsOf doNumeric pastEnds jump doOp doInstr step runBy run trialRun rowWords rowsFrom objectsFrom blockWords stateWords
+unfolding entries bitsAt unsigned signed littleEndian floatBytes heapAt valAt fieldAt fewAt supersAt headAt clauseAt formAt definitionAt groupAt groupsAt readSection upTable climbs heapBelow valBelow valFit sameHeap sameVal names inReach superEarlierAndOpen shortChain formMatches matchesSuper clausesOnStruct describesEarlier clausesAgree descriptorFollows describesFollows linksFault ruleFault scan judgeTypes judgeSection askType size units rounded floatNeg floatAdd floatSub floatMul floatDiv floatEqual floatLess intAdd intSub intLessSigned intAtMostSigned numericOf deedOf blockTypeAt castAt instrAt lastOf planOf fits fit takeAll put doPlan judgeEnd judgeInstr judgeFrom localsAt bodyAt judgeBody splitTop defaultsOf doNumeric pastEnds jump doOp doInstr step runBy run trialRun rowWords rowsFrom objectsFrom blockWords stateWords
 computes = 0

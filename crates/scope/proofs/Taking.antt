@@ -3,16 +3,16 @@
 -- other values.
 use Prim.Native.Nat.{ℕ}
 use mathlib.Core.Path.{_≡_, refl, ap, _∙_, subst}
-use mathlib.Core.Bool.{true, false, false≢true}
+use mathlib.Core.Bool.{Bool, true, false, cond, false≢true}
 use mathlib.Core.Option.{some}
 use mathlib.Core.List.{List, [], _∷_, _++_, map, reverse, Forall₂, Forall₂·nil, Forall₂·cons}
 use lib.ListN.{length, length-reverse}
-use Rattle.scope.specs.Refusals.{badOperand}
 use Rattle.scope.specs.Syntax.{Val, Definition, Types, typesOf}
-use Rattle.scope.specs.BodyRules.{Wanted, value, anyValue, anyReference}
-use Rattle.scope.specs.Bodies.{Operand, known, fits, takeAll, onTop}
+use Rattle.scope.specs.Order.{itFits, butForNull, unfit}
+use Rattle.scope.specs.BodyRules.{Wanted, value, anyValue, anyReference, Ruled}
+use Rattle.scope.specs.Bodies.{Operand, known, fits, nonNullOf, fit, operandTest, takeAll, onTop}
 use Rattle.scope.specs.Machine.{Value, null, object, Object, Store, objectOf, splitTop}
-use Rattle.scope.proofs.Telling.{Allows, this, nothing, after-test, after-and}
+use Rattle.scope.proofs.Telling.{Allows, this, nothing, after-and}
 use Rattle.scope.proofs.Accepted.{Passes}
 use Rattle.scope.proofs.Pairs.{as-many, append-both}
 use Rattle.scope.proofs.HeapLaws.{has-above}
@@ -33,6 +33,16 @@ pub data Takes (ts : Types) (heap : Store) : List Wanted → List Operand → Li
       → Meets ts heap v w → HasOperand ts heap v o → Takes ts heap ws taken left vs below
       → Takes ts heap (w ∷ ws) (o ∷ taken) left (v ∷ vs) below
 
+-- of the three outcomes the first alone lets an operand be taken
+after-fit : {A : Type 0} {P : A → Type 0} (ts : Types) (o : Operand) (w : Wanted) {more : Ruled A} → (fits ts o w ≡ true → Allows P more) → Allows P (operandTest (fit ts o w) more)
+unfolding fit
+after-fit {P = P} ts o w {more} k = go (fits ts o w) (fits ts (nonNullOf o) w) k
+  where
+    go : (b c : Bool) → (b ≡ true → Allows P more) → Allows P (operandTest (cond b itFits (cond c butForNull unfit)) more)
+    go true c k = k refl
+    go false true k = nothing
+    go false false k = nothing
+
 module _ {ds : List Definition} (passes : Passes ds) {heap : Store} where
   fitting : {v : Value} {o : Operand} (w : Wanted) → HasOperand (typesOf ds) heap v o → fits (typesOf ds) o w ≡ true → Meets (typesOf ds) heap v w
   unfolding fits
@@ -50,7 +60,7 @@ module _ {ds : List Definition} (passes : Passes ds) {heap : Store} where
   taken-typed (w ∷ ws) Forall₂·nil = nothing
   taken-typed (w ∷ ws) (Forall₂·cons {b = o} {l₂ = os} h hs) =
       let more = taken-typed ws hs in
-      after-test (fits (typesOf ds) o w) badOperand (λ e.
+      after-fit (typesOf ds) o w (λ e.
       after-and (takeAll (typesOf ds) false ws os) more (λ t rest.
       this (rest .0, also (fitting w h e) h (rest .1))))
 

@@ -7,13 +7,13 @@ use mathlib.Core.List.{List, [], _∷_, _++_, map, reverse}
 use lib.ListN.{length, replicate, set}
 use lib.Dec.{ltb, leb}
 use Rattle.scope.specs.Sizes.{mostBytes, mostLocals, mostOperands, mostFrames}
-use Rattle.scope.specs.Refusals.{bytesEnd, oversize, outOfReach, badOperand, notAFunction, valuesLeft}
+use Rattle.scope.specs.Refusals.{bytesEnd, oversize, outOfReach, badOperand, notAFunction, valuesLeft, onlyNull}
 use Rattle.scope.specs.Reading.{Read, got, refused, Reader, given, then}
 use Rattle.scope.specs.Numbers.{u32}
 use Rattle.scope.specs.Lists.{every, joined, sum}
 use Rattle.scope.specs.Syntax.{exact, defined, Val, num, ref, nullable, nonNull, Form, struct, func, Definition, Types, typesOf}
 use Rattle.scope.specs.Sections.{valAt, ended}
-use Rattle.scope.specs.Order.{valBelow}
+use Rattle.scope.specs.Order.{Fit, itFits, butForNull, unfit, madeNonNull, valBelow}
 use Rattle.scope.specs.TypeRules.{valNames}
 use Rattle.scope.specs.Judging.{Judged, accepted, rejected, andThen, judgeSection}
 use Rattle.scope.specs.Instructions.{Instr, block, loop, end, op, instrAt}
@@ -41,6 +41,23 @@ fits ts unknownReference (value w) = isReference w
 fits ts unknownReference anyValue = true
 fits ts unknownReference anyReference = true
 
+-- "ref.as_non_null of an unknown is a non-null reference of unknown heap"
+abbrev pub nonNullOf : Operand → Operand
+nonNullOf (known v) = known (madeNonNull v)
+nonNullOf unknown = unknownReference
+nonNullOf unknownReference = unknownReference
+
+-- An operand's test with its three outcomes, as that of types: the same operand, made non-null, fits.
+unfoldable pub fit : Types → Operand → Wanted → Fit
+fit ts o w = cond (fits ts o w) itFits (cond (fits ts (nonNullOf o) w) butForNull unfit)
+
+-- "Wherever that test serves an operand, the second outcome gives new refusal 31 at the same place, and 20 keeps the third and the
+-- missing operand."
+abbrev pub operandTest : {A : Type 0} → Fit → Ruled A → Ruled A
+operandTest itFits more = more
+operandTest butForNull more = fault onlyNull
+operandTest unfit more = fault badOperand
+
 -- what was taken, from the top, and what is left
 pub record Taken : Type 0 where
   pub taken : List Operand
@@ -49,7 +66,7 @@ pub record Taken : Type 0 where
 abbrev pub alsoTaken : Operand → Taken → Taken
 alsoTaken o t = record { taken = o ∷ t .taken; left = t .left }
 
--- Operands from the top: 20 where one is missing or wrong. "After unreachable, br and return the stack yields unknowns."
+-- Operands from the top: 20 where one is missing; 31 or 20 at the first that does not fit. "After unreachable, br and return the stack yields unknowns."
 unfoldable pub takeAll : Types → Bool → List Wanted → List Operand → Ruled Taken
 takeAll ts dead [] os = allowed (record { taken = []; left = os })
 takeAll ts dead (w ∷ ws) [] =
@@ -57,17 +74,11 @@ takeAll ts dead (w ∷ ws) [] =
     test dead badOperand more
 takeAll ts dead (w ∷ ws) (o ∷ os) =
     let more = andRuled (takeAll ts dead ws os) (λ t. allowed (alsoTaken o t)) in
-    test (fits ts o w) badOperand more
+    operandTest (fit ts o w) more
 
 -- the values of a list, the last on top
 abbrev pub onTop : List Val → List Operand
 onTop vs = map known (reverse vs)
-
-abbrev pub nonNullOf : Operand → Operand
-nonNullOf (known (num n)) = known (num n)
-nonNullOf (known (ref n h)) = known (ref false h)
-nonNullOf unknown = unknownReference
-nonNullOf unknownReference = unknownReference
 
 -- what an instruction puts on the stack, by what it took
 unfoldable pub put : Types → Gives → List Operand → List Operand

@@ -3,7 +3,7 @@
 -- accepted section have.
 use Prim.Native.Nat.{ℕ, zero, suc}
 use mathlib.Core.Path.{_≡_}
-use mathlib.Core.Bool.{Bool, true, false, not, _&&_, _||_, Bool·beq}
+use mathlib.Core.Bool.{Bool, true, false, not, _&&_, _||_, Bool·beq, cond}
 use mathlib.Core.Option.{Option, none, some}
 use mathlib.Core.List.{List, [], _∷_}
 use lib.Dec.{eqb}
@@ -92,6 +92,22 @@ valBelow ts (num a) (num b) = sameNumber a b
 valBelow ts (num a) (ref m k) = false
 valBelow ts (ref n h) (num b) = false
 valBelow ts (ref n h) (ref m k) = (not n || m) && heapBelow ts h k
+
+-- Request 9 of document 02: "The test whether one type fits another should have three outcomes: fits, would fit if it couldn't
+-- be null, doesn't fit."
+pub data Fit : Type 0 where
+  itFits : Fit
+  butForNull : Fit
+  unfit : Fit
+
+-- the same type, not null
+abbrev pub madeNonNull : Val → Val
+madeNonNull (num a) = num a
+madeNonNull (ref n h) = ref false h
+
+-- by the order itself: a type that is not below the other would fit where the same type, made non-null, is below it
+unfoldable pub valFit : Types → Val → Val → Fit
+valFit ts v w = cond (valBelow ts v w) itFits (cond (valBelow ts (madeNonNull v) w) butForNull unfit)
 
 -- "identical" means the types, not their bytes
 

@@ -93,6 +93,10 @@ valuesLeft = 28
 abbrev pub noDefault : ℕ
 noDefault = 29
 
+-- request 9 of document 02: an operand would fit if it could not be null
+abbrev pub onlyNull : ℕ
+onlyNull = 31
+
 -- trap: unreachable
 abbrev pub trapUnreachable : ℕ
 trapUnreachable = 41

@@ -68,3 +68,6 @@ pub const VALUES_LEFT: u64 = 28;
 
 // no default
 pub const NO_DEFAULT: u64 = 29;
+
+// request 9 of document 02: an operand would fit if it could not be null
+pub const ONLY_NULL: u64 = 31;
