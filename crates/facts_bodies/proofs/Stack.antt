@@ -9,11 +9,11 @@ use mathlib.Core.List.{List, [], _∷_}
 use Rattle.scope.specs.Syntax.{Types, Heap, Val, num, ref, exact, defined, nullable, nonNull}
 use Rattle.scope.specs.BodyRules.{Context, Scope, Wanted, value, anyReference, Gives, values, itNonNull, itsDescriptor, Plan, allowed}
 use Rattle.scope.specs.Instructions.{Op}
-use Rattle.scope.specs.Bodies.{Operand, known, unknown, unknownReference, fits, Taken, takeAll, put}
+use Rattle.scope.specs.Bodies.{Operand, known, unknown, unknownReference, fits, fit, Taken, takeAll, put}
 use Rattle.scope.proofs.Truths.{decided}
 use Rattle.facts_bodies.specs.Premises.{OperandFits, known-below, as-reference, Takes, takes-none, takes-top, takes-unknown, Puts, puts-values, puts-non-null, puts-of-unknown, puts-of-unknown-reference, puts-exact-descriptor, puts-descriptor}
 use Rattle.facts_bodies.specs.Rules.{Rule, rule-unreachable, rule-nop, rule-return, rule-drop, rule-br, rule-br-if, rule-local-get, rule-local-set, rule-local-tee, rule-i32-const, rule-i64-const, rule-f32-const, rule-f64-const, rule-numeric, rule-ref-null, rule-ref-is-null, rule-ref-eq, rule-ref-as-non-null, rule-struct-new, rule-struct-new-default, rule-struct-get, rule-struct-set, rule-ref-test, rule-ref-cast, rule-br-on-cast, rule-br-on-cast-fail, rule-struct-new-desc, rule-struct-new-default-desc, rule-ref-get-desc, rule-ref-cast-desc-eq, rule-br-on-cast-desc-eq, rule-br-on-cast-desc-eq-fail}
-use Rattle.facts_bodies.proofs.Ruled.{fault-is-not-allowed, same-allowed, test-passed, first-allowed}
+use Rattle.facts_bodies.proofs.Ruled.{fault-is-not-allowed, same-allowed, fit-passed, first-allowed}
 use Rattle.facts_bodies.proofs.Premises.{Ordered, number-not-below-reference, tested-fits, fits-tested, tested-meets, meets-tested}
 
 -- taking
@@ -36,7 +36,7 @@ module _ (ts : Types) where
       as-taken (takes-unknown (allowed-takes true ws [] later)) same
   allowed-takes false (w ∷ ws) [] e = absurd (fault-is-not-allowed e)
   allowed-takes dead (w ∷ ws) (o ∷ os) e =
-      let (meets, more) = test-passed _ _ _ e in
+      let (meets, more) = fit-passed ts o w _ e in
       let (rest, later, same) = first-allowed (takeAll ts dead ws os) _ more in
       as-taken (takes-top (tested-meets ts o w meets) (allowed-takes dead ws os later)) same
 
@@ -44,7 +44,7 @@ module _ {ts : Types} (ordered : Ordered ts) where
   pub takes-allowed : {dead : Bool} {ws : List Wanted} {os taken left : List Operand}
       → Takes ts dead ws os taken left
       → takeAll ts dead ws os ≡ allowed (record { taken = taken; left = left })
-  unfolding takeAll
+  unfolding takeAll fit
   takes-allowed takes-none = refl
   takes-allowed (takes-top meets later) = rw (meets-tested ordered meets, takes-allowed later)
   takes-allowed (takes-unknown later) = rw (takes-allowed later)

@@ -5,75 +5,138 @@ use Prim.Native.Nat.{ℕ, zero, suc, _+_, _≤_}
 use native.Mathlib.Omega.{arith}
 use mathlib.Core.Path.{_≡_, refl, sym, _∙_, ap, subst}
 use mathlib.Core.Logic.{_↔_}
-use mathlib.Core.Bool.{Bool, true, false}
+use mathlib.Core.Bool.{Bool, true, false, cond, false≢true}
 use mathlib.Core.Option.{none}
 use mathlib.Core.List.{List, [], _∷_, map}
 use lib.ListN.{length, getElem?}
 use lib.Dec.{leb}
 use borrow.Author.Tests.{ltb-true, lt-ltb, leb-true, le-leb}
 use Rattle.scope.specs.Sizes.{mostOperands}
-use Rattle.scope.specs.Refusals.{bytesEnd, badOperand, oversize, valuesLeft}
+use Rattle.scope.specs.Refusals.{bytesEnd, badOperand, onlyNull, oversize, valuesLeft}
 use Rattle.scope.specs.Reading.{Read, got, refused, then}
 use Rattle.scope.specs.Lists.{joined}
-use Rattle.scope.specs.Syntax.{Val, Types}
+use Rattle.scope.specs.Syntax.{Val, num, ref, nullable, nonNull, Types}
+use Rattle.scope.specs.Order.{Fit, itFits, butForNull, unfit}
 use Rattle.scope.specs.TypeRules.{valNames}
 use Rattle.scope.specs.Instructions.{Op, Instr, block, loop, end, op, instrAt}
-use Rattle.scope.specs.BodyRules.{Context, Wanted, Plan, Ruled, allowed, fault, test, andRuled, fromTop, reached, planOf}
-use Rattle.scope.specs.Bodies.{Operand, unknown, fits, Taken, alsoTaken, takeAll, put, Frame, ofBlock, ofLoop, State, scopeOf, operandsIn, Next, goesOn, finished, afterPlan, doPlan, entered, noneLeft, judgeEnd, judgeInstr, Code, onRuled, onNext, judgeFrom}
+use Rattle.scope.specs.BodyRules.{Context, Wanted, Plan, Ruled, allowed, fault, andRuled, fromTop, reached, planOf}
+use Rattle.scope.specs.Bodies.{Operand, known, unknown, unknownReference, fits, nonNullOf, fit, operandTest, Taken, alsoTaken, takeAll, put, Frame, ofBlock, ofLoop, State, scopeOf, operandsIn, Next, goesOn, finished, afterPlan, doPlan, entered, noneLeft, judgeEnd, judgeInstr, Code, onRuled, onNext, judgeFrom}
 use Rattle.scope.proofs.Impossible.{contradiction}
 use Rattle.scope.proofs.Forward.{never-back}
 use Rattle.scope.proofs.ForwardBodies.{instr-takes}
 use Rattle.facts_sections.specs.FirstFault as rules
 use Rattle.facts_sections.specs.FirstFault.{all-kept, kept-and, FirstBroken, broken, kept-then}
-use Rattle.facts_bodies.specs.Premises.{Takes, Puts}
+use Rattle.facts_bodies.specs.Premises.{Meets, Takes, Puts}
 use Rattle.facts_bodies.specs.Rules.{Rule}
 use Rattle.facts_bodies.specs.Typing.{passed, stopped, pastBlock, Roomy, Results, TypedInstr, InstrsAt, no-instr, next-instr}
 use Rattle.facts_bodies.proofs.Ruled.{fault-is-not-allowed, same-allowed}
-use Rattle.facts_bodies.proofs.Premises.{Ordered, tested-values-reached, values-reached-tested}
+use Rattle.facts_bodies.proofs.Premises.{Ordered, tested-values-reached, values-reached-tested, tested-meets, meets-tested}
 use Rattle.facts_bodies.proofs.Planned.{planned-rule}
 use Rattle.facts_bodies.proofs.Derived.{derived-plan}
 use Rattle.facts_bodies.proofs.Stack.{allowed-takes, takes-allowed, rule-puts, puts-put}
 use Rattle.facts_bodies.proofs.Steps.{few-roomy, roomy-few, allowed-typed, typed-allowed}
-use Rattle.facts_refusals.specs.Bodies.{CanTake, can-take, OperandsThere, operands-there, Operands, Room, resultsOf, RoomPast, past-body, past-block, past-loop, openRules, conditions, TypedUpTo, none-yet, then-next, FaultAt, in-bytes, in-instruction, FirstFaulty}
+use Rattle.facts_refusals.specs.Bodies.{ButForNull, but-for-null, NullFirst, null-here, null-below, NoNullAtEnd, NoNull, CanTake, can-take, OperandsThere, operands-there, Operands, Room, resultsOf, RoomPast, past-body, past-block, past-loop, openRules, conditions, TypedUpTo, none-yet, then-next, FaultAt, in-bytes, in-instruction, FirstFaulty}
 use Rattle.facts_refusals.proofs.Judged.{Judges, says-yes, says-no, nothing-asked, judges-test, judges-and, fault-exactly}
 use Rattle.facts_refusals.proofs.Asked.{plan-asked}
 
--- what is not taken is 20
+-- what is not taken is 31 or 20, by the first operand at fault
 
-data Twenty : Ruled Taken → Type 0 where
-  taken-so : {t : Taken} → Twenty (allowed t)
-  twenty : Twenty (fault badOperand)
+module _ {ts : Types} (ordered : Ordered ts) where
+  -- the outcome of one operand, by the relation
+  data Outcome (o : Operand) (w : Wanted) : Fit → Type 0 where
+    it-meets : Meets ts o w → Outcome o w itFits
+    null-alone : ButForNull ts o w → Outcome o w butForNull
+    no-way : ¬ Meets ts o w → ¬ ButForNull ts o w → Outcome o w unfit
 
-twenty-test : (t : Bool) {more : Ruled Taken} → Twenty more → Twenty (test t badOperand more)
-twenty-test true m = m
-twenty-test false m = twenty
+  not-met : (o : Operand) (w : Wanted) → fits ts o w ≡ false → ¬ Meets ts o w
+  not-met o w e m = false≢true (sym e ∙ meets-tested ordered m)
 
-twenty-and : (f : Taken → Taken) {r : Ruled Taken} → Twenty r → Twenty (andRuled r (λ t. allowed (f t)))
-twenty-and f taken-so = taken-so
-twenty-and f twenty = twenty
+  -- made non-null, only a nullable reference becomes another operand
+  null-only : (o : Operand) (w : Wanted) → fits ts o w ≡ false → fits ts (nonNullOf o) w ≡ true → ButForNull ts o w
+  unfolding fits
+  null-only (known (num n)) w e f = absurd (false≢true (sym e ∙ f))
+  null-only (known (ref true h)) w e f = but-for-null (not-met (known (nullable h)) w e) (tested-meets ts (known (nonNull h)) w f)
+  null-only (known (ref false h)) w e f = absurd (false≢true (sym e ∙ f))
+  null-only unknown w e f = absurd (false≢true (sym e))
+  null-only unknownReference w e f = absurd (false≢true (sym e ∙ f))
 
-take-twenty : (ts : Types) (dead : Bool) (ws : List Wanted) (os : List Operand) → Twenty (takeAll ts dead ws os)
-unfolding takeAll
-take-twenty ts dead [] os = taken-so
-take-twenty ts dead (w ∷ ws) [] = twenty-test dead (twenty-and (alsoTaken unknown) (take-twenty ts dead ws []))
-take-twenty ts dead (w ∷ ws) (o ∷ os) = twenty-test (fits ts o w) (twenty-and (alsoTaken o) (take-twenty ts dead ws os))
+  not-null-only : (o : Operand) (w : Wanted) → fits ts (nonNullOf o) w ≡ false → ¬ ButForNull ts o w
+  not-null-only (known (ref true h)) w f (but-for-null no′ yes′) = false≢true (sym f ∙ meets-tested ordered yes′)
+
+  outcome : (o : Operand) (w : Wanted) → Outcome o w (fit ts o w)
+  unfolding fit
+  outcome o w = go (fits ts o w) (fits ts (nonNullOf o) w) refl refl
+    where
+      go : (b c : Bool) → fits ts o w ≡ b → fits ts (nonNullOf o) w ≡ c → Outcome o w (cond b itFits (cond c butForNull unfit))
+      go true c e f = it-meets (tested-meets ts o w e)
+      go false true e f = null-alone (null-only o w e f)
+      go false false e f = no-way (not-met o w e) (not-null-only o w f)
+
+  data TakenOr (ws : List Wanted) (os : List Operand) : Ruled Taken → Type 0 where
+    taken-so : {t : Taken} → (NullFirst ts ws os → ⊥) → TakenOr ws os (allowed t)
+    thirty-one : NullFirst ts ws os → TakenOr ws os (fault onlyNull)
+    twenty : (NullFirst ts ws os → ⊥) → TakenOr ws os (fault badOperand)
+
+  no-null-below : {w : Wanted} {ws : List Wanted} {o : Operand} {os : List Operand} → Meets ts o w → (NullFirst ts ws os → ⊥) → NullFirst ts (w ∷ ws) (o ∷ os) → ⊥
+  no-null-below m none-of (null-here (but-for-null no′ yes′)) = no′ m
+  no-null-below m none-of (null-below n more) = none-of more
+
+  no-null-unfit : {w : Wanted} {ws : List Wanted} {o : Operand} {os : List Operand} → ¬ Meets ts o w → ¬ ButForNull ts o w → NullFirst ts (w ∷ ws) (o ∷ os) → ⊥
+  no-null-unfit no′ other (null-here b) = other b
+  no-null-unfit no′ other (null-below m more) = no′ m
+
+  also-or : {w : Wanted} {ws : List Wanted} {o : Operand} {os : List Operand} (f : Taken → Taken) {r : Ruled Taken} → Meets ts o w → TakenOr ws os r → TakenOr (w ∷ ws) (o ∷ os) (andRuled r (λ t. allowed (f t)))
+  also-or f m (taken-so none-of) = taken-so (no-null-below m none-of)
+  also-or f m (thirty-one n) = thirty-one (null-below m n)
+  also-or f m (twenty none-of) = twenty (no-null-below m none-of)
+
+  -- such an operand is there, and is asked for
+  there-some : {ws : List Wanted} {os : List Operand} → NullFirst ts ws os → os ≡ [] → ⊥
+  there-some (null-here b) e = contradiction cc
+  there-some (null-below m more) e = contradiction cc
+
+  asked-some : {ws : List Wanted} {os : List Operand} → NullFirst ts ws os → ws ≡ [] → ⊥
+  asked-some (null-here b) e = contradiction cc
+  asked-some (null-below m more) e = contradiction cc
+
+  nothing-there : {ws : List Wanted} → NullFirst ts ws [] → ⊥
+  nothing-there n = there-some n refl
+
+  unknowns-or : (ws : List Wanted) (f : Taken → Taken) {r : Ruled Taken} → TakenOr ws [] r → {w : Wanted} → TakenOr (w ∷ ws) [] (andRuled r (λ t. allowed (f t)))
+  unknowns-or ws f (taken-so none-of) = taken-so nothing-there
+  unknowns-or ws f (thirty-one n) = absurd (nothing-there n)
+  unknowns-or ws f (twenty none-of) = twenty nothing-there
+
+  take-or : (dead : Bool) (ws : List Wanted) (os : List Operand) → TakenOr ws os (takeAll ts dead ws os)
+  unfolding takeAll
+  take-or dead [] os = taken-so (λ n. asked-some n refl)
+  take-or true (w ∷ ws) [] = unknowns-or ws (alsoTaken unknown) (take-or true ws [])
+  take-or false (w ∷ ws) [] = twenty nothing-there
+  take-or dead (w ∷ ws) (o ∷ os) = go (fit ts o w) (outcome o w) (take-or dead ws os)
+    where
+      go : (f : Fit) → Outcome o w f → TakenOr ws os (takeAll ts dead ws os) → TakenOr (w ∷ ws) (o ∷ os) (operandTest f (andRuled (takeAll ts dead ws os) (λ t. allowed (alsoTaken o t))))
+      go itFits (it-meets m) later = also-or (alsoTaken o) m later
+      go butForNull (null-alone b) later = thirty-one (null-here b)
+      go unfit (no-way no′ other) later = twenty (no-null-unfit no′ other)
 
 module _ (c : Context) (st : State) (ordered : Ordered (c .types)) where
   -- a test of the operands and what follows it
-  took : {A : Type 0} {P : Type 0} {later : List rules.Rule} (ws : List Wanted) {f : Taken → Ruled A}
+  took : {A : Type 0} {N P : Type 0} {later : List rules.Rule} (ws : List Wanted) {f : Taken → Ruled A}
+      → ((NullFirst (c .types) ws (st .operands) → ⊥) → N) → (N → NullFirst (c .types) ws (st .operands) → ⊥)
       → ((t : Taken) → takeAll (c .types) (st .dead) ws (st .operands) ≡ allowed t → P)
       → (P → (t : Taken) × (takeAll (c .types) (st .dead) ws (st .operands) ≡ allowed t))
       → ((t : Taken) → takeAll (c .types) (st .dead) ws (st .operands) ≡ allowed t → Judges (f t) later)
-      → Judges (andRuled (takeAll (c .types) (st .dead) ws (st .operands)) f) (record { says = P; number = badOperand } ∷ later)
-  took {A} {P} {later} ws {f} says tested more = go (takeAll (c .types) (st .dead) ws (st .operands)) refl (take-twenty (c .types) (st .dead) ws (st .operands))
+      → Judges (andRuled (takeAll (c .types) (st .dead) ws (st .operands)) f) (record { says = N; number = onlyNull } ∷ record { says = P; number = badOperand } ∷ later)
+  took {A} {N} {P} {later} ws {f} none-said none-of says tested more = go (takeAll (c .types) (st .dead) ws (st .operands)) refl (take-or ordered (st .dead) ws (st .operands))
     where
-      kept : {v : Ruled A} → P → Judges v later → Judges v (record { says = P; number = badOperand } ∷ later)
-      kept p (says-yes all) = says-yes (kept-and p all)
-      kept p (says-no first) = says-no (kept-then p first)
+      kept : {v : Ruled A} → N → P → Judges v later → Judges v (record { says = N; number = onlyNull } ∷ record { says = P; number = badOperand } ∷ later)
+      kept n p (says-yes all) = says-yes (kept-and n (kept-and p all))
+      kept n p (says-no first) = says-no (kept-then n (kept-then p first))
 
-      go : (r : Ruled Taken) → takeAll (c .types) (st .dead) ws (st .operands) ≡ r → Twenty r → Judges (andRuled r f) (record { says = P; number = badOperand } ∷ later)
-      go (allowed t) e taken-so = kept (says t e) (more t e)
-      go (fault n) e twenty = says-no (broken (λ p. let (t, yes′) = tested p in fault-is-not-allowed (sym e ∙ yes′)))
+      go : (r : Ruled Taken) → takeAll (c .types) (st .dead) ws (st .operands) ≡ r → TakenOr ordered ws (st .operands) r → Judges (andRuled r f) (record { says = N; number = onlyNull } ∷ record { says = P; number = badOperand } ∷ later)
+      go (allowed t) e (taken-so other) = kept (none-said other) (says t e) (more t e)
+      go (fault n) e (thirty-one first) = says-no (broken (λ n. none-of n first))
+      go (fault n) e (twenty other) = says-no (kept-then (none-said other) (broken (λ p. let (t, yes′) = tested p in fault-is-not-allowed (sym e ∙ yes′))))
 
   takes-of : (ws : List Wanted) (t : Taken) → takeAll (c .types) (st .dead) ws (st .operands) ≡ allowed t → Takes (c .types) (st .dead) ws (st .operands) (t .taken) (t .left)
   takes-of ws t e = allowed-takes (c .types) (st .dead) ws (st .operands) e
@@ -141,10 +204,13 @@ module _ (c : Context) (st : State) (ordered : Ordered (c .types)) where
             let so : afterPlan c st p t ≡ passed st p (put (c .types) (p .gives) (t .taken)) (t .left) = rw goes in
             few (subst Roomy (sym so) (room .goingOn rule-here goes k (rule-puts ordered rule-here k)))
 
-    plan-done : Judges (doPlan c st p) (record { says = Operands c st o; number = badOperand } ∷ record { says = Room c st o; number = oversize } ∷ [])
+    no-null-said : (NullFirst (c .types) (p .wants) (st .operands) → ⊥) → NoNull c st o
+    no-null-said other = record { other = λ {p = q} r. subst (λ (q : Plan). NullFirst (c .types) (q .wants) (st .operands) → ⊥) (same-plan r) other }
+
+    plan-done : Judges (doPlan c st p) (record { says = NoNull c st o; number = onlyNull } ∷ record { says = Operands c st o; number = badOperand } ∷ record { says = Room c st o; number = oversize } ∷ [])
     unfolding doPlan
     plan-done =
-        took (p .wants) operands-said operands-tested (λ t e.
+        took (p .wants) no-null-said (λ n. n .other rule-here) operands-said operands-tested (λ t e.
         judges-test _ (room-said t e) (room-tested t e) (λ few. nothing-asked))
 
   -- blocks
@@ -191,17 +257,17 @@ module _ (c : Context) (st : State) (ordered : Ordered (c .types)) where
   past-loop-tested (past-loop r) = le-leb _ _ (roomy-few r)
 
   close-asked : (fs : List Frame) → Judges (judgeEnd c st fs)
-      (record { says = CanTake c st (resultsOf c fs); number = badOperand } ∷ record { says = Results c st (resultsOf c fs); number = valuesLeft } ∷ record { says = RoomPast fs; number = oversize } ∷ [])
+      (record { says = NoNullAtEnd c st (resultsOf c fs); number = onlyNull } ∷ record { says = CanTake c st (resultsOf c fs); number = badOperand } ∷ record { says = Results c st (resultsOf c fs); number = valuesLeft } ∷ record { says = RoomPast fs; number = oversize } ∷ [])
   unfolding judgeEnd
   close-asked [] =
-      took (fromTop (c .results)) (can-said (c .results)) (can-tested (c .results)) (λ t e.
+      took (fromTop (c .results)) (λ other. record { other = other }) (λ n. n .other) (can-said (c .results)) (can-tested (c .results)) (λ t e.
       none-left (c .results) t e (says-yes (kept-and past-body all-kept)))
   close-asked (ofBlock rs os dead isSet ∷ fs) =
-      took (fromTop rs) (can-said rs) (can-tested rs) (λ t e.
+      took (fromTop rs) (λ other. record { other = other }) (λ n. n .other) (can-said rs) (can-tested rs) (λ t e.
       none-left rs t e
       (judges-test _ (λ few. past-block (few-roomy (leb-true _ _ few))) past-block-tested (λ few. nothing-asked)))
   close-asked (ofLoop rs os dead isSet ∷ fs) =
-      took (fromTop rs) (can-said rs) (can-tested rs) (λ t e.
+      took (fromTop rs) (λ other. record { other = other }) (λ n. n .other) (can-said rs) (can-tested rs) (λ t e.
       none-left rs t e
       (judges-test _ (λ few. past-loop (few-roomy (leb-true _ _ few))) past-loop-tested (λ few. nothing-asked)))
 

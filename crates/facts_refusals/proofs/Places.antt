@@ -6,7 +6,7 @@ use mathlib.Core.Path.{_≡_, refl}
 use mathlib.Core.Bool.{true}
 use mathlib.Core.List.{List, [], _∷_, _++_, map}
 use lib.ListN.{length}
-use Rattle.scope.specs.Refusals.{bytesEnd, notListed, badOperand, badStruct, oversize}
+use Rattle.scope.specs.Refusals.{bytesEnd, notListed, badOperand, onlyNull, badStruct, oversize}
 use Rattle.scope.specs.Reading.{Read, got, refused}
 use Rattle.scope.specs.Numbers.{u32}
 use Rattle.scope.specs.Syntax.{Val, Definition}
@@ -23,7 +23,7 @@ use Rattle.facts_codes.specs.Proper.{CodeListed, ProperOp, Proper}
 use Rattle.facts_codes.proofs.Proper.{instr-proper}
 use Rattle.facts_bodies.specs.Premises.{Each, of-none, of-first}
 use Rattle.facts_bodies.specs.Typing.{Entry, EntriesAt, no-entry, next-entry, InstrsAt, no-instr, next-instr}
-use Rattle.facts_refusals.specs.Numbers.{is-left-over, InstructionFault, type-out-of-reach, is-absent, is-bad-struct, is-field-fixed, is-bad-branch, is-no-default, is-not-set, is-bad-operand, is-values-left, is-too-many, entry-out-of-reach, entry-too-many}
+use Rattle.facts_refusals.specs.Numbers.{is-left-over, InstructionFault, type-out-of-reach, is-absent, is-bad-struct, is-field-fixed, is-bad-branch, is-no-default, is-not-set, is-only-null, is-bad-operand, is-values-left, is-too-many, entry-out-of-reach, entry-too-many}
 use Rattle.facts_refusals.specs.Instructions.{Question, codeListed, heapsReached, typeReached, labelThere, localThere, isStruct, hasField, noDescriptor, hasDescriptor, castDescribed, fieldMutable, supertypeShared, labelHasTypes, labelTakes, allDefaults, localSet, numberOf, ruleOf, asks, rising}
 use Rattle.facts_refusals.specs.Bodies.{conditions, FaultAt, in-bytes, in-instruction, EntryFault, count-bytes, type-bytes, type-unreached, too-many, FaultyEntry, this-entry, later-entry, LocalsStand, BodySaysNo, by-section, by-size, by-type, by-count, by-locals, by-instruction, by-rest, BodyPlace, of-section, of-whole-size, of-type-number, of-bytes, of-entry, of-instruction, BodyRefusals}
 use Rattle.facts_refusals.proofs.Reading.{Heeds, unsigned-heeds, val-heeds, instr-heeds}
@@ -110,18 +110,20 @@ answered s c here (ref-cast-desc-eq n h) proper = of-first tt (of-first tt of-no
 answered s c here (br-on-cast-desc-eq k) proper = of-first tt (of-first tt (of-first tt (of-first tt (of-first tt (of-first tt of-none)))))
 answered s c here (br-on-cast-desc-eq-fail k) proper = of-first tt (of-first tt (of-first tt (of-first tt (of-first tt (of-first tt of-none)))))
 
-last-number : {P Q : Type 0} {n : ℕ} → FirstBroken (record { says = P; number = badOperand } ∷ record { says = Q; number = oversize } ∷ []) n → InstructionFault n
-last-number (broken wrong) = is-bad-operand
-last-number (kept-then p (broken wrong)) = is-too-many
+last-number : {N P Q : Type 0} {n : ℕ} → FirstBroken (record { says = N; number = onlyNull } ∷ record { says = P; number = badOperand } ∷ record { says = Q; number = oversize } ∷ []) n → InstructionFault n
+last-number (broken wrong) = is-only-null
+last-number (kept-then n (broken wrong)) = is-bad-operand
+last-number (kept-then n (kept-then p (broken wrong))) = is-too-many
 
 condition-number : (s : List ℕ) (c : Context) (st : State) (i : Instr) {n : ℕ} → Proper s i → FirstBroken (conditions c st i) n → InstructionFault n
 condition-number s c st (block rs) proper (broken wrong) = type-out-of-reach
 condition-number s c st (block rs) proper (kept-then p (broken wrong)) = is-too-many
 condition-number s c st (loop rs) proper (broken wrong) = type-out-of-reach
 condition-number s c st (loop rs) proper (kept-then p (broken wrong)) = is-too-many
-condition-number s c st end proper (broken wrong) = is-bad-operand
-condition-number s c st end proper (kept-then p (broken wrong)) = is-values-left
-condition-number s c st end proper (kept-then p (kept-then q (broken wrong))) = is-too-many
+condition-number s c st end proper (broken wrong) = is-only-null
+condition-number s c st end proper (kept-then n (broken wrong)) = is-bad-operand
+condition-number s c st end proper (kept-then n (kept-then p (broken wrong))) = is-values-left
+condition-number s c st end proper (kept-then n (kept-then p (kept-then q (broken wrong)))) = is-too-many
 condition-number s c st (op o) proper b = asked-number c (scopeOf c st) (asks o) (answered s c (scopeOf c st) o proper) (λ m. last-number) b
 
 in-order : (o : Op) → rising (map numberOf (asks o)) ≡ true

@@ -1,5 +1,6 @@
 -- What the no to a body says. "A body: section, body size, 27, the locals entry by entry (bytes, 6, 4), then the first faulty
--- instruction: immediates, 6, 21, 23, 24, 25, 29, 22, operands from the top (20), 28, 4; last, 5." The conditions are the
+-- instruction: immediates, 6, 21, 23, 24, 25, 29, 22, operands from the top (20), 28, 4; last, 5." Where 20 stands, 31 of request 9 of document 02 stands too: the first operand
+-- at fault, from the top, decides. The conditions are the
 -- premises of the rules of facts_bodies; an instruction that keeps all of its own is derivable.
 use Prim.Native.Nat.{ℕ, suc, _+_, _≤_, _<_}
 use mathlib.Core.Path.{_≡_}
@@ -8,24 +9,41 @@ use mathlib.Core.Bool.{Bool, true, false}
 use mathlib.Core.List.{List, [], _∷_, _++_, map}
 use lib.ListN.{length}
 use Rattle.scope.specs.Sizes.{mostBytes, mostFrames, mostLocals}
-use Rattle.scope.specs.Refusals.{badOperand, valuesLeft, oversize, outOfReach, notAFunction, leftOver}
+use Rattle.scope.specs.Refusals.{badOperand, onlyNull, valuesLeft, oversize, outOfReach, notAFunction, leftOver}
 use Rattle.scope.specs.Reading.{got, refused}
 use Rattle.scope.specs.Numbers.{u32}
-use Rattle.scope.specs.Syntax.{Val, Definition, Types}
+use Rattle.scope.specs.Syntax.{Heap, Val, nullable, nonNull, Definition, Types}
 use Rattle.scope.specs.Order.{ValOrder, valBelow}
 use Rattle.scope.specs.Sections.{valAt}
 use Rattle.scope.specs.Judging.{accepted, rejected, judgeSection}
 use Rattle.scope.specs.Instructions.{Op, Instr, block, loop, end, op, instrAt}
-use Rattle.scope.specs.BodyRules.{Context, Plan, fault, fromTop}
-use Rattle.scope.specs.Bodies.{Operand, Frame, ofBlock, ofLoop, State, scopeOf, goesOn, judgeInstr, Function, startState, contextOf, judgeBody}
+use Rattle.scope.specs.BodyRules.{Context, Wanted, Plan, fault, fromTop}
+use Rattle.scope.specs.Bodies.{Operand, known, Frame, ofBlock, ofLoop, State, scopeOf, goesOn, judgeInstr, Function, startState, contextOf, judgeBody}
 use Rattle.facts_sections.specs.FirstFault.{FirstBroken}
 use Rattle.facts_sections.specs.FirstFault as rules
-use Rattle.facts_bodies.specs.Premises.{Each, ValReached, Takes, Puts}
+use Rattle.facts_bodies.specs.Premises.{Each, ValReached, Meets, Takes, Puts}
 use Rattle.facts_bodies.specs.Rules.{Rule}
 use Rattle.facts_bodies.specs.Typing.{passed, stopped, pastBlock, Roomy, Results, TypedInstr, TypedBody, Entry, Locals, EntriesAt, InstrsAt, FunctionType}
 use Rattle.facts_refusals.specs.Numbers.{ByteFault, InstructionFault, EntryNumber}
 use Rattle.facts_refusals.specs.Sections.{SaysNo}
 use Rattle.facts_refusals.specs.Instructions.{numberOf, asks, rising, askedRules}
+
+-- 31, request 9 of document 02: "would fit if it couldn't be null". A nullable reference does not meet what is wanted, and the
+-- non-null one does.
+pub data ButForNull (ts : Types) : Operand → Wanted → Type 0 where
+  but-for-null : {h : Heap} {w : Wanted} → ¬ Meets ts (known (nullable h)) w → Meets ts (known (nonNull h)) w → ButForNull ts (known (nullable h)) w
+
+-- from the top, the first operand that does not meet what is wanted is such a one
+pub data NullFirst (ts : Types) : List Wanted → List Operand → Type 0 where
+  null-here : {w : Wanted} {ws : List Wanted} {o : Operand} {os : List Operand} → ButForNull ts o w → NullFirst ts (w ∷ ws) (o ∷ os)
+  null-below : {w : Wanted} {ws : List Wanted} {o : Operand} {os : List Operand} → Meets ts o w → NullFirst ts ws os → NullFirst ts (w ∷ ws) (o ∷ os)
+
+-- at an `end`, and of an instruction that its rule allows
+pub record NoNullAtEnd (c : Context) (st : State) (vs : List Val) : Type 0 where
+  pub other : ¬ NullFirst (c .types) (fromTop vs) (st .operands)
+
+pub record NoNull (c : Context) (st : State) (o : Op) : Type 0 where
+  pub other : {p : Plan} → Rule c (scopeOf c st) o p → ¬ NullFirst (c .types) (p .wants) (st .operands)
 
 -- 20: operand missing or wrong. What is wanted, the top first, can be taken.
 pub data CanTake (c : Context) (st : State) (vs : List Val) : Type 0 where
@@ -66,10 +84,11 @@ openRules c st rs =
     ∷ record { says = length (st .frames) + 1 < mostFrames; number = oversize }
     ∷ []
 
--- 20, 28, 4
+-- 31 or 20, 28, 4
 abbrev pub endRules : Context → State → List rules.Rule
 endRules c st =
-    record { says = CanTake c st (resultsOf c (st .frames)); number = badOperand }
+    record { says = NoNullAtEnd c st (resultsOf c (st .frames)); number = onlyNull }
+    ∷ record { says = CanTake c st (resultsOf c (st .frames)); number = badOperand }
     ∷ record { says = Results c st (resultsOf c (st .frames)); number = valuesLeft }
     ∷ record { says = RoomPast (st .frames); number = oversize }
     ∷ []
@@ -80,7 +99,8 @@ conditions c st (loop rs) = openRules c st rs
 conditions c st end = endRules c st
 conditions c st (op o) =
     askedRules c (scopeOf c st) o
-    ++ record { says = Operands c st o; number = badOperand }
+    ++ record { says = NoNull c st o; number = onlyNull }
+    ∷ record { says = Operands c st o; number = badOperand }
     ∷ record { says = Room c st o; number = oversize }
     ∷ []
 

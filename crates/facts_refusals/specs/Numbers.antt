@@ -1,6 +1,6 @@
 -- The numbers of a refusal, by what was judged: the rows of document 01's table "When the loader says no".
 use Prim.Native.Nat.{ℕ}
-use Rattle.scope.specs.Refusals.{bytesEnd, badNumber, notListed, oversize, leftOver, outOfReach, badSupertype, noMatch, clauseNotOnStruct, describesNotEarlier, clausesDisagree, badDescriptor, badDescribes, badOperand, absent, notSet, badStruct, fieldFixed, badBranch, valuesLeft, noDefault}
+use Rattle.scope.specs.Refusals.{bytesEnd, badNumber, notListed, oversize, leftOver, outOfReach, badSupertype, noMatch, clauseNotOnStruct, describesNotEarlier, clausesDisagree, badDescriptor, badDescribes, badOperand, onlyNull, absent, notSet, badStruct, fieldFixed, badBranch, valuesLeft, noDefault}
 
 -- "byte faults (1 to 5)"
 pub data ByteFault : ℕ → Type 0 where
@@ -22,7 +22,7 @@ pub data RuleFault : ℕ → Type 0 where
   is-bad-descriptor : RuleFault badDescriptor
   is-bad-describes : RuleFault badDescribes
 
--- of an instruction: "6, 21, 23, 24, 25, 29, 22, operands from the top (20), 28, 4"
+-- of an instruction: "6, 21, 23, 24, 25, 29, 22, operands from the top (20), 28, 4", and 31 of request 9 where 20 is
 pub data InstructionFault : ℕ → Type 0 where
   type-out-of-reach : InstructionFault outOfReach
   is-absent : InstructionFault absent
@@ -31,6 +31,7 @@ pub data InstructionFault : ℕ → Type 0 where
   is-bad-branch : InstructionFault badBranch
   is-no-default : InstructionFault noDefault
   is-not-set : InstructionFault notSet
+  is-only-null : InstructionFault onlyNull
   is-bad-operand : InstructionFault badOperand
   is-values-left : InstructionFault valuesLeft
   is-too-many : InstructionFault oversize
