@@ -1,12 +1,27 @@
 // Type rule 2: whether a type's form matches its supertype's. Fields and value types are codes that lie one after the
 // other in the table; each answer is the rule's (scope's TypeRules.antt) over what the table says, for any words.
+use type_order::Fit;
 use type_table::Link;
 use type_table::Shape;
 ghost use mathlib.Core.Path.{_≡_};
 ghost use Rattle.scope.specs.Syntax.{struct, func};
+ghost use Rattle.scope.specs.Order.{valBelow};
 ghost use Rattle.scope.specs.TypeRules.{fieldMatches, formMatches, matchesSuper};
 ghost use Rattle.type_table.specs.View.{valAtCode, fieldAtCode, codesAt, view};
 ghost use Rattle.type_matching.specs.Lists.{codeMatches, codesMatch};
+
+// Of the three outcomes rule 2 relies on the first alone: a subtype fits. A type that would fit if it could not be null is no
+// subtype, and is 8 like any other that does not fit.
+fn subtype(rows: &[u16], codes: &[u16], a: u64, b: u64) -> bool
+    ensures { λ r. ⌜ r ≡ valBelow (view (now (rows .entry)) (now (codes .entry))) (valAtCode a) (valAtCode b) ⌝ }
+{
+    let fit = type_order::val_fit(rows, codes, a, b);
+    match fit {
+        Fit::Fits => true,
+        Fit::ButForNull => false,
+        Fit::Unfit => false,
+    }
+}
 
 // Mutability is equal; a fixed field's type is a subtype, a mutable one's is identical.
 fn field_matches(rows: &[u16], codes: &[u16], a: u64, b: u64) -> bool
@@ -22,7 +37,7 @@ fn field_matches(rows: &[u16], codes: &[u16], a: u64, b: u64) -> bool
         if b % 2 == 1 {
             false
         } else {
-            type_order::val_below(rows, codes, a / 2, b / 2)
+            subtype(rows, codes, a / 2, b / 2)
         }
     }
 }
@@ -34,7 +49,7 @@ fn code_matches(rows: &[u16], codes: &[u16], fields: bool, a: u64, b: u64) -> bo
     if fields {
         field_matches(rows, codes, a, b)
     } else {
-        type_order::val_below(rows, codes, a, b)
+        subtype(rows, codes, a, b)
     }
 }
 

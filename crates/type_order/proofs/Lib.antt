@@ -1,3 +1,4 @@
 pub mod Climbing
 pub mod Under
 pub mod Same
+pub mod Outcomes

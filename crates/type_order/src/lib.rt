@@ -1,4 +1,4 @@
-// Type rule 6: which heap types and which value types are below which. Types are given by their codes, and the table is
+// Type rule 6: which heap types are below which, and whether one value type fits another. Types are given by their codes, and the table is
 // read as it stands, for any words: each answer is that of the rule's test (scope's Order.antt) over what the table says.
 use scope::sizes;
 use type_table::HeapKind;
@@ -9,10 +9,18 @@ ghost use Rattle.scope.specs.Sizes.{mostSteps};
 ghost use Rattle.scope.specs.Abstract.{sameAbstract};
 ghost use Rattle.scope.specs.Syntax.{abstract, ref};
 ghost use Rattle.scope.specs.Memory.{abstractCode};
-ghost use Rattle.scope.specs.Order.{kindOf, bottomOf, abstractBelow, climbs, heapBelow, valBelow, sameVal};
+ghost use Rattle.scope.specs.Order.{kindOf, bottomOf, abstractBelow, climbs, heapBelow, valFit, sameVal};
 ghost use Rattle.type_abstract.specs.Heaps.{abstractAt};
 ghost use Rattle.type_table.specs.View.{heapAtCode, valAtCode, view};
 ghost use Rattle.type_order.specs.Named.{named};
+ghost use Rattle.type_order.specs.Outcomes.{fitIs};
+
+// What the test of one type against another comes to: it fits, it would fit if it could not be null, or it does not fit.
+pub enum Fit {
+    Fits,
+    ButForNull,
+    Unfit,
+}
 
 // From x up the declared supertypes to y.
 pub fn climbs_to(rows: &[u16], codes: &[u16], x: u64, y: u64) -> bool
@@ -97,36 +105,40 @@ pub fn heap_below(rows: &[u16], codes: &[u16], a: u64, b: u64) -> bool
     }
 }
 
-// Whether a reference is below the value type with the code b. A non-null reference is below the nullable one.
-fn ref_under(rows: &[u16], codes: &[u16], nullable: bool, h: u64, b: u64) -> bool
-    ensures { λ r. ⌜ r ≡ valBelow (view (now (rows .entry)) (now (codes .entry))) (ref nullable (heapAtCode h)) (valAtCode b) ⌝ }
+// A reference against the value type with the code b: the heaps decide, and then null. A non-null reference is below the
+// nullable one.
+fn ref_fit(rows: &[u16], codes: &[u16], nullable: bool, h: u64, b: u64) -> Fit
+    ensures { λ r. ⌜ r ≡ fitIs (valFit (view (now (rows .entry)) (now (codes .entry))) (ref nullable (heapAtCode h)) (valAtCode b)) ⌝ }
 {
     let upper = type_table::val_of(b);
     match upper {
-        ValKind::Number(_) => false,
+        ValKind::Number(_) => Fit::Unfit,
         ValKind::Ref(m, k) => {
+            if !heap_below(rows, codes, h, k) {
+                return Fit::Unfit;
+            }
             if m {
-                return heap_below(rows, codes, h, k);
+                return Fit::Fits;
             }
             if nullable {
-                return false;
+                return Fit::ButForNull;
             }
-            heap_below(rows, codes, h, k)
+            Fit::Fits
         }
     }
 }
 
-// Most comparisons are of a type with itself, which is below itself.
-pub fn val_below(rows: &[u16], codes: &[u16], a: u64, b: u64) -> bool
-    ensures { λ r. ⌜ r ≡ valBelow (view (now (rows .entry)) (now (codes .entry))) (valAtCode a) (valAtCode b) ⌝ }
+// Most comparisons are of a type with itself, which fits.
+pub fn val_fit(rows: &[u16], codes: &[u16], a: u64, b: u64) -> Fit
+    ensures { λ r. ⌜ r ≡ fitIs (valFit (view (now (rows .entry)) (now (codes .entry))) (valAtCode a) (valAtCode b)) ⌝ }
 {
     if a == b {
-        return true;
+        return Fit::Fits;
     }
     let lower = type_table::val_of(a);
     match lower {
-        ValKind::Number(_) => false,
-        ValKind::Ref(n, h) => ref_under(rows, codes, n, h, b),
+        ValKind::Number(_) => Fit::Unfit,
+        ValKind::Ref(n, h) => ref_fit(rows, codes, n, h, b),
     }
 }
 

@@ -7,8 +7,8 @@ use Rattle.type_matching.proofs.code_matches.Tie as tie
 field-matches-requires : tie.Need-field-matches-requires
 field-matches-requires c κs = search needs
 
-val-below-requires : tie.Need-val-below-requires
-val-below-requires c κs = search needs
+subtype-requires : tie.Need-subtype-requires
+subtype-requires c κs = search needs
 
 returns : tie.Need-returns
 returns c = search (code-exits, needs)
@@ -18,4 +18,4 @@ returns-2 c = search (code-exits, needs)
 
 pub code-matches-spec : {M : Type 1} → statement M
 code-matches-spec =
-    tie.close (tie.spec field-matches-requires val-below-requires returns returns-2)
+    tie.close (tie.spec field-matches-requires subtype-requires returns returns-2)

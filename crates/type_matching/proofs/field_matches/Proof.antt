@@ -7,8 +7,8 @@ use Rattle.type_matching.proofs.field_matches.Tie as tie
 same-val-requires : tie.Need-same-val-requires
 same-val-requires c κs = search needs
 
-val-below-requires : tie.Need-val-below-requires
-val-below-requires c κs = search needs
+subtype-requires : tie.Need-subtype-requires
+subtype-requires c κs = search needs
 
 returns : tie.Need-returns
 returns c = search (field-exits, needs)
@@ -24,4 +24,4 @@ returns-4 c = search (field-exits, needs)
 
 pub field-matches-spec : {M : Type 1} → statement M
 field-matches-spec =
-    tie.close (tie.spec same-val-requires val-below-requires returns returns-2 returns-3 returns-4)
+    tie.close (tie.spec same-val-requires subtype-requires returns returns-2 returns-3 returns-4)

@@ -1,8 +1,8 @@
--- `type_order::ref_under` meets its contract: heaps decide, unless a nullable reference would be below one that is not.
+-- `type_order::ref_fit` meets its contract: heaps decide, and then whether null is wrong.
 use borrow.Author.Needs.{needs}
 use Rattle.type_order.proofs.Same.{ref-exits}
-use Rattle.type_order.proofs.ref_under.Statement.{statement}
-use Rattle.type_order.proofs.ref_under.Tie as tie
+use Rattle.type_order.proofs.ref_fit.Statement.{statement}
+use Rattle.type_order.proofs.ref_fit.Tie as tie
 
 val-of-requires : tie.Need-val-of-requires
 val-of-requires c κs = search needs
@@ -22,17 +22,17 @@ returns c = search (ref-exits, needs)
 returns-2 : tie.Need-returns-2
 returns-2 c = search (ref-exits, needs)
 
-heap-below-requires-2 : tie.Need-heap-below-requires-2
-heap-below-requires-2 c κs = search needs
-
 returns-3 : tie.Need-returns-3
 returns-3 c = search (ref-exits, needs)
 
 returns-4 : tie.Need-returns-4
 returns-4 c = search (ref-exits, needs)
 
-pub ref-under-spec : {M : Type 1} → statement M
-ref-under-spec =
+returns-5 : tie.Need-returns-5
+returns-5 c = search (ref-exits, needs)
+
+pub ref-fit-spec : {M : Type 1} → statement M
+ref-fit-spec =
     tie.close
     (tie.spec
     val-of-requires
@@ -41,6 +41,6 @@ ref-under-spec =
     heap-below-requires
     returns
     returns-2
-    heap-below-requires-2
     returns-3
-    returns-4)
+    returns-4
+    returns-5)
