@@ -4,7 +4,7 @@ use mathlib.Core.Path.{_≡_, refl, sym, ap, _∙_}
 use mathlib.Core.Bool.{true, false}
 use mathlib.Core.List.{List, [], _++_}
 use native.Mathlib.Omega.{arith}
-use Rattle.scope.specs.Refusals.{oversize, badOperand}
+use Rattle.scope.specs.Refusals.{oversize}
 use Rattle.scope.specs.BodyRules.{Context, Ruled, allowed, fault, andRuled, fromTop}
 use Rattle.scope.specs.Bodies.{Operand, Taken, takeAll, put, marked, doPlan, State, Next, goesOn, withinOperands}
 use Rattle.type_table.specs.View.{linkAt, view}
@@ -89,7 +89,7 @@ module _ (rows codes work : List ℕ) (k : Scene) (st : Check) (p : Plain) where
   planned = plan-left codes (contextAt rows codes work k) (stateAt work (k .locals) st) p
 
 module _ (rows codes : List ℕ) {work : List ℕ} (k : Scene) (st : Check) (p : Plain) {r : Left} where
-  pub plain-missing : r ≡ Left.the-variants.Missing → leftOf work (st .base) r ≡ leftIn (takeAll (view rows codes) (st .dead) (wantsAt (p .top) ++ (wantsAt (p .second) ++ fromTop (valuesOf codes (p .rest)))) (stack work (st .base) (st .height))) → {work′ : List ℕ} → work′ ≡ work → Stepped work work′ (k .locals) (st .depth) (doPlan (contextAt rows codes work k) (stateAt work (k .locals) st) (plainOf codes p)) (Step.the-variants.Fault badOperand)
+  pub plain-missing : {number : ℕ} → r ≡ Left.the-variants.Fault number → leftOf work (st .base) r ≡ leftIn (takeAll (view rows codes) (st .dead) (wantsAt (p .top) ++ (wantsAt (p .second) ++ fromTop (valuesOf codes (p .rest)))) (stack work (st .base) (st .height))) → {work′ : List ℕ} → work′ ≡ work → Stepped work work′ (k .locals) (st .depth) (doPlan (contextAt rows codes work k) (stateAt work (k .locals) st) (plainOf codes p)) (Step.the-variants.Fault number)
   plain-missing m a e = stepped-fault (k .locals) (st .depth) e (sym (planned rows codes work k st p ∙ rw (sym a, m) refl))
 
   pub plain-on : {left : ℕ} → r ≡ Left.the-variants.Is left → leftOf work (st .base) r ≡ leftIn (takeAll (view rows codes) (st .dead) (wantsAt (p .top) ++ (wantsAt (p .second) ++ fromTop (valuesOf codes (p .rest)))) (stack work (st .base) (st .height))) → {work′ : List ℕ} {step : Step} → Stepped work work′ (k .locals) (st .depth) (withinOperands (afterPlain codes (stateAt work (k .locals) st) p (stack work (st .base) left))) step → Stepped work work′ (k .locals) (st .depth) (doPlan (contextAt rows codes work k) (stateAt work (k .locals) st) (plainOf codes p)) step

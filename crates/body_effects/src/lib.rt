@@ -1,4 +1,4 @@
-// What a plan does: it takes operands from the top (20), then gives, within the sizes (4), and sets a local.
+// What a plan does: it takes operands from the top (31, 20), then gives, within the sizes (4), and sets a local.
 use body_operands::Left;
 use body_push::Given;
 use body_state::Check;
@@ -87,10 +87,10 @@ fn do_plain(
     let second = plan.second;
     let rest = plan.rest;
     let taken = body_operands::take_plan(rows, codes, work, top, second, rest, base, height, dead);
-    let Left::Is(left) = taken else {
-        return Step::Fault(refusals::BAD_OPERAND);
-    };
-    give_plain(codes, work, locals, check, plan, left)
+    match taken {
+        Left::Fault(number) => Step::Fault(number),
+        Left::Is(left) => give_plain(codes, work, locals, check, plan, left),
+    }
 }
 
 // What a plan does, or its refusal's number.

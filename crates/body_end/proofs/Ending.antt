@@ -6,7 +6,7 @@ use mathlib.Core.Bool.{Bool, true, false}
 use mathlib.Core.List.{List, _∷_}
 use native.Mathlib.Omega.{arith}
 use lib.Dec.{eqb}
-use Rattle.scope.specs.Refusals.{oversize, badOperand, valuesLeft}
+use Rattle.scope.specs.Refusals.{oversize, valuesLeft}
 use Rattle.scope.specs.Syntax.{Val}
 use Rattle.scope.specs.BodyRules.{Context, Ruled, allowed, andRuled, fromTop}
 use Rattle.scope.specs.Bodies.{Operand, Frame, State, Taken, Next, goesOn, finished, onTop, takeAll, noneLeft, withinOperands, judgeBlockEnd, judgeEnd, judgeInstr}
@@ -43,7 +43,7 @@ none-left : (t : Ruled Taken) (os : List Operand) (more : Ruled Next) → (u : T
 none-left t os more (u, e, f) = rw (e, f)
 
 module _ (rows codes work : List ℕ) (list : Values) (base height : ℕ) (dead : Bool) {r : Left} where
-  pub end-missed : r ≡ Left.the-variants.Missing → leftOf work base r ≡ leftIn (takeAll (view rows codes) dead (fromTop (valuesOf codes list)) (stack work base height)) → EndsWith rows codes work list base height dead (End.the-variants.Fault badOperand)
+  pub end-missed : {number : ℕ} → r ≡ Left.the-variants.Fault number → leftOf work base r ≡ leftIn (takeAll (view rows codes) dead (fromTop (valuesOf codes list)) (stack work base height)) → EndsWith rows codes work list base height dead (End.the-variants.Fault number)
   end-missed e a =
       record { is = λ more. rw (left-missed work base (takeAll (view rows codes) dead (fromTop (valuesOf codes list)) (stack work base height)) e a) }
 

@@ -17,7 +17,7 @@ pub enum End {
     Fault(u64),
 }
 
-// The results from the top (20), then nothing is left (28).
+// The results from the top (31, 20), then nothing is left (28).
 fn end_with(
     rows: &[u16],
     codes: &[u16],
@@ -30,13 +30,15 @@ fn end_with(
     ensures { λ r. ⌜ EndsWith (now (rows .entry)) (now (codes .entry)) (now (work .entry)) list base height dead r ⌝ }
 {
     let taken = body_operands::take_list(rows, codes, work, list, base, height, dead);
-    let Left::Is(left) = taken else {
-        return End::Fault(refusals::BAD_OPERAND);
-    };
-    if left == 0 {
-        return End::Fine;
+    match taken {
+        Left::Fault(number) => End::Fault(number),
+        Left::Is(left) => {
+            if left == 0 {
+                return End::Fine;
+            }
+            End::Fault(refusals::VALUES_LEFT)
+        }
     }
-    End::Fault(refusals::VALUES_LEFT)
 }
 
 // Back in the frame around frame m, the innermost: its results are operands there. "Sets inside a block are forgotten at

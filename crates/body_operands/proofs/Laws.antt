@@ -12,7 +12,8 @@ use borrow.Author.Tests.{ne-eqb}
 use Rattle.scope.specs.Refusals.{badOperand}
 use Rattle.scope.specs.Syntax.{Types, Val}
 use Rattle.scope.specs.BodyRules.{Wanted, value, Ruled, allowed, fault, test, andRuled}
-use Rattle.scope.specs.Bodies.{Operand, known, unknown, Taken, alsoTaken, fits, takeAll, onTop}
+use Rattle.scope.specs.Order.{Fit, itFits, butForNull, unfit}
+use Rattle.scope.specs.Bodies.{Operand, known, unknown, Taken, alsoTaken, fit, operandTest, takeAll, onTop}
 use Rattle.scope.proofs.Impossible.{impossible}
 use Rattle.type_table.specs.View.{valAtCode}
 use Rattle.body_state.specs.Layout.{operandsFrom, wordBound, codeBound}
@@ -83,12 +84,17 @@ left-test : (o : Operand) (holds : Bool) (f : List Operand → Ruled (List Opera
 left-test o true f t u e = left-also o u ∙ e ∙ ap (λ (r : Ruled (List Operand)). andRuled r f) (sym (left-also o t))
 left-test o false f t u e = refl
 
+left-fit : (o : Operand) (outcome : Fit) (f : List Operand → Ruled (List Operand)) (t u : Ruled Taken) → leftIn u ≡ andRuled (leftIn t) f → leftIn (operandTest outcome (andRuled u (λ v. allowed (alsoTaken o v)))) ≡ andRuled (leftIn (operandTest outcome (andRuled t (λ v. allowed (alsoTaken o v))))) f
+left-fit o itFits f t u e = left-also o u ∙ e ∙ ap (λ (r : Ruled (List Operand)). andRuled r f) (sym (left-also o t))
+left-fit o butForNull f t u e = refl
+left-fit o unfit f t u e = refl
+
 module _ (ts : Types) (dead : Bool) where
   pub take-empty : (w : Wanted) → takeAll ts dead (w ∷ []) [] ≡ cond dead (allowed (record { taken = unknown ∷ []; left = [] })) (fault badOperand)
   unfolding takeAll
   take-empty w = refl
 
-  pub take-top : (w : Wanted) (o : Operand) (os : List Operand) → takeAll ts dead (w ∷ []) (o ∷ os) ≡ cond (fits ts o w) (allowed (record { taken = o ∷ []; left = os })) (fault badOperand)
+  pub take-top : (w : Wanted) (o : Operand) (os : List Operand) → takeAll ts dead (w ∷ []) (o ∷ os) ≡ operandTest (fit ts o w) (allowed (record { taken = o ∷ []; left = os }))
   unfolding takeAll
   take-top w o os = refl
 
@@ -99,7 +105,7 @@ module _ (ts : Types) (dead : Bool) where
   left-append (w ∷ ws) vs [] =
       left-test unknown dead (λ more. leftIn (takeAll ts dead vs more)) (takeAll ts dead ws []) (takeAll ts dead (ws ++ vs) []) (left-append ws vs [])
   left-append (w ∷ ws) vs (o ∷ os) =
-      left-test o (fits ts o w) (λ more. leftIn (takeAll ts dead vs more)) (takeAll ts dead ws os) (takeAll ts dead (ws ++ vs) os) (left-append ws vs os)
+      left-fit o (fit ts o w) (λ more. leftIn (takeAll ts dead vs more)) (takeAll ts dead ws os) (takeAll ts dead (ws ++ vs) os) (left-append ws vs os)
 
 -- what an answer tells of what was taken
 
@@ -109,10 +115,10 @@ left-got work base (allowed u) {height = height} e a =
 left-got work base (fault n) {height = height} e a =
     let same : allowed (stack work base height) ≡ fault n = rw e at a in impossible cc
 
-pub left-missed : (work : List ℕ) (base : ℕ) (t : Ruled Taken) {r : Left} → r ≡ Left.the-variants.Missing → leftOf work base r ≡ leftIn t → t ≡ fault badOperand
-left-missed work base (allowed u) e a =
-    let same : fault badOperand ≡ allowed (u .left) = rw e at a in impossible cc
-left-missed work base (fault n) e a = let same : _≡_ {A = Ruled (List Operand)} (fault badOperand) (fault n) = rw e at a in cc
+pub left-missed : (work : List ℕ) (base : ℕ) (t : Ruled Taken) {r : Left} {number : ℕ} → r ≡ Left.the-variants.Fault number → leftOf work base r ≡ leftIn t → t ≡ fault number
+left-missed work base (allowed u) {number = number} e a =
+    let same : fault number ≡ allowed (u .left) = rw e at a in impossible cc
+left-missed work base (fault n) {number = number} e a = let same : _≡_ {A = Ruled (List Operand)} (fault number) (fault n) = rw e at a in cc
 
 -- putting
 

@@ -1,11 +1,16 @@
 -- Each way out of taking one operand from the top, and of taking one or none.
 use Prim.Native.Nat.{ℕ, _+_, _-_}
-use mathlib.Core.Path.{_≡_, refl, sym}
-use mathlib.Core.Bool.{Bool, true, false, cond}
+use mathlib.Core.Path.{_≡_, refl, sym, _∙_}
+use mathlib.Core.Bool.{Bool, true, false}
 use mathlib.Core.List.{List, [], _∷_}
 use borrow.Author.Tests.{ne-eqb}
+use Rattle.scope.specs.Refusals.{badOperand, onlyNull}
 use Rattle.scope.specs.Syntax.{Types}
-use Rattle.scope.specs.Bodies.{fits, takeAll}
+use Rattle.scope.specs.Bodies.{fit, operandTest, takeAll}
+use Rattle.type_order.specs.declared.Fit.{Fit}
+use Rattle.type_order.specs.declared.Fit
+use Rattle.type_order.specs.Outcomes.{fitIs}
+use Rattle.type_order.proofs.Outcomes.{is-fits, is-but-for-null, is-unfit}
 use Rattle.lent_u32.specs.Scratch.{Word32At}
 use Rattle.body_state.specs.Layout.{operandsFrom}
 use Rattle.body_state.specs.State.{operandAtCode, wantedAtCode, wantsAt, stack}
@@ -24,18 +29,21 @@ module _ (ts : Types) (dead : Bool) (work : List ℕ) (w base : ℕ) {height : �
     unfolding operandAtCode
     took-unknown d = rw (stack-none work base e, stack-none work base {height = 0} refl, take-empty ts dead (wantedAtCode w), d)
 
-    pub took-nothing : dead ≡ false → tookOf work base Take.the-variants.Missing ≡ takeAll ts dead (wantedAtCode w ∷ []) (stack work base height)
+    pub took-nothing : dead ≡ false → tookOf work base (Take.the-variants.Fault badOperand) ≡ takeAll ts dead (wantedAtCode w ∷ []) (stack work base height)
     took-nothing d = rw (stack-none work base e, take-empty ts dead (wantedAtCode w), d)
 
-  module _ (n : height ≡ 0 → ⊥) {o : ℕ} (a : Word32At work (operandsFrom + (base + (height - 1))) o) {below : Bool} (b : below ≡ fits ts (operandAtCode o) (wantedAtCode w)) where
-    took : takeAll ts dead (wantedAtCode w ∷ []) (stack work base height) ≡ cond below (tookOf work base (Take.the-variants.Took o (height - 1))) (tookOf work base Take.the-variants.Missing)
-    took = rw (stack-some work base n, ← a .is, take-top ts dead (wantedAtCode w) (operandAtCode o) (stack work base (height - 1)), ← b)
+  module _ (n : height ≡ 0 → ⊥) {o : ℕ} (a : Word32At work (operandsFrom + (base + (height - 1))) o) {r : Fit} (b : r ≡ fitIs (fit ts (operandAtCode o) (wantedAtCode w))) where
+    took : takeAll ts dead (wantedAtCode w ∷ []) (stack work base height) ≡ operandTest (fit ts (operandAtCode o) (wantedAtCode w)) (tookOf work base (Take.the-variants.Took o (height - 1)))
+    took = rw (stack-some work base n, ← a .is, take-top ts dead (wantedAtCode w) (operandAtCode o) (stack work base (height - 1)))
 
-    pub took-top : below ≡ true → tookOf work base (Take.the-variants.Took o (height - 1)) ≡ takeAll ts dead (wantedAtCode w ∷ []) (stack work base height)
-    took-top e = sym (rw e at took)
+    pub took-top : r ≡ Fit.the-variants.Fits → tookOf work base (Take.the-variants.Took o (height - 1)) ≡ takeAll ts dead (wantedAtCode w ∷ []) (stack work base height)
+    took-top e = sym (rw (is-fits (fit ts (operandAtCode o) (wantedAtCode w)) (sym e ∙ b)) at took)
 
-    pub took-wrong : below ≡ false → tookOf work base Take.the-variants.Missing ≡ takeAll ts dead (wantedAtCode w ∷ []) (stack work base height)
-    took-wrong e = sym (rw e at took)
+    pub took-null : r ≡ Fit.the-variants.ButForNull → tookOf work base (Take.the-variants.Fault onlyNull) ≡ takeAll ts dead (wantedAtCode w ∷ []) (stack work base height)
+    took-null e = sym (rw (is-but-for-null (fit ts (operandAtCode o) (wantedAtCode w)) (sym e ∙ b)) at took)
+
+    pub took-wrong : r ≡ Fit.the-variants.Unfit → tookOf work base (Take.the-variants.Fault badOperand) ≡ takeAll ts dead (wantedAtCode w ∷ []) (stack work base height)
+    took-wrong e = sym (rw (is-unfit (fit ts (operandAtCode o) (wantedAtCode w)) (sym e ∙ b)) at took)
 
 -- one or none
 
@@ -52,7 +60,7 @@ module _ (ts : Types) (dead : Bool) (work : List ℕ) {w : ℕ} (base height : �
     pub wants-got : {r : Take} {o left : ℕ} → r ≡ Take.the-variants.Took o left → tookOf work base r ≡ takeAll ts dead (wantedAtCode (w - 1) ∷ []) (stack work base height) → leftOf work base (Left.the-variants.Is left) ≡ leftIn (takeAll ts dead (wantsAt w) (stack work base height))
     wants-got e a = rw (one-wanted, ← a, e)
 
-    pub wants-missed : {r : Take} → r ≡ Take.the-variants.Missing → tookOf work base r ≡ takeAll ts dead (wantedAtCode (w - 1) ∷ []) (stack work base height) → leftOf work base Left.the-variants.Missing ≡ leftIn (takeAll ts dead (wantsAt w) (stack work base height))
+    pub wants-missed : {r : Take} {number : ℕ} → r ≡ Take.the-variants.Fault number → tookOf work base r ≡ takeAll ts dead (wantedAtCode (w - 1) ∷ []) (stack work base height) → leftOf work base (Left.the-variants.Fault number) ≡ leftIn (takeAll ts dead (wantsAt w) (stack work base height))
     wants-missed e a = rw (one-wanted, ← a, e)
 
-pub ruleset one-exits = (took-unknown, took-nothing, took-top, took-wrong, wants-none, wants-got, wants-missed)
+pub ruleset one-exits = (took-unknown, took-nothing, took-top, took-null, took-wrong, wants-none, wants-got, wants-missed)

@@ -49,7 +49,7 @@ module _ {ts : Types} {dead : Bool} {work : List ℕ} {base height : ℕ} {codes
   list-one : (r : Take) → tookOf work base r ≡ takeAll ts dead (wantedAtCode (c + 2) ∷ []) (stack work base left) → leftIn (takeAll ts dead (fromTop (valuesOf codes list)) (stack work base height)) ≡ andRuled (leftIn (tookOf work base r)) (λ more. leftIn (takeAll ts dead (fromTop (take (i - 1) (valuesOf codes list))) more))
   list-one r b = list-next p h (a .is (omega (arith, p .upTo))) ∙ rw (b, value-code c)
 
-  pub list-missed : {r : Take} → r ≡ Take.the-variants.Missing → tookOf work base r ≡ takeAll ts dead (wantedAtCode (c + 2) ∷ []) (stack work base left) → leftOf work base Left.the-variants.Missing ≡ leftIn (takeAll ts dead (fromTop (valuesOf codes list)) (stack work base height))
+  pub list-missed : {r : Take} {number : ℕ} → r ≡ Take.the-variants.Fault number → tookOf work base r ≡ takeAll ts dead (wantedAtCode (c + 2) ∷ []) (stack work base left) → leftOf work base (Left.the-variants.Fault number) ≡ leftIn (takeAll ts dead (fromTop (valuesOf codes list)) (stack work base height))
   list-missed {r} e b = sym (rw e at (list-one r b))
 
   pub list-turn : {r : Take} {o fewer : ℕ} → r ≡ Take.the-variants.Took o fewer → tookOf work base r ≡ takeAll ts dead (wantedAtCode (c + 2) ∷ []) (stack work base left) → FromTop ts dead work base height (valuesOf codes list) fewer (i - 1)
@@ -58,7 +58,7 @@ module _ {ts : Types} {dead : Bool} {work : List ℕ} {base height : ℕ} {codes
 -- a plan
 
 module _ (ts : Types) (dead : Bool) (work : List ℕ) (base : ℕ) (ws vs : List Wanted) (os : List Operand) {r : Left} where
-  pub part-missed : r ≡ Left.the-variants.Missing → leftOf work base r ≡ leftIn (takeAll ts dead ws os) → leftOf work base Left.the-variants.Missing ≡ leftIn (takeAll ts dead (ws ++ vs) os)
+  pub part-missed : {number : ℕ} → r ≡ Left.the-variants.Fault number → leftOf work base r ≡ leftIn (takeAll ts dead ws os) → leftOf work base (Left.the-variants.Fault number) ≡ leftIn (takeAll ts dead (ws ++ vs) os)
   part-missed e a = rw (left-append ts dead ws vs os, ← a, e)
 
   pub part-got : {h : ℕ} → r ≡ Left.the-variants.Is h → leftOf work base r ≡ leftIn (takeAll ts dead ws os) → {x : Ruled (List Operand)} → x ≡ leftIn (takeAll ts dead vs (stack work base h)) → x ≡ leftIn (takeAll ts dead (ws ++ vs) os)

@@ -5,7 +5,6 @@ use mathlib.Core.Path.{_≡_}
 use mathlib.Core.List.{List, [], _∷_, _++_}
 use lib.ListN.{length, getD}
 use Rattle.scope.specs.Sizes.{mostOperands}
-use Rattle.scope.specs.Refusals.{badOperand}
 use Rattle.scope.specs.BodyRules.{Ruled, allowed, fault, andRuled}
 use Rattle.scope.specs.Bodies.{Operand, Taken}
 use Rattle.body_state.specs.Layout.{operandsFrom, framesFrom, usedSize}
@@ -18,7 +17,7 @@ use Rattle.body_operands.specs.declared.Left
 -- one operand, and what is left of the frame's
 abbrev pub tookOf : List ℕ → ℕ → Take → Ruled Taken
 tookOf work base (Take.the-variants.Took o h) = allowed (record { taken = operandAtCode o ∷ []; left = stack work base h })
-tookOf work base Take.the-variants.Missing = fault badOperand
+tookOf work base (Take.the-variants.Fault n) = fault n
 
 -- what is left, where what was taken is of no more use
 abbrev pub leftIn : Ruled Taken → Ruled (List Operand)
@@ -26,7 +25,7 @@ leftIn t = andRuled t (λ u. allowed (u .left))
 
 abbrev pub leftOf : List ℕ → ℕ → Left → Ruled (List Operand)
 leftOf work base (Left.the-variants.Is h) = allowed (stack work base h)
-leftOf work base Left.the-variants.Missing = fault badOperand
+leftOf work base (Left.the-variants.Fault n) = fault n
 
 -- n more operands are within the sizes
 pub record Room (work : List ℕ) (base height n : ℕ) : Type 0 where

@@ -1,13 +1,18 @@
 // Operands of a body's check, taken from the top of the scratch's stack and put there. Taking reads only: what is left is a
 // number of operands. Each answer is that of document 01's rules (scope's Bodies.antt) over what the words say.
 use body_state::Values;
+use scope::refusals;
+use type_order::Fit;
 ghost use mathlib.Core.Path.{_≡_};
+ghost use mathlib.Core.Bool.{cond};
 ghost use mathlib.Core.List.{[], _∷_, _++_};
 ghost use Prim.Native.Nat.{_+_, _%_};
 ghost use lib.ListN.{length};
 ghost use Rattle.scope.specs.BodyRules.{fromTop};
-ghost use Rattle.scope.specs.Bodies.{fits, takeAll, onTop};
+ghost use Rattle.scope.specs.Order.{itFits, unfit};
+ghost use Rattle.scope.specs.Bodies.{fit, takeAll, onTop};
 ghost use Rattle.type_table.specs.View.{view};
+ghost use Rattle.type_order.specs.Outcomes.{fitIs};
 ghost use Rattle.body_state.specs.Layout.{wordBound};
 ghost use Rattle.body_state.specs.State.{operandAtCode, wantedAtCode, wantsAt, valuesOf, stack};
 ghost use Rattle.body_operands.specs.Taking.{tookOf, leftOf, leftIn, Room, Pushed};
@@ -27,45 +32,52 @@ pub const ANY_REFERENCE: u64 = 1;
 // The words of references begin here, after those of the four number types.
 pub const REFERENCES: u64 = 6;
 
-// The operand's word, and how many operands are left in the frame.
+// The operand's word, and how many operands are left in the frame; or the refusal's number.
 pub enum Take {
     Took(u32, u32),
-    Missing,
+    Fault(u64),
 }
 
-// How many operands are left in the frame.
+// How many operands are left in the frame; or the refusal's number.
 pub enum Left {
     Is(u32),
-    Missing,
+    Fault(u64),
+}
+
+// A reference where one is wanted: it fits, and a number does not.
+fn as_reference(reference: bool) -> Fit
+    ensures { λ r. ⌜ r ≡ fitIs (cond reference itFits unfit) ⌝ }
+{
+    if reference { Fit::Fits } else { Fit::Unfit }
 }
 
 // "An unknown is below every type": a non-null reference of unknown heap, below every reference type. Most operands are of the
 // very type that is wanted, so that is asked first.
-pub fn fits_word(rows: &[u16], codes: &[u16], o: u64, w: u64) -> bool
-    ensures { λ r. ⌜ r ≡ fits (view (now (rows .entry)) (now (codes .entry))) (operandAtCode o) (wantedAtCode w) ⌝ }
+pub fn fit_word(rows: &[u16], codes: &[u16], o: u64, w: u64) -> Fit
+    ensures { λ r. ⌜ r ≡ fitIs (fit (view (now (rows .entry)) (now (codes .entry))) (operandAtCode o) (wantedAtCode w)) ⌝ }
 {
     if o == w {
-        return true;
+        return Fit::Fits;
     }
     if o == UNKNOWN {
-        return true;
+        return Fit::Fits;
     }
     if w == ANY_VALUE {
-        return true;
+        return Fit::Fits;
     }
     if o == UNKNOWN_REFERENCE {
         if w == ANY_REFERENCE {
-            return true;
+            return Fit::Fits;
         }
-        return REFERENCES <= w;
+        return as_reference(REFERENCES <= w);
     }
     if w == ANY_REFERENCE {
-        return REFERENCES <= o;
+        return as_reference(REFERENCES <= o);
     }
-    type_order::val_below(rows, codes, o - KNOWN, w - KNOWN)
+    type_order::val_fit(rows, codes, o - KNOWN, w - KNOWN)
 }
 
-// One operand from the top.
+// One operand from the top: 31 where only null is wrong, 20 where it is missing or does not fit.
 pub fn take_one(
     rows: &[u16],
     codes: &[u16],
@@ -84,15 +96,16 @@ pub fn take_one(
         if dead {
             return Take::Took(UNKNOWN as u32, 0);
         }
-        return Take::Missing;
+        return Take::Fault(refusals::BAD_OPERAND);
     }
     let left = height - 1;
     let o = body_state::operand_word(work, base, left);
-    let below = fits_word(rows, codes, o, w);
-    if below {
-        return Take::Took(o as u32, left);
+    let fit = fit_word(rows, codes, o, w);
+    match fit {
+        Fit::Fits => Take::Took(o as u32, left),
+        Fit::ButForNull => Take::Fault(refusals::ONLY_NULL),
+        Fit::Unfit => Take::Fault(refusals::BAD_OPERAND),
     }
-    Take::Missing
 }
 
 // One operand or none: 0 is none, else one more than the word of what is wanted.
@@ -116,7 +129,7 @@ fn take_some(
     let taken = take_one(rows, codes, work, w - 1, base, height, dead);
     match taken {
         Take::Took(_, left) => Left::Is(left),
-        Take::Missing => Left::Missing,
+        Take::Fault(number) => Left::Fault(number),
     }
 }
 
@@ -142,11 +155,15 @@ pub fn take_list(
         let last = i - 1;
         let code = body_state::code_of(codes, list, last);
         let taken = take_one(rows, codes, work, code + KNOWN, base, left, dead);
-        let Take::Took(_, fewer) = taken else {
-            return Left::Missing;
-        };
-        left = fewer;
-        i = last;
+        match taken {
+            Take::Fault(number) => {
+                return Left::Fault(number);
+            }
+            Take::Took(_, fewer) => {
+                left = fewer;
+                i = last;
+            }
+        }
     }
     Left::Is(left)
 }
@@ -170,14 +187,16 @@ pub fn take_plan(
         ⌜ leftOf words base r ≡ leftIn (takeAll types dead wants (stack words base height)) ⌝ }
 {
     let first = take_some(rows, codes, work, top, base, height, dead);
-    let Left::Is(below) = first else {
-        return Left::Missing;
-    };
-    let next = take_some(rows, codes, work, second, base, below, dead);
-    let Left::Is(left) = next else {
-        return Left::Missing;
-    };
-    take_list(rows, codes, work, rest, base, left, dead)
+    match first {
+        Left::Fault(number) => Left::Fault(number),
+        Left::Is(below) => {
+            let next = take_some(rows, codes, work, second, base, below, dead);
+            match next {
+                Left::Fault(number) => Left::Fault(number),
+                Left::Is(left) => take_list(rows, codes, work, rest, base, left, dead),
+            }
+        }
+    }
 }
 
 // An operand's word on top.

@@ -14,7 +14,7 @@ use Rattle.scope.specs.Lists.{every}
 use Rattle.scope.specs.Abstract.{Abstract, sameAbstract}
 use Rattle.scope.specs.Syntax.{Heap, Val, ref, nullable, Types}
 use Rattle.scope.specs.Memory.{abstractCode}
-use Rattle.scope.specs.Order.{valBelow}
+use Rattle.scope.specs.Order.{valBelow, valFit}
 use Rattle.scope.specs.TypeRules.{heapNames}
 use Rattle.scope.specs.BodyRules.{value, need, andRuled, topOf, oneHierarchy, descriptorFor, branches, planOf}
 use Rattle.scope.proofs.Truths.{decided}
@@ -27,6 +27,10 @@ use Rattle.type_table.specs.declared.Link.{Link}
 use Rattle.type_table.specs.declared.Link
 use Rattle.type_reach.specs.Names.{allBelow}
 use Rattle.type_reach.proofs.Naming.{below-append}
+use Rattle.type_order.specs.declared.Fit.{Fit}
+use Rattle.type_order.specs.declared.Fit
+use Rattle.type_order.specs.Outcomes.{fitIs}
+use Rattle.type_order.proofs.Outcomes.{outcome-fits, outcome-null, outcome-unfit}
 use Rattle.body_state.specs.declared.Scene.{Scene}
 use Rattle.body_state.specs.declared.Values.{Values}
 use Rattle.body_state.specs.declared.Planned.{Planned}
@@ -135,16 +139,22 @@ module _ (codes : List ℕ) (ts : Types) (first source carried falls : ℕ) (lab
   unfolding plannedOf
   without-types q = record { is = rw (← b .is, q) }
 
-  module _ {v : Values} {w : ℕ} (q : s ≡ Split.the-variants.Is v w) {u : Bool} (d : u ≡ valBelow ts (valAtCode carried) (valAtCode w)) where
-    pub carried-not-below : not u ≡ true → Carries codes ts first source carried falls label (Planned.the-variants.Fault badBranch)
+  module _ {v : Values} {w : ℕ} (q : s ≡ Split.the-variants.Is v w) {u : Fit} (d : u ≡ fitIs (valFit ts (valAtCode carried) (valAtCode w))) where
+    not-below : valBelow ts (valAtCode carried) (valAtCode w) ≡ false → Carries codes ts first source carried falls label (Planned.the-variants.Fault badBranch)
     unfolding plannedOf
-    carried-not-below f = record { is = rw (← b .is, q, ← d, not-true u f) }
+    not-below e = record { is = rw (← b .is, q, e) }
 
-    pub carried-below : not u ≡ false → Small source falls → Carries codes ts first source carried falls label (Planned.the-variants.Plain (record { top = first; second = source + 3; rest = v; back = true; gives = falls + 1; marks = 0; stops = false }))
+    pub carried-nullable : u ≡ Fit.the-variants.ButForNull → Carries codes ts first source carried falls label (Planned.the-variants.Fault badBranch)
+    carried-nullable f = not-below (sym (outcome-null ts (valAtCode carried) (valAtCode w) d f))
+
+    pub carried-unfit : u ≡ Fit.the-variants.Unfit → Carries codes ts first source carried falls label (Planned.the-variants.Fault badBranch)
+    carried-unfit f = not-below (sym (outcome-unfit ts (valAtCode carried) (valAtCode w) d f))
+
+    pub carried-below : u ≡ Fit.the-variants.Fits → Small source falls → Carries codes ts first source carried falls label (Planned.the-variants.Plain (record { top = first; second = source + 3; rest = v; back = true; gives = falls + 1; marks = 0; stops = false }))
     unfolding plannedOf plainOf
-    carried-below f small = record { is = rw (← b .is, q, ← d, not-false u f, wants-value source, gives-value (small .second)) }
+    carried-below f small = record { is = rw (← b .is, q, ← outcome-fits ts (valAtCode carried) (valAtCode w) d f, wants-value source, gives-value (small .second)) }
 
-pub ruleset carry-exits = (without-types, carried-not-below, carried-below)
+pub ruleset carry-exits = (without-types, carried-nullable, carried-unfit, carried-below)
 
 -- form_carries
 

@@ -8,6 +8,7 @@ use body_state::Planned;
 use body_state::Scene;
 use body_state::Values;
 use scope::refusals;
+use type_order::Fit;
 use type_table::Link;
 ghost use mathlib.Core.Bool.{not, _&&_};
 ghost use Prim.Native.Nat.{_<_};
@@ -121,20 +122,25 @@ fn carries(
     match split {
         Split::Nothing => Planned::Fault(refusals::BAD_BRANCH),
         Split::Is(before, last) => {
-            if !type_order::val_below(rows, codes, carried, last) {
-                return Planned::Fault(refusals::BAD_BRANCH);
+            // the label's rule relies on the first outcome alone, and makes 25 of the other two
+            let fit = type_order::val_fit(rows, codes, carried, last);
+            match fit {
+                Fit::ButForNull => Planned::Fault(refusals::BAD_BRANCH),
+                Fit::Unfit => Planned::Fault(refusals::BAD_BRANCH),
+                Fit::Fits => {
+                    let second = source + WANTED;
+                    let gives = falls + GIVEN;
+                    Planned::Plain(Plain {
+                        top: first,
+                        second: second,
+                        rest: before,
+                        back: true,
+                        gives: gives,
+                        marks: 0,
+                        stops: false,
+                    })
+                }
             }
-            let second = source + WANTED;
-            let gives = falls + GIVEN;
-            Planned::Plain(Plain {
-                top: first,
-                second: second,
-                rest: before,
-                back: true,
-                gives: gives,
-                marks: 0,
-                stops: false,
-            })
         }
     }
 }

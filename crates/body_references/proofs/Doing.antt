@@ -9,7 +9,7 @@ use lib.ListN.{length}
 use mir.Syntax.{w32}
 use mir.Val.{Fits}
 use Rattle.scope.specs.Sizes.{mostOperands}
-use Rattle.scope.specs.Refusals.{oversize, badOperand}
+use Rattle.scope.specs.Refusals.{oversize}
 use Rattle.scope.specs.Syntax.{nullable, nonNull, defined, exact}
 use Rattle.scope.specs.BodyRules.{value, allowed}
 use Rattle.scope.specs.Bodies.{known, fits, nonNullOf, takeAll, put, doPlan, State, goesOn, withinOperands}
@@ -64,12 +64,12 @@ wanted-x : (x : ℕ) → wantedAtCode (2 + (5 + 2 * (10 + 2 * x))) ≡ value (nu
 wanted-x x = let same : 2 + (5 + 2 * (10 + 2 * x)) ≡ 2 + valCode (nullable (defined x)) = omega arith in ap wantedAtCode same ∙ wanted-of (nullable (defined x))
 
 module _ (rows codes : List ℕ) {work : List ℕ} (k : Scene) (st : Check) {r : Take} where
-  module _ (m : r ≡ Take.the-variants.Missing) where
-    pub non-null-missing : tookOf work (st .base) r ≡ takeAll (view rows codes) (st .dead) (wantedAtCode 1 ∷ []) (stack work (st .base) (st .height)) → {work′ : List ℕ} → work′ ≡ work → Stepped work work′ (k .locals) (st .depth) (nonNullDone (contextAt rows codes work k) (stateAt work (k .locals) st)) (Step.the-variants.Fault badOperand)
+  module _ {number : ℕ} (m : r ≡ Take.the-variants.Fault number) where
+    pub non-null-missing : tookOf work (st .base) r ≡ takeAll (view rows codes) (st .dead) (wantedAtCode 1 ∷ []) (stack work (st .base) (st .height)) → {work′ : List ℕ} → work′ ≡ work → Stepped work work′ (k .locals) (st .depth) (nonNullDone (contextAt rows codes work k) (stateAt work (k .locals) st)) (Step.the-variants.Fault number)
     unfolding nonNullDone doPlan contextAt stateAt wantedAtCode
     non-null-missing a e = stepped-fault (k .locals) (st .depth) e (let b = rw m at a in rw (sym b))
 
-    pub descriptor-missing : (x y : ℕ) → tookOf work (st .base) r ≡ takeAll (view rows codes) (st .dead) (wantedAtCode (2 + (5 + 2 * (10 + 2 * x))) ∷ []) (stack work (st .base) (st .height)) → {work′ : List ℕ} → work′ ≡ work → Stepped work work′ (k .locals) (st .depth) (descriptorDone x y (contextAt rows codes work k) (stateAt work (k .locals) st)) (Step.the-variants.Fault badOperand)
+    pub descriptor-missing : (x y : ℕ) → tookOf work (st .base) r ≡ takeAll (view rows codes) (st .dead) (wantedAtCode (2 + (5 + 2 * (10 + 2 * x))) ∷ []) (stack work (st .base) (st .height)) → {work′ : List ℕ} → work′ ≡ work → Stepped work work′ (k .locals) (st .depth) (descriptorDone x y (contextAt rows codes work k) (stateAt work (k .locals) st)) (Step.the-variants.Fault number)
     unfolding descriptorDone doPlan contextAt stateAt
     descriptor-missing x y a e = stepped-fault (k .locals) (st .depth) e (let b = rw (m, wanted-x x) at a in rw (sym b))
 

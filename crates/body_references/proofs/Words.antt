@@ -1,17 +1,23 @@
 -- The words of the two results: a reference that is not null, and a descriptor's.
 use Prim.Native.Nat.{ℕ, _+_, _-_, _*_, _/_, _%_, _≤_, _<_}
-use mathlib.Core.Path.{_≡_, refl, ap, _∙_}
+use mathlib.Core.Path.{_≡_, refl, sym, ap, _∙_}
 use mathlib.Core.Bool.{Bool, true, false, cond}
 use native.Mathlib.Omega.{arith}
 use lib.Dec.{eqb}
 use borrow.Author.Tests.{ne-eqb, eqb-true, eqb-false}
 use Rattle.scope.specs.Syntax.{defined, exact, Val, num, ref, nullable, nonNull, Types}
-use Rattle.scope.specs.BodyRules.{value}
-use Rattle.scope.specs.Bodies.{known, nonNullOf, fits}
+use Rattle.scope.specs.Order.{itFits, butForNull, unfit}
+use Rattle.scope.specs.Order.{Fit as Outcome}
+use Rattle.scope.specs.BodyRules.{Wanted, value}
+use Rattle.scope.specs.Bodies.{Operand, known, nonNullOf, fits, fit}
 use Rattle.scope.specs.Memory.{valCode}
 use Rattle.type_table.specs.View.{isOdd, numberAt, heapAtCode, valAtCode}
 use Rattle.type_table.proofs.Codes.{val-number, val-ref}
 use Rattle.type_table.proofs.CodesBack.{val-code}
+use Rattle.type_order.specs.declared.Fit.{Fit}
+use Rattle.type_order.specs.declared.Fit
+use Rattle.type_order.specs.Outcomes.{fitIs}
+use Rattle.type_order.proofs.Outcomes.{is-fits, is-but-for-null, is-unfit}
 use Rattle.body_state.specs.State.{operandAtCode, wantedAtCode}
 use Rattle.body_operands.proofs.Laws.{known-word, value-word}
 
@@ -59,14 +65,38 @@ wanted-of v =
     let same : 2 + valCode v - 2 ≡ valCode v = omega arith in
     value-word (λ e. omega arith) (λ e. omega arith) ∙ ap (λ (c : ℕ). value (valAtCode c)) same ∙ ap value (val-code v)
 
-module _ (ts : Types) (o x y : ℕ) {b : Bool} (a : b ≡ fits ts (operandAtCode o) (wantedAtCode (2 + (5 + 2 * (11 + 2 * x))))) where
-  asked : b ≡ fits ts (operandAtCode o) (value (nullable (exact x)))
-  asked = a ∙ ap (fits ts (operandAtCode o)) (ap wantedAtCode (let e : 2 + (5 + 2 * (11 + 2 * x)) ≡ 2 + valCode (nullable (exact x)) = omega arith in e) ∙ wanted-of (nullable (exact x)))
+abbrev isFirst : Outcome → Bool
+isFirst itFits = true
+isFirst butForNull = false
+isFirst unfit = false
 
-  pub exact-descriptor : b ≡ true → operandAtCode (2 + (4 + 2 * (11 + 2 * y))) ≡ known (nonNull (cond (fits ts (operandAtCode o) (value (nullable (exact x)))) (exact y) (defined y)))
-  exact-descriptor e = let w : 2 + (4 + 2 * (11 + 2 * y)) ≡ 2 + valCode (nonNull (exact y)) = omega arith in rw (← asked, e, w) (word-of (nonNull (exact y)))
+-- what an operand's outcome says of whether it fits
+fit-tested : (ts : Types) (o : Operand) (w : Wanted) (f : Outcome) → fit ts o w ≡ f → fits ts o w ≡ isFirst f
+unfolding fit
+fit-tested ts o w f e = go (fits ts o w) (fits ts (nonNullOf o) w) e
+  where
+    go : (b c : Bool) → cond b itFits (cond c butForNull unfit) ≡ f → b ≡ isFirst f
+    go true c e = ap isFirst e
+    go false true e = ap isFirst e
+    go false false e = ap isFirst e
 
-  pub plain-descriptor : b ≡ false → operandAtCode (2 + (4 + 2 * (10 + 2 * y))) ≡ known (nonNull (cond (fits ts (operandAtCode o) (value (nullable (exact x)))) (exact y) (defined y)))
-  plain-descriptor e = let w : 2 + (4 + 2 * (10 + 2 * y)) ≡ 2 + valCode (nonNull (defined y)) = omega arith in rw (← asked, e, w) (word-of (nonNull (defined y)))
+module _ (ts : Types) (o x y : ℕ) {r : Fit} (a : r ≡ fitIs (fit ts (operandAtCode o) (wantedAtCode (2 + (5 + 2 * (11 + 2 * x)))))) where
+  asked : r ≡ fitIs (fit ts (operandAtCode o) (value (nullable (exact x))))
+  asked = a ∙ ap (λ (w : Wanted). fitIs (fit ts (operandAtCode o) w)) (ap wantedAtCode (let e : 2 + (5 + 2 * (11 + 2 * x)) ≡ 2 + valCode (nullable (exact x)) = omega arith in e) ∙ wanted-of (nullable (exact x)))
 
-pub ruleset word-exits = (unknown-non-null, number-non-null, odd-non-null, even-non-null, exact-descriptor, plain-descriptor)
+  pub exact-descriptor : r ≡ Fit.the-variants.Fits → operandAtCode (2 + (4 + 2 * (11 + 2 * y))) ≡ known (nonNull (cond (fits ts (operandAtCode o) (value (nullable (exact x)))) (exact y) (defined y)))
+  exact-descriptor e =
+      let w : 2 + (4 + 2 * (11 + 2 * y)) ≡ 2 + valCode (nonNull (exact y)) = omega arith in
+      let yes′ = fit-tested ts (operandAtCode o) (value (nullable (exact x))) itFits (is-fits _ (sym e ∙ asked)) in
+      rw (yes′, w) (word-of (nonNull (exact y)))
+
+  plain : fits ts (operandAtCode o) (value (nullable (exact x))) ≡ false → operandAtCode (2 + (4 + 2 * (10 + 2 * y))) ≡ known (nonNull (cond (fits ts (operandAtCode o) (value (nullable (exact x)))) (exact y) (defined y)))
+  plain no′ = let w : 2 + (4 + 2 * (10 + 2 * y)) ≡ 2 + valCode (nonNull (defined y)) = omega arith in rw (no′, w) (word-of (nonNull (defined y)))
+
+  pub nullable-descriptor : r ≡ Fit.the-variants.ButForNull → operandAtCode (2 + (4 + 2 * (10 + 2 * y))) ≡ known (nonNull (cond (fits ts (operandAtCode o) (value (nullable (exact x)))) (exact y) (defined y)))
+  nullable-descriptor e = plain (fit-tested ts (operandAtCode o) (value (nullable (exact x))) butForNull (is-but-for-null _ (sym e ∙ asked)))
+
+  pub plain-descriptor : r ≡ Fit.the-variants.Unfit → operandAtCode (2 + (4 + 2 * (10 + 2 * y))) ≡ known (nonNull (cond (fits ts (operandAtCode o) (value (nullable (exact x)))) (exact y) (defined y)))
+  plain-descriptor e = plain (fit-tested ts (operandAtCode o) (value (nullable (exact x))) unfit (is-unfit _ (sym e ∙ asked)))
+
+pub ruleset word-exits = (unknown-non-null, number-non-null, odd-non-null, even-non-null, exact-descriptor, nullable-descriptor, plain-descriptor)

@@ -5,6 +5,7 @@ use body_state::Scene;
 use body_state::Step;
 use scope::refusals;
 use scope::sizes;
+use type_order::Fit;
 ghost use mathlib.Core.Path.{_≡_};
 ghost use mathlib.Core.Bool.{cond};
 ghost use Rattle.scope.specs.Syntax.{nullable, nonNull, defined, exact};
@@ -91,14 +92,16 @@ pub fn do_non_null(
         height,
         dead,
     );
-    let Take::Took(o, left) = taken else {
-        return Step::Fault(refusals::BAD_OPERAND);
-    };
-    let word = non_null_word(o);
-    put_operand(work, locals, check, left, word)
+    match taken {
+        Take::Fault(number) => Step::Fault(number),
+        Take::Took(o, left) => {
+            let word = non_null_word(o);
+            put_operand(work, locals, check, left, word)
+        }
+    }
 }
 
-// "(ref y), exact when the operand is below (ref null (exact x))."
+// "(ref y), exact when the operand is below (ref null (exact x))": of the three outcomes that is the first alone.
 fn descriptor_word(rows: &[u16], codes: &[u16], o: u32, x: u16, y: u16) -> u32
     ensures { λ r.
         let types = view (now (rows .entry)) (now (codes .entry)) in
@@ -106,11 +109,14 @@ fn descriptor_word(rows: &[u16], codes: &[u16], o: u32, x: u16, y: u16) -> u32
         ⌜ operandAtCode r ≡ known (nonNull (cond exactly (exact y) (defined y))) ⌝ }
 {
     let exact_x = 2 + (5 + 2 * (11 + 2 * x as u64));
-    let exactly = body_operands::fits_word(rows, codes, o as u64, exact_x);
-    if exactly {
-        return 2 + (4 + 2 * (11 + 2 * y as u32));
+    let fit = body_operands::fit_word(rows, codes, o as u64, exact_x);
+    let exact_y = 2 + (4 + 2 * (11 + 2 * y as u32));
+    let plain_y = 2 + (4 + 2 * (10 + 2 * y as u32));
+    match fit {
+        Fit::Fits => exact_y,
+        Fit::ButForNull => plain_y,
+        Fit::Unfit => plain_y,
     }
-    2 + (4 + 2 * (10 + 2 * y as u32))
 }
 
 // "ref.get_desc x takes (ref null x)."
@@ -137,9 +143,11 @@ pub fn do_descriptor(
     let dead = check.dead;
     let wanted = 2 + (5 + 2 * (10 + 2 * x as u64));
     let taken = body_operands::take_one(rows, codes, work, wanted, base, height, dead);
-    let Take::Took(o, left) = taken else {
-        return Step::Fault(refusals::BAD_OPERAND);
-    };
-    let word = descriptor_word(rows, codes, o, x, y);
-    put_operand(work, locals, check, left, word)
+    match taken {
+        Take::Fault(number) => Step::Fault(number),
+        Take::Took(o, left) => {
+            let word = descriptor_word(rows, codes, o, x, y);
+            put_operand(work, locals, check, left, word)
+        }
+    }
 }

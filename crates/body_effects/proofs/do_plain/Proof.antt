@@ -10,17 +10,17 @@ take-plan-requires c κs = search (give-exits, needs)
 enum-known-taken : tie.Need-enum-known-taken
 enum-known-taken c = search (give-exits, needs)
 
-enum-told : tie.Need-enum-told
-enum-told c = search (give-exits, needs)
+enum-known-taken-2 : tie.Need-enum-known-taken-2
+enum-known-taken-2 c = search (give-exits, needs)
+
+give-plain-requires : tie.Need-give-plain-requires
+give-plain-requires c κs = search (give-exits, needs)
 
 same-length : tie.Need-same-length
 same-length c = search (give-exits, needs)
 
 returns : tie.Need-returns
 returns c = search (give-exits, needs)
-
-give-plain-requires : tie.Need-give-plain-requires
-give-plain-requires c κs = search (give-exits, needs)
 
 same-length-2 : tie.Need-same-length-2
 same-length-2 c = search (give-exits, needs)
@@ -34,9 +34,9 @@ do-plain-spec =
     (tie.spec
     take-plan-requires
     enum-known-taken
-    enum-told
+    enum-known-taken-2
+    give-plain-requires
     same-length
     returns
-    give-plain-requires
     same-length-2
     returns-2)

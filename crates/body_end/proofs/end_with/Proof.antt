@@ -10,8 +10,8 @@ take-list-requires c κs = search (end-exits, needs)
 enum-known-taken : tie.Need-enum-known-taken
 enum-known-taken c = search (end-exits, needs)
 
-enum-told : tie.Need-enum-told
-enum-told c = search (end-exits, needs)
+enum-known-taken-2 : tie.Need-enum-known-taken-2
+enum-known-taken-2 c = search (end-exits, needs)
 
 returns : tie.Need-returns
 returns c = search (end-exits, needs)
@@ -24,4 +24,11 @@ returns-3 c = search (end-exits, needs)
 
 pub end-with-spec : {M : Type 1} → statement M
 end-with-spec =
-    tie.close (tie.spec take-list-requires enum-known-taken enum-told returns returns-2 returns-3)
+    tie.close
+    (tie.spec
+    take-list-requires
+    enum-known-taken
+    enum-known-taken-2
+    returns
+    returns-2
+    returns-3)

@@ -33,11 +33,11 @@ take-one-requires c κs = search (several-exits, needs)
 enum-known-taken : tie.Need-enum-known-taken Inv-loop μ-loop
 enum-known-taken c = search (several-exits, needs)
 
-enum-told : tie.Need-enum-told Inv-loop μ-loop
-enum-told c = search (several-exits, needs)
-
 returns : tie.Need-returns Inv-loop μ-loop
 returns c = search (several-exits, needs)
+
+enum-known-taken-2 : tie.Need-enum-known-taken-2 Inv-loop μ-loop
+enum-known-taken-2 c = search (several-exits, needs)
 
 loop-less : tie.Need-loop-less Inv-loop μ-loop
 loop-less c = search (several-exits, needs)
@@ -61,8 +61,8 @@ take-list-spec =
     add-take-one
     take-one-requires
     enum-known-taken
-    enum-told
     returns
+    enum-known-taken-2
     loop-less
     loop-again
     returns-2)

@@ -19,17 +19,29 @@ sub-left c = search (one-exits, needs)
 operand-word-requires : tie.Need-operand-word-requires
 operand-word-requires c κs = search (one-exits, needs)
 
-fits-word-requires : tie.Need-fits-word-requires
-fits-word-requires c κs = search (one-exits, needs)
+fit-word-requires : tie.Need-fit-word-requires
+fit-word-requires c κs = search (one-exits, needs)
 
-cast-t14 : tie.Need-cast-t14
-cast-t14 c = search (one-exits, needs)
+enum-told : tie.Need-enum-told
+enum-told c = search (one-exits, needs)
+
+cast-t15 : tie.Need-cast-t15
+cast-t15 c = search (one-exits, needs)
+
+enum-told-2 : tie.Need-enum-told-2
+enum-told-2 c = search (one-exits, needs)
+
+enum-told-3 : tie.Need-enum-told-3
+enum-told-3 c = search (one-exits, needs)
 
 returns-3 : tie.Need-returns-3
 returns-3 c = search (one-exits, needs)
 
 returns-4 : tie.Need-returns-4
 returns-4 c = search (one-exits, needs)
+
+returns-5 : tie.Need-returns-5
+returns-5 c = search (one-exits, needs)
 
 pub take-one-spec : {M : Type 1} → statement M
 take-one-spec =
@@ -40,7 +52,11 @@ take-one-spec =
     returns-2
     sub-left
     operand-word-requires
-    fits-word-requires
-    cast-t14
+    fit-word-requires
+    enum-told
+    cast-t15
+    enum-told-2
+    enum-told-3
     returns-3
-    returns-4)
+    returns-4
+    returns-5)

@@ -10,11 +10,8 @@ take-some-requires c κs = search (several-exits, needs)
 enum-known-first : tie.Need-enum-known-first
 enum-known-first c = search (several-exits, needs)
 
-enum-told : tie.Need-enum-told
-enum-told c = search (several-exits, needs)
-
-returns : tie.Need-returns
-returns c = search (several-exits, needs)
+enum-known-first-2 : tie.Need-enum-known-first-2
+enum-known-first-2 c = search (several-exits, needs)
 
 take-some-requires-2 : tie.Need-take-some-requires-2
 take-some-requires-2 c κs = search (several-exits, needs)
@@ -22,14 +19,17 @@ take-some-requires-2 c κs = search (several-exits, needs)
 enum-known-next : tie.Need-enum-known-next
 enum-known-next c = search (several-exits, needs)
 
-enum-told-2 : tie.Need-enum-told-2
-enum-told-2 c = search (several-exits, needs)
-
-returns-2 : tie.Need-returns-2
-returns-2 c = search (several-exits, needs)
+enum-known-next-2 : tie.Need-enum-known-next-2
+enum-known-next-2 c = search (several-exits, needs)
 
 take-list-requires : tie.Need-take-list-requires
 take-list-requires c κs = search (several-exits, needs)
+
+returns : tie.Need-returns
+returns c = search (several-exits, needs)
+
+returns-2 : tie.Need-returns-2
+returns-2 c = search (several-exits, needs)
 
 returns-3 : tie.Need-returns-3
 returns-3 c = search (several-exits, needs)
@@ -40,11 +40,11 @@ take-plan-spec =
     (tie.spec
     take-some-requires
     enum-known-first
-    enum-told
-    returns
+    enum-known-first-2
     take-some-requires-2
     enum-known-next
-    enum-told-2
-    returns-2
+    enum-known-next-2
     take-list-requires
+    returns
+    returns-2
     returns-3)

@@ -16,8 +16,8 @@ take-one-requires c κs = search (one-exits, needs)
 enum-known-taken : tie.Need-enum-known-taken
 enum-known-taken c = search (one-exits, needs)
 
-enum-told : tie.Need-enum-told
-enum-told c = search (one-exits, needs)
+enum-known-taken-2 : tie.Need-enum-known-taken-2
+enum-known-taken-2 c = search (one-exits, needs)
 
 returns-2 : tie.Need-returns-2
 returns-2 c = search (one-exits, needs)
@@ -33,6 +33,6 @@ take-some-spec =
     sub-take-one
     take-one-requires
     enum-known-taken
-    enum-told
+    enum-known-taken-2
     returns-2
     returns-3)

@@ -13,11 +13,17 @@ enum-told c = search (carry-exits, needs)
 enum-known-split : tie.Need-enum-known-split
 enum-known-split c = search (carry-exits, needs)
 
-val-below-requires : tie.Need-val-below-requires
-val-below-requires c κs = search (carry-exits, needs)
+val-fit-requires : tie.Need-val-fit-requires
+val-fit-requires c κs = search (carry-exits, needs)
 
-returns : tie.Need-returns
-returns c = search (carry-exits, needs)
+enum-told-2 : tie.Need-enum-told-2
+enum-told-2 c = search (carry-exits, needs)
+
+enum-told-3 : tie.Need-enum-told-3
+enum-told-3 c = search (carry-exits, needs)
+
+enum-told-4 : tie.Need-enum-told-4
+enum-told-4 c = search (carry-exits, needs)
 
 add-second : tie.Need-add-second
 add-second c = search (carry-exits, needs)
@@ -25,11 +31,17 @@ add-second c = search (carry-exits, needs)
 add-gives : tie.Need-add-gives
 add-gives c = search (carry-exits, needs)
 
+returns : tie.Need-returns
+returns c = search (carry-exits, needs)
+
 returns-2 : tie.Need-returns-2
 returns-2 c = search (carry-exits, needs)
 
 returns-3 : tie.Need-returns-3
 returns-3 c = search (carry-exits, needs)
+
+returns-4 : tie.Need-returns-4
+returns-4 c = search (carry-exits, needs)
 
 pub carries-spec : {M : Type 1} → statement M
 carries-spec =
@@ -38,9 +50,13 @@ carries-spec =
     split-last-requires
     enum-told
     enum-known-split
-    val-below-requires
-    returns
+    val-fit-requires
+    enum-told-2
+    enum-told-3
+    enum-told-4
     add-second
     add-gives
+    returns
     returns-2
-    returns-3)
+    returns-3
+    returns-4)

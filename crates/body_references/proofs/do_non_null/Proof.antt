@@ -10,20 +10,20 @@ take-one-requires c κs = search (do-exits, needs)
 enum-known-taken : tie.Need-enum-known-taken
 enum-known-taken c = search (do-exits, needs)
 
-enum-told : tie.Need-enum-told
-enum-told c = search (do-exits, needs)
-
-same-length : tie.Need-same-length
-same-length c = search (do-exits, needs)
-
-returns : tie.Need-returns
-returns c = search (do-exits, needs)
+enum-known-taken-2 : tie.Need-enum-known-taken-2
+enum-known-taken-2 c = search (do-exits, needs)
 
 non-null-word-requires : tie.Need-non-null-word-requires
 non-null-word-requires c κs = search (do-exits, needs)
 
 put-operand-requires : tie.Need-put-operand-requires
 put-operand-requires c κs = search (do-exits, needs)
+
+same-length : tie.Need-same-length
+same-length c = search (do-exits, needs)
+
+returns : tie.Need-returns
+returns c = search (do-exits, needs)
 
 same-length-2 : tie.Need-same-length-2
 same-length-2 c = search (do-exits, needs)
@@ -37,10 +37,10 @@ do-non-null-spec =
     (tie.spec
     take-one-requires
     enum-known-taken
-    enum-told
-    same-length
-    returns
+    enum-known-taken-2
     non-null-word-requires
     put-operand-requires
+    same-length
+    returns
     same-length-2
     returns-2)
