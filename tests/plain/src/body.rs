@@ -8,7 +8,7 @@ use crate::instruction_reader::{read_instruction, read_locals_entry};
 use crate::instruction_rules::{descriptor_wanted, fallen_through, RULES};
 use crate::number::Reader;
 use crate::numeric::row_of_code;
-use crate::order::top_of;
+use crate::order::{top_of, Fit};
 use crate::refusal::{
     refuse, Number, Refusal, NOT_A_FUNCTION, OPERAND, OUT_OF_REACH, SIZE_EXCEEDED, VALUES_LEFT,
 };
@@ -162,7 +162,7 @@ impl<'a> Checker<'a> {
         self.stack.frames.push(Frame { label, results, height, unreachable: false, set_before });
     }
 
-    /// Operands from the top (20), then what is left (28); then the results.
+    /// Operands from the top (20 and 31), then what is left (28); then the results.
     fn operate(&mut self, instruction: &Instruction) -> Result<(), Number> {
         match *instruction {
             Instruction::Nop => {}
@@ -342,8 +342,10 @@ impl<'a> Checker<'a> {
     fn get_descriptor(&mut self, number: u32) -> Result<(), Number> {
         let descriptor = self.definition(number).descriptor.ok_or(OPERAND)?;
         let operand = self.stack.pop(ValueType::nullable(Heap::Defined(number)))?;
-        let exact = self.stack.below(operand, ValueType::nullable(Heap::Exact(number)));
-        let heap = if exact { Heap::Exact(descriptor) } else { Heap::Defined(descriptor) };
+        let heap = match self.stack.fit(operand, ValueType::nullable(Heap::Exact(number))) {
+            Fit::Fits => Heap::Exact(descriptor),
+            Fit::ButForNull | Fit::DoesNotFit => Heap::Defined(descriptor),
+        };
         self.stack.push(ValueType::non_null(heap));
         Ok(())
     }

@@ -3,8 +3,8 @@
 //! An operand is a type, or less than one where code is unreachable. Unknowns
 //! belong to the frame that became unreachable and are never on the stack.
 
-use crate::order::value_below;
-use crate::refusal::{Number, OPERAND};
+use crate::order::{value_fit, Fit};
+use crate::refusal::{Number, ONLY_NULL, OPERAND};
 use crate::syntax::{Reference, Type, ValueType};
 
 #[derive(Clone, Copy, Debug, PartialEq, Eq)]
@@ -61,15 +61,18 @@ impl Stack<'_> {
         Err(OPERAND)
     }
 
+    /// 20 where the operand is missing or wrong, 31 where only null is wrong with it.
     pub fn pop(&mut self, wanted: ValueType) -> Result<Operand, Number> {
         let operand = self.pop_any()?;
-        if self.below(operand, wanted) {
-            return Ok(operand);
+        match self.fit(operand, wanted) {
+            Fit::Fits => Ok(operand),
+            Fit::ButForNull => Err(ONLY_NULL),
+            Fit::DoesNotFit => Err(OPERAND),
         }
-        Err(OPERAND)
     }
 
-    /// From the last type to the first: the top operand is looked at first.
+    /// From the last type to the first: the top operand is looked at first, and the
+    /// first at fault decides.
     pub fn pop_all(&mut self, wanted: &[ValueType]) -> Result<(), Number> {
         wanted.iter().rev().try_for_each(|&value| self.pop(value).map(|_| ()))
     }
@@ -85,11 +88,11 @@ impl Stack<'_> {
         }
     }
 
-    pub fn below(&self, operand: Operand, wanted: ValueType) -> bool {
-        match operand {
-            Operand::Unknown => true,
-            Operand::UnknownHeap => matches!(wanted, ValueType::Ref(_)),
-            Operand::Known(value) => value_below(self.types, value, wanted),
+    pub fn fit(&self, operand: Operand, wanted: ValueType) -> Fit {
+        match (operand, wanted) {
+            (Operand::Unknown, _) | (Operand::UnknownHeap, ValueType::Ref(_)) => Fit::Fits,
+            (Operand::UnknownHeap, _) => Fit::DoesNotFit,
+            (Operand::Known(value), _) => value_fit(self.types, value, wanted),
         }
     }
 

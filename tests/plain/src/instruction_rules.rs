@@ -5,7 +5,7 @@
 //! missing, an earlier rule has refused already.
 
 use crate::body::Checker;
-use crate::order::{reference_below, share_supertype};
+use crate::order::{reference_fit, share_supertype, Fit};
 use crate::refusal::{
     Number, BRANCHING_CAST, FIELD_FIXED, LABEL_OR_LOCAL_ABSENT, LOCAL_NOT_SET, NO_DEFAULT,
     OUT_OF_REACH, STRUCT_FIELD_DESCRIPTOR,
@@ -107,7 +107,8 @@ fn field_mutable(checker: &Checker, instruction: &Instruction) -> bool {
 
 /// 25: every condition on a branching cast's types. Of source and target it asks for
 /// a supertype in common; the nullable one of a hierarchy's top is above both, so
-/// that they may be null or not does not matter here.
+/// that they may be null or not does not matter here. Nothing is carried yet: that only
+/// null is wrong for the label is 25 as well.
 fn branching_cast_fits(checker: &Checker, instruction: &Instruction) -> bool {
     let Instruction::BranchingCast(cast) = instruction else {
         return true;
@@ -118,7 +119,7 @@ fn branching_cast_fits(checker: &Checker, instruction: &Instruction) -> bool {
         // The last type of a label takes what is carried; a number takes none.
         Some(&ValueType::Ref(taken)) => {
             share_supertype(types, cast.source.heap, cast.target.heap)
-                && reference_below(types, carried(cast), taken)
+                && reference_fit(types, carried(cast), taken) == Fit::Fits
         }
         _ => false,
     }

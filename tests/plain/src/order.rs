@@ -103,13 +103,36 @@ pub fn heap_below(types: &[Type], lower: Heap, upper: Heap) -> bool {
     }
 }
 
-pub fn reference_below(types: &[Type], lower: Reference, upper: Reference) -> bool {
+fn reference_below(types: &[Type], lower: Reference, upper: Reference) -> bool {
     (upper.nullable || !lower.nullable) && heap_below(types, lower.heap, upper.heap)
 }
 
-pub fn value_below(types: &[Type], lower: ValueType, upper: ValueType) -> bool {
+/// Whether one type fits another. Each caller says which of the three it relies on.
+#[derive(Clone, Copy, Debug, PartialEq, Eq)]
+pub enum Fit {
+    /// It is below the other.
+    Fits,
+    /// It is not, and the same type made non-null is.
+    ButForNull,
+    /// Neither is.
+    DoesNotFit,
+}
+
+pub fn reference_fit(types: &[Type], lower: Reference, upper: Reference) -> Fit {
+    if reference_below(types, lower, upper) {
+        return Fit::Fits;
+    }
+    if reference_below(types, Reference::non_null(lower.heap), upper) {
+        return Fit::ButForNull;
+    }
+    Fit::DoesNotFit
+}
+
+/// A number fits itself alone, and null is nothing that it could be.
+pub fn value_fit(types: &[Type], lower: ValueType, upper: ValueType) -> Fit {
     match (lower, upper) {
-        (ValueType::Ref(lower), ValueType::Ref(upper)) => reference_below(types, lower, upper),
-        _ => lower == upper,
+        (ValueType::Ref(lower), ValueType::Ref(upper)) => reference_fit(types, lower, upper),
+        _ if lower == upper => Fit::Fits,
+        _ => Fit::DoesNotFit,
     }
 }

@@ -33,6 +33,7 @@ pub const BRANCHING_CAST: Number = 25;
 pub const NOT_A_FUNCTION: Number = 27;
 pub const VALUES_LEFT: Number = 28;
 pub const NO_DEFAULT: Number = 29;
+pub const ONLY_NULL: Number = 31;
 
 pub fn refuse<T>(number: Number, place: usize) -> Result<T, Refusal> {
     Err(Refusal { number, place })

@@ -3,7 +3,7 @@
 //! First 6, 7 and the chain's 4 of every type; then 8 to 13 of every type.
 //! Each rule answers whether a type keeps it; the place is the type's number.
 
-use crate::order::value_below;
+use crate::order::{value_fit, Fit};
 use crate::refusal::{
     refuse, Number, Refusal, CLAUSES_DISAGREE, CLAUSE_NOT_ON_STRUCT, DESCRIBES_NOT_EARLIER,
     OUT_OF_REACH, RULE_4, RULE_5, SIZE_EXCEEDED, SUPERTYPE_RULE_1, SUPERTYPE_RULE_2,
@@ -96,14 +96,22 @@ fn fields_match(types: &[Type], lower: &[Field], upper: &[Field]) -> bool {
 fn field_matches(types: &[Type], lower: &Field, upper: &Field) -> bool {
     match (lower.mutable, upper.mutable) {
         (true, true) => lower.value == upper.value,
-        (false, false) => value_below(types, lower.value, upper.value),
+        (false, false) => fits(types, lower.value, upper.value),
         _ => false,
     }
 }
 
 fn all_below(types: &[Type], lower: &[ValueType], upper: &[ValueType]) -> bool {
     lower.len() == upper.len()
-        && lower.iter().zip(upper).all(|(&lower, &upper)| value_below(types, lower, upper))
+        && lower.iter().zip(upper).all(|(&lower, &upper)| fits(types, lower, upper))
+}
+
+/// To be below but for null is not to match.
+fn fits(types: &[Type], lower: ValueType, upper: ValueType) -> bool {
+    match value_fit(types, lower, upper) {
+        Fit::Fits => true,
+        Fit::ButForNull | Fit::DoesNotFit => false,
+    }
 }
 
 /// Rule 3: clauses stand on structs only; this is about the clause's own type.

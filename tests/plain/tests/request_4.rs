@@ -5,7 +5,7 @@
 mod common;
 use common::*;
 use plain::lines::read_bytes;
-use plain::order::{reference_below, share_supertype, TABLE};
+use plain::order::{reference_fit, share_supertype, Fit, TABLE};
 use plain::section::judge_section;
 use plain::syntax::{Heap, Reference};
 
@@ -51,14 +51,14 @@ fn decisions() {
 /// The operand is below the source, which may be null where its flag says so.
 #[test]
 fn all_flags_are_accepted() {
-    for (flags, null) in FLAGS.iter().zip(["no 20 3", "yes 3", "no 20 3", "yes 3"]) {
+    for (flags, null) in FLAGS.iter().zip(["no 31 3", "yes 3", "no 31 3", "yes 3"]) {
         for form in ["18", "19"] {
             let cast = |object: &str| format!("00 {object} FB {form} {flags} 00 00 6B 0B");
             assert_eq!(body(STRUCT, 1, &cast("FB 01 00")), "yes 3", "{form} {flags}");
             assert_eq!(body(STRUCT, 1, &cast("D0 00")), null, "{form} {flags}");
         }
     }
-    let operand = ["no 20 5", "yes 4", "no 20 5", "yes 4"];
+    let operand = ["no 31 5", "yes 4", "no 31 5", "yes 4"];
     for (flags, null) in FLAGS.iter().zip(operand) {
         for form in ["25", "26"] {
             let cast = format!("00 D0 02 D0 01 FB {form} {flags} 00 02 00 0B");
@@ -231,7 +231,7 @@ fn a_supertype_in_common_is_one_hierarchy() {
     for &one in &references {
         for &other in &references {
             let above = |&upper: &Reference| {
-                reference_below(&types, one, upper) && reference_below(&types, other, upper)
+                [one, other].iter().all(|&it| reference_fit(&types, it, upper) == Fit::Fits)
             };
             let shared = references.iter().any(above);
             assert_eq!(share_supertype(&types, one.heap, other.heap), shared, "{one:?} {other:?}");

@@ -7,7 +7,7 @@
 use super::make_section::Draft;
 use super::random::Random;
 use super::value_types::{constructible, random_heap, random_value_type};
-use crate::order::value_below;
+use crate::order::{value_fit, Fit};
 use crate::syntax::{Field, Form, Heap, Instruction, Type, ValueType};
 
 /// How deep values are nested in values.
@@ -105,7 +105,7 @@ impl Maker<'_> {
     /// A local that is set and holds a value below the wanted type.
     pub fn local_below(&mut self, wanted: ValueType) -> Option<u32> {
         let fits = |&local: &usize| {
-            self.set[local] && value_below(&self.types, self.locals[local], wanted)
+            self.set[local] && value_fit(&self.types, self.locals[local], wanted) == Fit::Fits
         };
         let found: Vec<usize> = (0..self.locals.len()).filter(fits).collect();
         self.random.pick_from(&found).map(|local| local as u32)

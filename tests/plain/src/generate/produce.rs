@@ -4,7 +4,7 @@
 use super::make_body::{Maker, DEPTH};
 use super::numbers::{constant, row_giving};
 use super::value_types::{heaps_above, heaps_below, narrower, random_reference};
-use crate::order::{top_of, value_below};
+use crate::order::{top_of, value_fit, Fit};
 use crate::syntax::{Abstract, Heap, Instruction, Reference, ValueType};
 
 impl Maker<'_> {
@@ -93,7 +93,8 @@ impl Maker<'_> {
         let mut found = Vec::new();
         for (number, candidate) in self.types.iter().enumerate() {
             let fields = candidate.definition.fields().unwrap_or(&[]).iter().enumerate();
-            let fits = fields.filter(|(_, field)| value_below(&self.types, field.value, wanted));
+            let fits = |value| value_fit(&self.types, value, wanted) == Fit::Fits;
+            let fits = fields.filter(|(_, field)| fits(field.value));
             found.extend(fits.map(|(field, _)| (number as u32, field as u32)));
         }
         let Some((number, field)) = self.random.pick_from(&found) else {
