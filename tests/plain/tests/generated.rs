@@ -29,8 +29,11 @@ fn every_kind_of_answer_is_there() {
     for small in [false, true] {
         let answers = answered(1, small);
         let counts = tally(answers.iter().map(|(_, answer)| answer.as_str()));
-        let refusals =
-            (1..=13).chain(20..=25).chain(27..=29).map(|number| format!("no {number:>2}"));
+        let refusals = (1..=13)
+            .chain(20..=25)
+            .chain(27..=29)
+            .chain([31])
+            .map(|number| format!("no {number:>2}"));
         let traps = (41..=46).map(|number| format!("trap {number}"));
         for kind in refusals.chain(traps).chain(["yes".into(), "done".into(), "spent".into()]) {
             let count = counts.get(&kind).copied().unwrap_or(0);

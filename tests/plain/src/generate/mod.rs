@@ -20,6 +20,7 @@ pub mod thin;
 pub mod thin_casts;
 pub mod thin_high;
 pub mod thin_lists;
+pub mod thin_nulls;
 pub mod thin_numbers;
 pub mod thin_rules;
 pub mod value_types;
@@ -59,6 +60,7 @@ fn request(random: &mut Random, small: bool) -> String {
         570..=609 => thin::thin_request(random, small),
         610..=689 => thin_casts::branching_casts(random),
         690..=779 => thin_numbers::numbers(random),
+        780..=809 => thin_nulls::nulls(random),
         _ => run_request(random, small),
     }
 }
