@@ -50,7 +50,7 @@ extern "C" {
 #define CHELBUGAN_TRAP 2  /* a run was stopped by an instruction */
 #define CHELBUGAN_SPENT 3 /* a run's budget was used up */
 
-/* The refusals: 1 to 14, 20 to 25 and 27 to 29; there are no others (26 does not exist). Each with its place:
+/* The refusals: 1 to 14, 20 to 25, 27 to 29 and 31; there are no others (26 and 30 do not exist). Each with its place:
  *   byte         an offset in the input at fault, the section or the body; a missing byte lies at the input's length
  *   instruction  the offset of its first byte in the body
  *   type         a type's number: the type of the section at fault
@@ -79,7 +79,7 @@ extern "C" {
 #define CHELBUGAN_REFUSAL_BAD_DESCRIPTOR 12        /* its descriptor is not below its supertype's; type */
 #define CHELBUGAN_REFUSAL_BAD_DESCRIBES 13         /* it and its supertype do not describe alike; type */
 #define CHELBUGAN_REFUSAL_BUFFER_TOO_SMALL 14      /* a lent buffer under its size, below; 0 */
-#define CHELBUGAN_REFUSAL_BAD_OPERAND 20           /* operand missing or wrong; instruction */
+#define CHELBUGAN_REFUSAL_BAD_OPERAND 20           /* operand missing or wrong, by more than null; instruction */
 #define CHELBUGAN_REFUSAL_ABSENT 21                /* label or local absent; instruction */
 #define CHELBUGAN_REFUSAL_NOT_SET 22               /* local not set; instruction */
 #define CHELBUGAN_REFUSAL_BAD_STRUCT 23            /* no struct, no such field, descriptor missing or unwanted; instruction */
@@ -88,6 +88,7 @@ extern "C" {
 #define CHELBUGAN_REFUSAL_NOT_A_FUNCTION 27        /* not a function type's number; 0 */
 #define CHELBUGAN_REFUSAL_VALUES_LEFT 28           /* values left at an end; instruction */
 #define CHELBUGAN_REFUSAL_NO_DEFAULT 29            /* no default; instruction, or 0 for a run's parameters */
+#define CHELBUGAN_REFUSAL_ONLY_NULL 31             /* an operand would fit if it could not be null; instruction */
 
 /* The traps: 41 to 46. A trap's place is that of the trapping instruction. */
 #define CHELBUGAN_TRAP_UNREACHABLE 41

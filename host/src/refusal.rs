@@ -1,4 +1,4 @@
-//! A refusal and a trap: numbers of document 01 and, of the traps, of document 02, with a name for each.
+//! A refusal and a trap: numbers of documents 01 and 02, with a name for each.
 
 use std::error::Error;
 use std::fmt;
@@ -6,14 +6,14 @@ use std::fmt;
 /// Why a section, a body or a run is refused, and where.
 #[derive(Clone, Copy, Debug, PartialEq, Eq, Hash)]
 pub struct Refusal {
-    /// The number in document 01, which [`Refusal::reason`] names.
+    /// The number in document 01 or 02, which [`Refusal::reason`] names.
     pub number: u64,
     /// A byte's offset in the section or the body, or a type's number: [`Reason`] says which.
     pub place: u64,
 }
 
 impl Refusal {
-    /// No number of document 01: the library gave an answer that this wrapper does not know, and that is no yes. The place
+    /// No number of the documents: the library gave an answer that this wrapper does not know, and that is no yes. The place
     /// is what the library returned.
     pub const UNKNOWN: u64 = 0;
 
@@ -21,7 +21,7 @@ impl Refusal {
         Refusal { number: Refusal::UNKNOWN, place: returned }
     }
 
-    /// What the number stands for; None for a number that document 01 does not have.
+    /// What the number stands for; None for a number that documents 01 and 02 do not have.
     pub fn reason(&self) -> Option<Reason> {
         Reason::ALL.into_iter().find(|reason| reason.number() == self.number)
     }
@@ -73,7 +73,7 @@ macro_rules! numbered {
 
 numbered! {
     /// What a refusal's number stands for, by the names of `crates/scope/specs/Refusals.antt`, and what its place is. There
-    /// is no 15 to 19 and no 26.
+    /// is no 15 to 19, no 26 and no 30.
     Reason:
     /// At the item's first byte.
     BytesEnd = 1, "the bytes end inside an item";
@@ -123,6 +123,8 @@ numbered! {
     ValuesLeft = 28, "values are left at an end";
     /// At the instruction; at 0 for a run's parameters.
     NoDefault = 29, "there is no default";
+    /// At the instruction.
+    OnlyNull = 31, "an operand would fit if it could not be null";
 }
 
 numbered! {
@@ -162,6 +164,12 @@ mod tests {
         assert_eq!(refusal.reason(), Some(Reason::ClausesDisagree));
         let error: Box<dyn Error> = refusal.into();
         assert_eq!(error.to_string(), "refusal 11 at 1: clauses disagree");
+        let only_null = Refusal { number: 31, place: 3 };
+        assert_eq!(only_null.reason(), Some(Reason::OnlyNull));
+        assert_eq!(
+            only_null.to_string(),
+            "refusal 31 at 3: an operand would fit if it could not be null"
+        );
         let absent = Refusal { number: 26, place: 7 };
         assert_eq!(absent.reason(), None);
         assert_eq!(absent.to_string(), "refusal 26 at 7, a number that is not known");

@@ -252,6 +252,57 @@ fn operands() {
     );
 }
 
+/// 31: what 20 tells, and that only null is wrong; the operand is marked as 20 marks it.
+#[test]
+fn only_null() {
+    const ONLY_NULL: &str =
+        "only null is wrong: this operand may be null, a non-null one is wanted; \
+                             ref.as_non_null before it would do";
+    let of_two = "02 5F 00 60 00 02 64 00 64 00";
+    let fields = "03 5F 00 5F 01 64 00 01 60 00 00";
+    let cases = [
+        (
+            ("02 5F 00 60 00 01 64 00", "00 D0 00 0B", "1"),
+            "end wants (ref 0) on top and finds (ref null 0)",
+            "1 d0 00 ref.null 0, which put (ref null 0) there",
+        ),
+        (
+            ("02 5F 00 60 00 01 64 00", "00 D0 71 0F 0B", "1"),
+            "return wants (ref 0) on top and finds (ref null none)",
+            "1 d0 71 ref.null none, which put (ref null none) there",
+        ),
+        (
+            ("02 5F 00 60 00 01 64 00", "00 D0 00 41 00 0D 00 0B", "1"),
+            "br_if wants (ref 0) below the top and finds (ref null 0)",
+            "its block has, the top last: (ref null 0), i32",
+        ),
+        (
+            (of_two, "00 D0 00 FB 01 00 0B", "1"),
+            "end wants (ref 0) below the top and finds (ref null 0)",
+            "1 d0 00 ref.null 0, which put (ref null 0) there",
+        ),
+        (
+            (fields, "00 D0 01 D0 00 FB 05 01 00 0B", "2"),
+            "struct.set wants (ref 0) on top and finds (ref null 0)",
+            "3 d0 00 ref.null 0, which put (ref null 0) there",
+        ),
+        (
+            ("02 5F 00 60 00 01 64 00", "00 00 D0 00 0B", "1"),
+            "end wants (ref 0) on top and finds (ref null 0)",
+            "its block has, the top last: unknowns (unreachable), (ref null 0)",
+        ),
+    ];
+    for (of, found, shown) in cases {
+        let said = no(&["check", of.0, of.1, of.2]);
+        assert!(said.starts_with("no: refusal 31 at byte "), "{said}");
+        told(&said, &format!("{found}; {ONLY_NULL}"), &[shown]);
+    }
+    // Heap and null: 20, and not a word of null.
+    let both = no(&["check", "02 50 00 5F 00 60 00 01 64 62 00", "00 D0 00 0B", "1"]);
+    assert!(both.starts_with("no: refusal 20 at byte 3 of the body\n"), "{both}");
+    assert!(!both.contains("only null"), "{both}");
+}
+
 /// Where a local would have to be set.
 #[test]
 fn locals_and_labels() {
@@ -290,7 +341,7 @@ fn what_does_not_matter_is_left_out() {
 /// Every number: what it means, what its place is, the rule, an example and its mend.
 #[test]
 fn every_number_is_explained() {
-    let numbers = (1..=14).chain(20..=25).chain(27..=29).chain(41..=46);
+    let numbers = (1..=14).chain(20..=25).chain(27..=29).chain([31]).chain(41..=46);
     let list = yes(&["explain"]);
     for number in numbers.clone() {
         let said = yes(&["explain", &number.to_string()]);

@@ -142,4 +142,22 @@ mod tests {
             assert!(!told.text.contains("it takes"), "{}", told.text);
         }
     }
+
+    /// 31 tells what 20 would, and what would do; the instruction is marked, and the one that put the operand there is shown.
+    #[test]
+    fn only_null_is_told() {
+        let section = vec![0x02, 0x5F, 0x00, 0x60, 0x00, 0x01, 0x64, 0x00];
+        let body = vec![0x00, 0xD0, 0x00, 0x0B];
+        let add_on = AddOn { section, body, number: 1 };
+        let told = body_refusal(&add_on, No { number: 31, place: 3 });
+        assert_eq!(told.headline, "no: refusal 31 at byte 3 of the body");
+        assert_eq!(
+            told.words,
+            "end wants (ref 0) on top and finds (ref null 0); only null is wrong: this operand may be \
+             null, a non-null one is wanted; ref.as_non_null before it would do"
+        );
+        let put = "     1  d0 00                   ref.null 0, which put (ref null 0) there\n";
+        assert!(told.text.contains(put), "{}", told.text);
+        assert!(told.text.contains("00 d0 00 0b\n                   ^^\n"), "{}", told.text);
+    }
 }

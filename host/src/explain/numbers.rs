@@ -289,9 +289,9 @@ pub const ENTRIES: &[Entry] = &[
     Entry {
         number: 20,
         title: "operand missing or wrong",
-        means: "The instruction takes an operand that its block does not have, or finds one of a type that is not below the one it takes.",
+        means: "The instruction takes an operand that its block does not have, or finds one of a type that is not below the one it takes, and would not be if it could not be null (that is 31).",
         place: "Instruction: the offset of its first byte in the body.",
-        rule: "Operands from the top (20). After unreachable, br and return the stack yields unknowns; an unknown is below every type.",
+        rule: "Operands from the top (20 and 31). After unreachable, br and return the stack yields unknowns; an unknown is below every type.",
         examples: &[
             Example {
                 broken: Body(V, "00 1A 0B", 0),
@@ -443,6 +443,29 @@ pub const ENTRIES: &[Entry] = &[
                 why: "the parameter is (ref 0)",
                 mended: Run("02 5F 00 60 01 63 00 00", "00 0B", 1, 1),
                 mend: "the parameter is (ref null 0)",
+            },
+        ],
+    },
+    Entry {
+        number: 31,
+        title: "operand would fit if it couldn't be null",
+        means: "Only null is wrong: the operand may be null, and a non-null one is wanted. ref.as_non_null behind the instruction that put it there would do; the run then traps where it is null.",
+        place: "Instruction: the offset of its first byte in the body.",
+        rule: "The test whether one type fits another should have three outcomes: fits, would fit if it couldn't be null, doesn't fit. Wherever that test serves an operand, the second outcome gives new refusal 31 at the same place, and 20 keeps the third and the missing operand.",
+        examples: &[
+            Example {
+                broken: Body("02 5F 00 60 00 01 64 00", "00 D0 00 0B", 1),
+                place: 3,
+                why: "the result is (ref 0), and ref.null 0 puts (ref null 0) there",
+                mended: Body("02 5F 00 60 00 01 64 00", "00 D0 00 D4 0B", 1),
+                mend: "ref.as_non_null before the `end`",
+            },
+            Example {
+                broken: Body(S, "02 01 63 00 01 64 00 20 00 21 01 0B", 1),
+                place: 9,
+                why: "local 1 is (ref 0), and local 0 is (ref null 0)",
+                mended: Body(S, "02 01 63 00 01 64 00 20 00 D4 21 01 0B", 1),
+                mend: "ref.as_non_null between local.get and local.set",
             },
         ],
     },

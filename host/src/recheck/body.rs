@@ -1,5 +1,6 @@
 //! The first fault of a body whose section was accepted: its size, its number, its locals, then instruction by instruction.
 
+use super::order::Fit;
 use super::stack::{Frame, Kind, Operand};
 use super::{counted, Cause, Input, INPUT_BYTES};
 use crate::read;
@@ -199,9 +200,12 @@ impl<'a> Check<'a> {
                 self.operands.push(Operand { kind, by: at });
             }
             Instruction::GetDescriptor(number) => {
-                let exact = top.below(self.types, ValueType::nullable(Heap::Exact(number)));
+                let exact = ValueType::nullable(Heap::Exact(number));
                 let descriptor = self.descriptor(number).unwrap_or(number);
-                let heap = if exact { Heap::Exact(descriptor) } else { Heap::Defined(descriptor) };
+                let heap = match top.fit(self.types, exact) {
+                    Fit::Fits => Heap::Exact(descriptor),
+                    Fit::ButForNull | Fit::DoesNotFit => Heap::Defined(descriptor),
+                };
                 self.push(at, [ValueType::non_null(heap)]);
             }
             Instruction::LocalSet(local) | Instruction::LocalTee(local) => {

@@ -1,6 +1,6 @@
 //! Rule 2: a type beside its supertype.
 
-use super::order::value_below;
+use super::order::{value_fit, Fit};
 use super::section::section_part;
 use super::{counted, Cause};
 use crate::syntax::{Field, Form, Placed, Type, ValueType};
@@ -91,7 +91,7 @@ impl Pair<'_> {
             (true, true) if lower.value != upper.value => {
                 Some("mutable fields have identical types".to_string())
             }
-            (false, false) if !value_below(self.types, lower.value, upper.value) => {
+            (false, false) if value_fit(self.types, lower.value, upper.value) != Fit::Fits => {
                 Some(format!("{} is not below {}", lower.value, upper.value))
             }
             (true, false) | (false, true) => Some("mutability is equal in both".to_string()),
@@ -115,7 +115,7 @@ impl Pair<'_> {
                 true => (high.what, low.what),
                 false => (low.what, high.what),
             };
-            if value_below(self.types, below, above) {
+            if value_fit(self.types, below, above) == Fit::Fits {
                 return None;
             }
             let words = format!(

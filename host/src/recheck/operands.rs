@@ -1,12 +1,19 @@
-//! Operands taken from the top: the one wanted and the one found (20), and those that are left at `end` (28).
+//! Operands taken from the top: the one wanted and the one found (20, and 31 where only null is wrong), and those that are
+//! left at `end` (28).
 
 use super::body::Check;
+use super::order::Fit;
 use super::stack::Operand;
 use super::{counted, Cause, Operands, Wanted};
 use crate::syntax::{Instruction, Plain};
 
 const OPERAND: u64 = 20;
 const VALUES_LEFT: u64 = 28;
+const ONLY_NULL: u64 = 31;
+
+/// What is said of 31, behind what was wanted and found.
+const WITHOUT_NULL: &str = "only null is wrong: this operand may be null, a non-null one is wanted; ref.as_non_null before \
+                            it would do";
 
 impl Check<'_> {
     /// With those that were taken already.
@@ -28,25 +35,29 @@ impl Check<'_> {
         for (index, &want) in wanted.iter().rev().enumerate() {
             let own = self.own();
             let found = own.len().checked_sub(index + 1).map(|place| own[place]);
-            let fits = match found {
-                Some(operand) => operand.kind.is(self.types, want),
-                None => self.frame().unreachable,
+            let fit = match found {
+                Some(operand) => operand.kind.fits(self.types, want),
+                None if self.frame().unreachable => Fit::Fits,
+                None => Fit::DoesNotFit,
             };
-            if !fits {
-                return Err(self.unfit(at, instruction, wanted, index));
+            match fit {
+                Fit::Fits => (),
+                Fit::ButForNull | Fit::DoesNotFit => {
+                    return Err(self.unfit(at, instruction, wanted, (index, fit)))
+                }
             }
         }
         let left = self.operands.len().saturating_sub(wanted.len()).max(self.frame().height);
         Ok(self.operands.split_off(left))
     }
 
-    /// 20: the operand wanted and the one found.
+    /// 20 or 31: the operand wanted and the one found.
     fn unfit(
         &self,
         at: usize,
         instruction: &Instruction,
         wanted: &[Wanted],
-        index: usize,
+        (index, fit): (usize, Fit),
     ) -> Cause {
         let want = wanted[wanted.len() - 1 - index];
         let where_ = match index {
@@ -59,7 +70,12 @@ impl Check<'_> {
         let mut cause = match own.len().checked_sub(index + 1).map(|place| own[place]) {
             Some(found) => {
                 let words = format!("{name} wants {want} {where_} and finds {found}");
-                let cause = self.cause(OPERAND, at, words);
+                let cause = match fit {
+                    Fit::ButForNull => {
+                        self.cause(ONLY_NULL, at, format!("{words}; {WITHOUT_NULL}"))
+                    }
+                    Fit::Fits | Fit::DoesNotFit => self.cause(OPERAND, at, words),
+                };
                 self.with_part(cause, found.by, &format!(", which put {found} there"))
             }
             None => {

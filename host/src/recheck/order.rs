@@ -74,13 +74,28 @@ fn heap_below(types: &[Type], lower: Heap, upper: Heap) -> bool {
     }
 }
 
-pub fn reference_below(types: &[Type], lower: Reference, upper: Reference) -> bool {
-    (upper.nullable || !lower.nullable) && heap_below(types, lower.heap, upper.heap)
+/// Whether one type fits another.
+#[derive(Clone, Copy, Debug, PartialEq, Eq)]
+pub enum Fit {
+    /// It is below the other.
+    Fits,
+    /// It would be if it could not be null.
+    ButForNull,
+    DoesNotFit,
 }
 
-pub fn value_below(types: &[Type], lower: ValueType, upper: ValueType) -> bool {
+pub fn reference_fit(types: &[Type], lower: Reference, upper: Reference) -> Fit {
+    match heap_below(types, lower.heap, upper.heap) {
+        false => Fit::DoesNotFit,
+        true if lower.nullable && !upper.nullable => Fit::ButForNull,
+        true => Fit::Fits,
+    }
+}
+
+pub fn value_fit(types: &[Type], lower: ValueType, upper: ValueType) -> Fit {
     match (lower, upper) {
-        (ValueType::Ref(lower), ValueType::Ref(upper)) => reference_below(types, lower, upper),
-        _ => lower == upper,
+        (ValueType::Ref(lower), ValueType::Ref(upper)) => reference_fit(types, lower, upper),
+        _ if lower == upper => Fit::Fits,
+        _ => Fit::DoesNotFit,
     }
 }

@@ -1,7 +1,7 @@
 //! The rules of each instruction: 6, 21, 23, 24, 25, 29, 22 in this order.
 
 use super::body::Check;
-use super::order::{reference_below, top_of};
+use super::order::{reference_fit, top_of, Fit};
 use super::{counted, Input, Shown};
 use crate::syntax::{BranchingCast, Field, Heap, Instruction, New, Placed, Type, ValueType};
 use std::ops::Range;
@@ -170,7 +170,7 @@ impl Check<'_> {
             return Some((25, words, Vec::new()));
         }
         let taken = match last {
-            ValueType::Ref(upper) => reference_below(self.types, carried, upper),
+            ValueType::Ref(upper) => reference_fit(self.types, carried, upper) == Fit::Fits,
             _ => false,
         };
         if taken {

@@ -1,6 +1,6 @@
 //! The operands and frames of the check, each operand with the instruction that put it there.
 
-use super::order::value_below;
+use super::order::{value_fit, Fit};
 use crate::syntax::{Type, ValueType};
 use std::fmt;
 
@@ -43,22 +43,22 @@ pub struct Frame {
 }
 
 impl Kind {
-    pub fn below(self, types: &[Type], upper: ValueType) -> bool {
-        match self {
-            Kind::Known(lower) => value_below(types, lower, upper),
-            Kind::UnknownHeap => matches!(upper, ValueType::Ref(_)),
-            Kind::Unknown => true,
+    pub fn fit(self, types: &[Type], upper: ValueType) -> Fit {
+        match (self, upper) {
+            (Kind::Known(lower), _) => value_fit(types, lower, upper),
+            (Kind::Unknown, _) | (Kind::UnknownHeap, ValueType::Ref(_)) => Fit::Fits,
+            (Kind::UnknownHeap, _) => Fit::DoesNotFit,
         }
     }
 
-    pub fn is(self, types: &[Type], wanted: Wanted) -> bool {
-        match wanted {
-            Wanted::Of(upper) => self.below(types, upper),
-            Wanted::Reference => !matches!(
-                self,
-                Kind::Known(ValueType::I32 | ValueType::I64 | ValueType::F32 | ValueType::F64)
-            ),
-            Wanted::Anything => true,
+    pub fn fits(self, types: &[Type], wanted: Wanted) -> Fit {
+        match (wanted, self) {
+            (Wanted::Of(upper), _) => self.fit(types, upper),
+            (
+                Wanted::Reference,
+                Kind::Known(ValueType::I32 | ValueType::I64 | ValueType::F32 | ValueType::F64),
+            ) => Fit::DoesNotFit,
+            (Wanted::Reference | Wanted::Anything, _) => Fit::Fits,
         }
     }
 }

@@ -11,7 +11,7 @@ const COUNT: usize = 16_000;
 
 /// What a section is refused by, and what a body is refused by besides; 14 is for tests/memory.rs.
 const OF_SECTIONS: [u64; 13] = [1, 2, 3, 4, 5, 6, 7, 8, 9, 10, 11, 12, 13];
-const OF_BODIES: [u64; 9] = [20, 21, 22, 23, 24, 25, 27, 28, 29];
+const OF_BODIES: [u64; 10] = [20, 21, 22, 23, 24, 25, 27, 28, 29, 31];
 const TRAPS: [u64; 6] = [41, 42, 43, 44, 45, 46];
 
 #[test]
