@@ -52,6 +52,20 @@ fn the_first_at_fault_from_the_top_decides() {
     assert_eq!(body(two, 1, "00 D0 00 FB 01 00 0B"), "no 31 6");
 }
 
+/// Fields from the last to the first; br_if's i32 first; a branching cast: the descriptor,
+/// the object, then the values below.
+#[test]
+fn operands_from_the_top() {
+    assert_eq!(body(WITH_FIELDS, 2, "00 41 00 D0 00 FB 00 01 1A 0B"), "no 31 5");
+    assert_eq!(body(WITH_FIELDS, 2, "00 D0 00 41 00 FB 00 01 1A 0B"), "no 20 5");
+    assert_eq!(body(TO_REF, 1, "00 D0 00 D0 00 0D 00 0B"), "no 20 5");
+    let below = "02 5F 00 60 00 02 64 00 63 00";
+    assert_eq!(body(below, 1, "00 41 00 D0 00 FB 18 02 00 00 00 0B"), "no 31 5");
+    assert_eq!(body(below, 1, "00 D0 00 D0 6B FB 18 02 00 00 00 0B"), "no 20 5");
+    let to_struct = described("6B");
+    assert_eq!(body(&to_struct, 4, "00 D0 02 D0 00 FB 25 00 00 02 00 0B"), "no 20 5");
+}
+
 #[test]
 fn what_is_an_operand() {
     assert_eq!(body(TO_REF, 1, "01 01 64 00 D0 00 21 00 00 0B"), "no 31 6");
