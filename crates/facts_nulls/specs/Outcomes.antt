@@ -1,16 +1,35 @@
--- Each outcome of a type's test, by the order alone.
+-- Each outcome of a type's test, by the order alone: by its test, and over the types of an accepted section by its relation.
+use Prim.Native.Nat.{ℕ}
 use mathlib.Core.Path.{_≡_}
 use mathlib.Core.Logic.{_⊎_, _↔_}
 use mathlib.Core.Bool.{true, false}
-use Rattle.scope.specs.Syntax.{Heap, Val, nullable, nonNull, Types}
+use mathlib.Core.List.{List}
+use Rattle.scope.specs.Syntax.{Heap, Val, nullable, nonNull, Definition, Types, typesOf}
 use Rattle.scope.specs.Order.{itFits, butForNull, unfit, ValOrder, valBelow, valFit}
+use Rattle.scope.specs.Judging.{accepted, judgeSection}
+
+-- below
+abbrev pub Below : Types → Val → Val → Type 0
+Below ts v w = valBelow ts v w ≡ true
+
+-- not below, and a nullable reference whose non-null one is below
+abbrev pub BelowButForNull : Types → Val → Val → Type 0
+BelowButForNull ts v w = (valBelow ts v w ≡ false) × ((h : Heap) × (v ≡ nullable h) × (valBelow ts (nonNull h) w ≡ true))
+
+-- neither
+abbrev pub NotBelow : Types → Val → Val → Type 0
+NotBelow ts v w = (valBelow ts v w ≡ false) × ((h : Heap) → v ≡ nullable h → valBelow ts (nonNull h) w ≡ false)
 
 pub record ThreeOutcomes : Type 0 where
-  -- fits: below
-  pub fits : (ts : Types) (v w : Val) → (valFit ts v w ≡ itFits) ↔ (valBelow ts v w ≡ true)
-  -- would fit: not below, and a nullable reference whose non-null one is below
-  pub would : (ts : Types) (v w : Val) → (valFit ts v w ≡ butForNull) ↔ ((valBelow ts v w ≡ false) × ((h : Heap) × (v ≡ nullable h) × (valBelow ts (nonNull h) w ≡ true)))
-  -- does not fit: neither
-  pub not : (ts : Types) (v w : Val) → (valFit ts v w ≡ unfit) ↔ ((valBelow ts v w ≡ false) × ((h : Heap) → v ≡ nullable h → valBelow ts (nonNull h) w ≡ false))
+  -- fits, would fit, does not fit
+  pub fits : (ts : Types) (v w : Val) → (valFit ts v w ≡ itFits) ↔ Below ts v w
+  pub would : (ts : Types) (v w : Val) → (valFit ts v w ≡ butForNull) ↔ BelowButForNull ts v w
+  pub not : (ts : Types) (v w : Val) → (valFit ts v w ≡ unfit) ↔ NotBelow ts v w
   -- one of them always is the outcome
   pub one : (ts : Types) (v w : Val) → (valFit ts v w ≡ itFits) ⊎ ((valFit ts v w ≡ butForNull) ⊎ (valFit ts v w ≡ unfit))
+  -- and of what the order says for each, no two hold of the same types
+  pub apart : (ts : Types) (v w : Val) → ¬ (Below ts v w × BelowButForNull ts v w) × ¬ (Below ts v w × NotBelow ts v w) × ¬ (BelowButForNull ts v w × NotBelow ts v w)
+  -- "fits" and "would fit", as type rule 6 has the order
+  pub related : (section : List ℕ) (ds : List Definition) → judgeSection section ≡ accepted ds → (v w : Val)
+      → ((valFit (typesOf ds) v w ≡ itFits) ↔ ValOrder (typesOf ds) v w)
+      × ((valFit (typesOf ds) v w ≡ butForNull) ↔ (¬ ValOrder (typesOf ds) v w × ((h : Heap) × (v ≡ nullable h) × ValOrder (typesOf ds) (nonNull h) w)))
