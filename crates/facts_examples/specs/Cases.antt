@@ -158,8 +158,37 @@ branchingCasts =
     ∷ record { asks = body toStruct 1 (0x00 ∷ 0xD0 ∷ 0x70 ∷ 0xD0 ∷ 0x00 ∷ 0xFB ∷ 0x26 ∷ 0x03 ∷ 0x00 ∷ 0x70 ∷ 0x6B ∷ 0x0B ∷ []); says = refusal 23 5 }
     ∷ []
 
+-- type 0 and a function that gives (ref 0)
+abbrev pub oneStruct : List ℕ
+oneStruct = 0x02 ∷ 0x5F ∷ 0x00 ∷ 0x60 ∷ 0x00 ∷ 0x01 ∷ 0x64 ∷ 0x00 ∷ []
+
+-- Request 9: "would fit if it couldn't be null .. gives new refusal 31 at the same place, and 20 keeps the third and the missing
+-- operand." Each 31 was 20.
+abbrev pub onlyNulls : List Case
+onlyNulls =
+    -- only operands: that of a branching cast is one; what its label takes is none (25 as before), nor is a field by rule 2
+    record { asks = body oneStruct 1 (0x00 ∷ 0xD0 ∷ 0x00 ∷ 0xFB ∷ 0x18 ∷ 0x00 ∷ 0x00 ∷ 0x00 ∷ 0x00 ∷ 0x00 ∷ 0x0B ∷ []); says = refusal 31 3 }
+    ∷ record { asks = body oneStruct 1 (0x00 ∷ 0xD0 ∷ 0x00 ∷ 0xFB ∷ 0x18 ∷ 0x03 ∷ 0x00 ∷ 0x00 ∷ 0x00 ∷ 0x00 ∷ 0x0B ∷ []); says = refusal 25 3 }
+    ∷ record { asks = section (0x03 ∷ 0x5F ∷ 0x00 ∷ 0x50 ∷ 0x00 ∷ 0x5F ∷ 0x01 ∷ 0x64 ∷ 0x00 ∷ 0x00 ∷ 0x4F ∷ 0x01 ∷ 0x01 ∷ 0x5F ∷ 0x01 ∷ 0x63 ∷ 0x00 ∷ 0x00 ∷ []); says = refusal 8 2 }
+    -- the bottom too; null and the heap wrong, and an operand missing, are 20 as before
+    ∷ record { asks = body oneStruct 1 (0x00 ∷ 0xD0 ∷ 0x71 ∷ 0x0B ∷ []); says = refusal 31 3 }
+    ∷ record { asks = body (0x02 ∷ 0x50 ∷ 0x00 ∷ 0x5F ∷ 0x00 ∷ 0x60 ∷ 0x00 ∷ 0x01 ∷ 0x64 ∷ 0x62 ∷ 0x00 ∷ []) 1 (0x00 ∷ 0xD0 ∷ 0x00 ∷ 0x0B ∷ []); says = refusal 20 3 }
+    ∷ record { asks = body oneStruct 1 (0x00 ∷ 0x0B ∷ []); says = refusal 20 1 }
+    -- before 28, and in code that is not reached
+    ∷ record { asks = body oneStruct 1 (0x00 ∷ 0x41 ∷ 0x00 ∷ 0xD0 ∷ 0x00 ∷ 0x0B ∷ []); says = refusal 31 5 }
+    ∷ record { asks = body oneStruct 1 (0x00 ∷ 0x00 ∷ 0xD0 ∷ 0x00 ∷ 0x0B ∷ []); says = refusal 31 4 }
+    -- from the top the first at fault decides: the null on top of an i64 for an i32, and under one
+    ∷ record { asks = body (0x02 ∷ 0x5F ∷ 0x00 ∷ 0x60 ∷ 0x00 ∷ 0x02 ∷ 0x7F ∷ 0x64 ∷ 0x00 ∷ []) 1 (0x00 ∷ 0x42 ∷ 0x00 ∷ 0xD0 ∷ 0x00 ∷ 0x0B ∷ []); says = refusal 31 5 }
+    ∷ record { asks = body (0x02 ∷ 0x5F ∷ 0x00 ∷ 0x60 ∷ 0x00 ∷ 0x02 ∷ 0x64 ∷ 0x00 ∷ 0x7F ∷ []) 1 (0x00 ∷ 0xD0 ∷ 0x00 ∷ 0x42 ∷ 0x00 ∷ 0x0B ∷ []); says = refusal 20 5 }
+    -- what local.set takes
+    ∷ record { asks = body oneStruct 1 (0x01 ∷ 0x01 ∷ 0x64 ∷ 0x00 ∷ 0xD0 ∷ 0x00 ∷ 0x21 ∷ 0x00 ∷ 0x00 ∷ 0x0B ∷ []); says = refusal 31 6 }
+    -- a number where any reference is wanted, by ref.is_null and by ref.as_non_null: 20 as before
+    ∷ record { asks = body oneStruct 1 (0x00 ∷ 0x41 ∷ 0x00 ∷ 0xD1 ∷ 0x1A ∷ 0x00 ∷ 0x0B ∷ []); says = refusal 20 3 }
+    ∷ record { asks = body oneStruct 1 (0x00 ∷ 0x41 ∷ 0x00 ∷ 0xD4 ∷ 0x1A ∷ 0x00 ∷ 0x0B ∷ []); says = refusal 20 3 }
+    ∷ []
+
 abbrev pub table : List Case
-table = starred ++ shortCuts ++ branchingCasts
+table = starred ++ shortCuts ++ branchingCasts ++ onlyNulls
 
 abbrev pub agrees : Case → Bool
 agrees c = sameWords (answer (c .asks)) (c .says)
