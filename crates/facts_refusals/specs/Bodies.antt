@@ -1,7 +1,7 @@
 -- What the no to a body says. "A body: section, body size, 27, the locals entry by entry (bytes, 6, 4), then the first faulty
--- instruction: immediates, 6, 21, 23, 24, 25, 29, 22, operands from the top (20), 28, 4; last, 5." Where 20 stands, 31 of request 9 of document 02 stands too: the first operand
--- at fault, from the top, decides. The conditions are the
--- premises of the rules of facts_bodies; an instruction that keeps all of its own is derivable.
+-- instruction: immediates, 6, 21, 23, 24, 25, 29, 22, operands from the top (20), 28, 4; last, 5." Where 20 stands, 31 of
+-- request 9 of document 02 stands too: the first operand at fault, from the top, decides. The conditions are the premises of
+-- the rules of facts_bodies; an instruction that keeps all of its own is derivable.
 use Prim.Native.Nat.{ℕ, suc, _+_, _≤_, _<_}
 use mathlib.Core.Path.{_≡_}
 use mathlib.Core.Logic.{_↔_}

@@ -1,5 +1,6 @@
-// Type rule 6: which heap types are below which, and whether one value type fits another. Types are given by their codes, and the table is
-// read as it stands, for any words: each answer is that of the rule's test (scope's Order.antt) over what the table says.
+// Type rule 6: which heap types are below which, and whether one value type fits another. Types are given by their codes, and
+// the table is read as it stands, for any words: each answer is that of the rule's test (scope's Order.antt) over what the
+// table says.
 use scope::sizes;
 use type_table::HeapKind;
 use type_table::Link;
