@@ -66,7 +66,8 @@ pub record Taken : Type 0 where
 abbrev pub alsoTaken : Operand → Taken → Taken
 alsoTaken o t = record { taken = o ∷ t .taken; left = t .left }
 
--- Operands from the top: 20 where one is missing; 31 or 20 at the first that does not fit. "After unreachable, br and return the stack yields unknowns."
+-- Operands from the top: 20 where one is missing; 31 or 20 at the first that does not fit. "After unreachable, br and return the
+-- stack yields unknowns."
 unfoldable pub takeAll : Types → Bool → List Wanted → List Operand → Ruled Taken
 takeAll ts dead [] os = allowed (record { taken = []; left = os })
 takeAll ts dead (w ∷ ws) [] =

@@ -1,6 +1,6 @@
 -- `type_order::ref_fit` meets its contract: heaps decide, and then whether null is wrong.
 use borrow.Author.Needs.{needs}
-use Rattle.type_order.proofs.Same.{ref-exits}
+use Rattle.type_order.proofs.Same.{ref-exits, heaps-apart, only-null-wrong}
 use Rattle.type_order.proofs.ref_fit.Statement.{statement}
 use Rattle.type_order.proofs.ref_fit.Tie as tie
 
@@ -17,13 +17,13 @@ heap-below-requires : tie.Need-heap-below-requires
 heap-below-requires c κs = search needs
 
 returns : tie.Need-returns
-returns c = search (ref-exits, needs)
+returns c = search (heaps-apart, needs)
 
 returns-2 : tie.Need-returns-2
 returns-2 c = search (ref-exits, needs)
 
 returns-3 : tie.Need-returns-3
-returns-3 c = search (ref-exits, needs)
+returns-3 c = search (only-null-wrong, needs)
 
 returns-4 : tie.Need-returns-4
 returns-4 c = search (ref-exits, needs)
