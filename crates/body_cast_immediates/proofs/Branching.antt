@@ -1,18 +1,17 @@
 -- Each way out of the readers of branching casts: flags, label, source and target, in the definition's order.
-use Prim.Native.Nat.{ℕ, zero, suc, _+_, _^_, _≤_, _<_}
-use mathlib.Core.Path.{_≡_, refl, sym, ap, _∙_}
-use mathlib.Core.Bool.{Bool, true, false, cond}
+use Prim.Native.Nat.{ℕ, _+_, _≤_}
+use mathlib.Core.Path.{_≡_, sym, _∙_}
+use mathlib.Core.Bool.{Bool, true, false}
 use mathlib.Core.List.{List}
 use native.Mathlib.Omega.{arith}
-use lib.ListN.{length, getElem?}
-use lib.Dec.{ltb}
+use lib.ListN.{getElem?}
 use borrow.Author.Tests.{ne-eqb, le-ltb}
 use Rattle.scope.specs.Refusals.{bytesEnd, notListed}
 use Rattle.scope.specs.Reading.{Read, got, refused, then}
 use Rattle.scope.specs.Numbers.{u32}
 use Rattle.scope.specs.Syntax.{Heap}
 use Rattle.scope.specs.Sections.{heapAt}
-use Rattle.scope.specs.Instructions.{Cast, Op, Instr, op, castAt}
+use Rattle.scope.specs.Instructions.{Cast, Op, op, castAt}
 use Rattle.scope.proofs.Impossible.{impossible}
 use Rattle.number.specs.declared.Byte.{Byte}
 use Rattle.number.specs.declared.Byte
@@ -29,7 +28,7 @@ use Rattle.body_immediates.specs.declared.Instruction.{Instruction}
 use Rattle.body_immediates.specs.declared.Instruction
 use Rattle.body_immediates.specs.declared.InstructionRead.{InstructionRead}
 use Rattle.body_immediates.specs.declared.InstructionRead
-use Rattle.body_immediates.specs.Coding.{castWith, operationOf, instructionOf, instructionIs}
+use Rattle.body_immediates.specs.Coding.{operationOf, instructionOf, instructionIs}
 use Rattle.body_cast_immediates.specs.declared.CastRead.{CastRead}
 use Rattle.body_cast_immediates.specs.declared.CastRead
 use Rattle.body_cast_immediates.specs.Casting.{castIs, castTypesAt, casting, castingAt}

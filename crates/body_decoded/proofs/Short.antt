@@ -8,7 +8,7 @@ use mathlib.Core.List.{List, [], _∷_}
 use native.Mathlib.Omega.{arith}
 use lib.ListN.{length, getElem?}
 use lib.Dec.{eqb}
-use Rattle.scope.specs.Reading.{Read, got, refused, Reader, given}
+use Rattle.scope.specs.Reading.{Read, got, Reader, given}
 use Rattle.scope.specs.Numbers.{u32, s32, s64, float32, float64}
 use Rattle.scope.specs.Syntax.{Val}
 use Rattle.scope.specs.Sections.{heapAt, valAt}

@@ -1,13 +1,11 @@
 -- Each way out of the readers of instructions with numbers: the number that was read, and the code that was tested, make the
 -- definition give the same instruction and place.
-use Prim.Native.Nat.{ℕ, _+_, _-_, _^_, _≤_, _<_}
-use mathlib.Core.Path.{_≡_, refl, sym, ap, _∙_}
+use Prim.Native.Nat.{ℕ, _-_, _^_, _≤_, _<_}
+use mathlib.Core.Path.{_≡_}
 use mathlib.Core.List.{List}
 use native.Mathlib.Omega.{arith}
 use borrow.Author.Tests.{ne-eqb}
-use Rattle.scope.specs.Reading.{Read, got, refused, then}
-use Rattle.scope.specs.Numbers.{Whole, plus, minus, u32, s32, s64, float32, float64}
-use Rattle.scope.specs.Instructions.{Op, Instr, op}
+use Rattle.scope.specs.Numbers.{u32, s32, s64, float32, float64}
 use Rattle.number.specs.declared.Natural.{Natural}
 use Rattle.number.specs.declared.Natural
 use Rattle.number.specs.declared.Integer.{Integer}
@@ -20,7 +18,7 @@ use Rattle.body_immediates.specs.declared.Instruction
 use Rattle.body_immediates.specs.declared.InstructionRead.{InstructionRead}
 use Rattle.body_immediates.specs.declared.InstructionRead
 use Rattle.body_immediates.proofs.Signs.{Bytes, signed-more}
-use Rattle.body_immediates.specs.Coding.{operationOf, instructionOf, instructionIs, numbered, numberedAt, constantAt, wideAt, float32ConstAt, float64ConstAt, typed, typedAt, fielded, fieldedAt}
+use Rattle.body_immediates.specs.Coding.{operationOf, instructionOf, instructionIs, numbered, numberedAt, constantAt, wideAt, float32ConstAt, float64ConstAt, typed, typedAt, fieldedAt}
 
 -- numbered_at
 

@@ -1,6 +1,6 @@
 -- What a caller learns from an answer of the readers of instructions: the instruction that the definition read.
 use Prim.Native.Nat.{ℕ}
-use mathlib.Core.Path.{_≡_, refl, ap}
+use mathlib.Core.Path.{_≡_, ap}
 use Rattle.scope.specs.Reading.{Read, got, refused}
 use Rattle.scope.specs.Instructions.{Instr}
 use Rattle.scope.proofs.Impossible.{impossible}

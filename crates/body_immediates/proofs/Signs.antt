@@ -1,7 +1,7 @@
 -- A number that is read as one below zero is not zero: seven bits of each byte lie below the weight of the next byte. So the
 -- 32 bits that an i32 is kept as are below 2 to the 32.
 use Prim.Native.Nat.{ℕ, zero, suc, _+_, _-_, _*_, _^_, _<_}
-use mathlib.Core.Path.{_≡_, refl, sym, ap, _∙_}
+use mathlib.Core.Path.{_≡_, refl, ap, _∙_}
 use mathlib.Core.Bool.{Bool, true, false, cond}
 use mathlib.Core.Option.{Option, none, some}
 use mathlib.Core.List.{List, [], _∷_}
@@ -12,7 +12,7 @@ use lib.Pow.{pow-add}
 use borrow.Author.Tests.{ltb-true}
 use Rattle.scope.specs.Reading.{got, refused, given}
 use Rattle.scope.specs.Refusals.{badNumber}
-use Rattle.scope.specs.Numbers.{Bits, bits, cut, long, under, bitsAt, greatestLength, inRange, Whole, plus, minus, signed-of, withinSigned, signed}
+use Rattle.scope.specs.Numbers.{Bits, bits, cut, long, under, bitsAt, greatestLength, inRange, plus, minus, signed-of, withinSigned, signed}
 use Rattle.scope.proofs.Impossible.{impossible}
 
 -- memory of bytes

@@ -1,19 +1,19 @@
 -- Each way out of the readers of instructions with types: what was read of a type is its code, and the code that was tested
 -- makes the definition give the same instruction and place.
-use Prim.Native.Nat.{ℕ, _+_, _^_, _≤_, _<_}
-use mathlib.Core.Path.{_≡_, refl, sym, ap, _∙_}
-use mathlib.Core.Bool.{Bool, true, false}
-use mathlib.Core.List.{List, [], _∷_}
+use Prim.Native.Nat.{ℕ, _+_}
+use mathlib.Core.Path.{_≡_, sym, _∙_}
+use mathlib.Core.Bool.{true}
+use mathlib.Core.List.{List}
 use native.Mathlib.Omega.{arith}
-use lib.ListN.{length, getElem?}
-use borrow.Author.Tests.{eq-eqb, ne-eqb}
+use lib.ListN.{getElem?}
+use borrow.Author.Tests.{ne-eqb}
 use mir.Syntax.{w64}
 use mir.Val.{Fits}
 use Rattle.scope.specs.Refusals.{bytesEnd}
-use Rattle.scope.specs.Reading.{Read, got, refused, then}
+use Rattle.scope.specs.Reading.{Read, got}
 use Rattle.scope.specs.Syntax.{Heap, Val}
 use Rattle.scope.specs.Sections.{heapAt, valAt}
-use Rattle.scope.specs.Instructions.{Op, Instr, op, blockTypeAt}
+use Rattle.scope.specs.Instructions.{blockTypeAt}
 use Rattle.number.specs.declared.Byte.{Byte}
 use Rattle.number.specs.declared.Byte
 use Rattle.number.specs.Answers.{ByteAt}

@@ -5,12 +5,11 @@ use mathlib.Core.Path.{_≡_, refl, sym, ap, _∙_}
 use mathlib.Core.Bool.{Bool, true, false, not, false≢true}
 use mathlib.Core.Option.{Option, none, some}
 use mathlib.Core.List.{List}
-use lib.ListN.{length, getElem?}
+use lib.ListN.{getElem?}
 use borrow.Author.Tests.{eq-eqb, ne-eqb}
 use Rattle.scope.specs.Refusals.{bytesEnd, notListed}
-use Rattle.scope.specs.Reading.{Read, got, refused, given, then}
 use Rattle.scope.specs.Numbers.{u32}
-use Rattle.scope.specs.Instructions.{Instr, instrAt}
+use Rattle.scope.specs.Instructions.{instrAt}
 use Rattle.number.specs.declared.Byte.{Byte}
 use Rattle.number.specs.declared.Byte
 use Rattle.number.specs.declared.Natural.{Natural}

@@ -15,7 +15,6 @@ use Rattle.scope.specs.Reading.{Read, got, refused, then}
 use Rattle.scope.specs.Numbers.{u32}
 use Rattle.scope.specs.Syntax.{Val, func, Definition, typesOf}
 use Rattle.scope.specs.Sections.{ended}
-use Rattle.scope.specs.Judging.{accepted}
 use Rattle.scope.specs.BodyRules.{Context}
 use Rattle.scope.specs.Bodies.{State, Function, Code, Body, instructions, startState, contextOf, localsAt, judgeFrom, bodyAt, judgedOf}
 use Rattle.scope.specs.Answers.{verdictOf}

@@ -1,7 +1,7 @@
 -- What a caller learns from `locals_at`: the locals that the definition read, and a
 -- place after them that lies inside the input.
-use Prim.Native.Nat.{ℕ, zero, suc, _+_, _≤_, _<_}
-use mathlib.Core.Path.{_≡_, refl, ap}
+use Prim.Native.Nat.{ℕ, zero, suc, _+_, _≤_}
+use mathlib.Core.Path.{_≡_, ap}
 use mathlib.Core.List.{List}
 use native.Mathlib.Omega.{arith}
 use native.Mathlib.Nat.{le-trans, le-refl}
@@ -13,7 +13,7 @@ use Rattle.scope.specs.Reading.{Read, got, refused}
 use Rattle.scope.specs.Syntax.{Val}
 use Rattle.scope.specs.TypeRules.{valNames}
 use Rattle.scope.specs.Bodies.{localsAt}
-use Rattle.scope.proofs.Forward.{Ends, stops, reaches, ends-then, ends-cond, ends-from, one-less, unsigned-takes, val-takes}
+use Rattle.scope.proofs.Forward.{Ends, stops, reaches, ends-then, ends-cond, one-less, unsigned-takes, val-takes}
 use Rattle.scope.proofs.Impossible.{impossible}
 use Rattle.body_locals.specs.declared.LocalsRead.{LocalsRead}
 use Rattle.body_locals.specs.declared.LocalsRead

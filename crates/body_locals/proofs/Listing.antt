@@ -1,7 +1,7 @@
 -- The loop of `locals_at` and the definition `localsAt` walk the same entries: the locals that are done, put before what the
 -- definition reads from here, are what it reads from the start; and the words that were put are the codes of those done.
 use Prim.Native.Nat.{ℕ, zero, suc, _+_, _-_, _^_, _≤_, _<_}
-use mathlib.Core.Path.{_≡_, refl, sym, ap, ap₂, _∙_}
+use mathlib.Core.Path.{_≡_, refl, ap, ap₂, _∙_}
 use mathlib.Core.Bool.{Bool, true, false, cond}
 use mathlib.Core.List.{List, [], _∷_, _++_, map, append-assoc, append-nil, map-append}
 use native.Mathlib.Omega.{arith}
@@ -28,7 +28,7 @@ use Rattle.body_locals.specs.declared.Entry.{Entry}
 use Rattle.body_locals.specs.declared.Entry
 use Rattle.body_locals.specs.declared.LocalsRead.{LocalsRead}
 use Rattle.body_locals.specs.declared.LocalsRead
-use Rattle.body_locals.specs.Entries.{Limits, Space, Lent, entryAt, entryIs, localsIs, LocalsPut}
+use Rattle.body_locals.specs.Entries.{Limits, Space, Lent, entryAt, entryIs, LocalsPut}
 
 -- an entry, taken apart
 

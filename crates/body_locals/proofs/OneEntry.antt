@@ -1,16 +1,16 @@
 -- Each way out of the reader of one entry of a locals list, in the definition's order: count, type, reach, size.
-use Prim.Native.Nat.{ℕ, _+_, _^_, _≤_, _<_}
-use mathlib.Core.Path.{_≡_, refl, sym, ap, _∙_}
+use Prim.Native.Nat.{ℕ, _+_, _≤_, _<_}
+use mathlib.Core.Path.{_≡_, sym, ap, _∙_}
 use mathlib.Core.Bool.{Bool, true, false, not, cond}
 use mathlib.Core.List.{List}
 use native.Mathlib.Omega.{arith}
 use lib.Dec.{ltb, leb}
-use borrow.Author.Tests.{not-true, not-false, le-leb, lt-leb, leb-true}
+use borrow.Author.Tests.{not-true, not-false, le-leb, lt-leb}
 use mir.Syntax.{w64}
 use mir.Val.{Fits}
 use Rattle.scope.specs.Sizes.{mostTypes, mostLocals}
 use Rattle.scope.specs.Refusals.{oversize, outOfReach}
-use Rattle.scope.specs.Reading.{Read, got, refused, then}
+use Rattle.scope.specs.Reading.{got, refused}
 use Rattle.scope.specs.Numbers.{u32}
 use Rattle.scope.specs.Lists.{every}
 use Rattle.scope.specs.Syntax.{Val}

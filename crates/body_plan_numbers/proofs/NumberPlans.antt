@@ -2,7 +2,7 @@
 -- what the ranges say of its code.
 use Prim.Native.Nat.{ℕ, zero, suc, _+_, _≤_, _<_}
 use mathlib.Core.Path.{_≡_, refl, sym, ap, _∙_}
-use mathlib.Core.Option.{Option, none, some}
+use mathlib.Core.Option.{some}
 use mathlib.Core.List.{List, [], _∷_}
 use native.Mathlib.Omega.{arith}
 use mir.Syntax.{w64}
@@ -13,11 +13,11 @@ use Rattle.scope.specs.Order.{numberCode}
 use Rattle.scope.specs.Numeric.{Numeric, numericOf}
 use Rattle.scope.specs.Instructions.{Op, i64-const, f32-const, f64-const, numeric}
 use Rattle.scope.specs.BodyRules.{Context, Scope, Ruled, fault, Plan, value, values, takes, planOf}
-use Rattle.type_table.specs.View.{valAtCode, codesAt}
+use Rattle.type_table.specs.View.{codesAt}
 use Rattle.type_table.proofs.CodesBack.{val-code}
 use Rattle.body_numeric.specs.declared.NumericRow.{NumericRow}
 use Rattle.body_numeric.specs.Entries.{coded}
-use Rattle.body_numeric.proofs.Laws.{FewOperands, few-operands, no-code, a-code}
+use Rattle.body_numeric.proofs.Laws.{few-operands, no-code, a-code}
 use Rattle.body_state.specs.declared.Values
 use Rattle.body_state.specs.declared.Planned.{Planned}
 use Rattle.body_state.specs.declared.Planned

@@ -7,7 +7,7 @@ use mathlib.Core.Bool.{Bool, true, false, not, _||_}
 use mathlib.Core.List.{List}
 use lib.ListN.{length}
 use Rattle.scope.specs.Abstract.{Abstract}
-use Rattle.scope.specs.Syntax.{Heap, abstract, Val, ref, nullable, Definition, Types, typesOf}
+use Rattle.scope.specs.Syntax.{Heap, abstract, ref, nullable, Definition, Types, typesOf}
 use Rattle.scope.specs.Order.{HeapOrder, transitive, ValOrder, heaps, nulls, itself, chained, heapBelow, valBelow}
 use Rattle.scope.specs.Judging.{accepted, judgeSection}
 use Rattle.scope.specs.BodyRules.{topOf, oneHierarchy}

@@ -1,17 +1,15 @@
 -- What the definitions answer, as a list of numbers that can be compared and printed: 0, number and place for a refusal;
 -- else 1 and the answer's own words.
 use Prim.Native.Nat.{ℕ, _+_, _*_, _^_}
-use mathlib.Core.Bool.{Bool, true, false, _&&_}
+use mathlib.Core.Bool.{Bool}
 use mathlib.Core.List.{List, [], _∷_, _++_}
 use lib.ListN.{length}
 use lib.Dec.{eqb}
 use Rattle.scope.specs.Lists.{pairwise}
-use Rattle.scope.specs.Syntax.{Definition}
 use Rattle.scope.specs.Judging.{Judged, accepted, rejected, judgeSection, askType, partOf}
-use Rattle.scope.specs.Bodies.{Body, instructions, judgeBody}
-use Rattle.scope.specs.Running.{Ending, done, trapped, spent, wrong, Trial, trialRun, placeOf}
+use Rattle.scope.specs.Bodies.{instructions, judgeBody}
+use Rattle.scope.specs.Running.{Ending, done, trapped, spent, wrong, trialRun}
 use Rattle.scope.specs.Memory.{tableRows, tableCodes, StateWords, stateWords}
-use Rattle.scope.specs.Machine.{Machine}
 use Rattle.scope.specs.Answers.{machineOf}
 
 abbrev pub answered : {A : Type 0} → (A → List ℕ) → Judged A → List ℕ

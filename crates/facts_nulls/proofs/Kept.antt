@@ -3,12 +3,12 @@
 use Prim.Native.Nat.{ℕ}
 use mathlib.Core.Path.{_≡_, refl, ap}
 use mathlib.Core.Bool.{Bool, true, false}
-use mathlib.Core.List.{List, [], _∷_, map}
+use mathlib.Core.List.{List, _∷_, map}
 use Rattle.scope.specs.Instructions.{Op}
 use Rattle.scope.specs.BodyRules.{Context, Scope, Plan, Ruled, allowed, fault, test, planOf}
 use Rattle.facts_sections.specs.FirstFault.{FirstBroken, broken, kept-then}
 use Rattle.facts_bodies.proofs.Premises.{Ordered}
-use Rattle.facts_refusals.specs.Instructions.{Question, codeListed, heapsReached, typeReached, labelThere, localThere, isStruct, hasField, noDescriptor, hasDescriptor, castDescribed, fieldMutable, supertypeShared, labelHasTypes, labelTakes, allDefaults, localSet, numberOf, asks, ruleOf, askedRules}
+use Rattle.facts_refusals.specs.Instructions.{Question, codeListed, heapsReached, typeReached, labelThere, localThere, isStruct, hasField, noDescriptor, hasDescriptor, castDescribed, fieldMutable, supertypeShared, labelHasTypes, labelTakes, allDefaults, localSet, numberOf, asks, ruleOf}
 use Rattle.facts_refusals.proofs.Judged.{fault-exactly}
 use Rattle.facts_refusals.proofs.Asked.{plan-asked}
 use Rattle.facts_nulls.specs.Before.{as20}

@@ -16,9 +16,9 @@ use Rattle.scope.specs.Order.{itFits, butForNull, unfit}
 use Rattle.scope.specs.Syntax.{Types, Definition, Val, typesOf}
 use Rattle.scope.specs.Sections.{ended}
 use Rattle.scope.specs.Judging.{Judged, accepted, rejected, andThen, judgeSection}
-use Rattle.scope.specs.Instructions.{Instr, block, loop, end, op, instrAt}
+use Rattle.scope.specs.Instructions.{Instr, block, loop, end, op}
 use Rattle.scope.specs.BodyRules.{Context, Wanted, Plan, Ruled, allowed, fault, andRuled, fromTop, reached, planOf}
-use Rattle.scope.specs.Bodies.{Operand, unknown, fits, nonNullOf, fit, operandTest, Taken, alsoTaken, takeAll, onTop, Frame, ofBlock, ofLoop, State, scopeOf, operandsIn, Next, goesOn, finished, withinOperands, afterPlan, doPlan, noneLeft, judgeEnd, judgeInstr, Code, onRuled, onNext, judgeFrom, localsAt, Function, functionOf, Body, startState, contextOf, bodyAt, judgedOf, judgeBody}
+use Rattle.scope.specs.Bodies.{Operand, unknown, fits, nonNullOf, fit, operandTest, alsoTaken, takeAll, onTop, Frame, ofBlock, ofLoop, State, scopeOf, operandsIn, Next, goesOn, finished, withinOperands, afterPlan, doPlan, noneLeft, judgeEnd, judgeInstr, Code, onRuled, onNext, judgeFrom, localsAt, Function, functionOf, Body, startState, contextOf, bodyAt, judgedOf, judgeBody}
 use Rattle.scope.proofs.Impossible.{impossible}
 use Rattle.scope.proofs.Accepted.{accepted-passes}
 use Rattle.facts_bodies.proofs.Premises.{Ordered, passes-ordered}

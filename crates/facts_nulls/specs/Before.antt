@@ -17,8 +17,8 @@ use Rattle.scope.specs.Sections.{ended}
 use Rattle.scope.specs.TypeRules.{valNames}
 use Rattle.scope.specs.Judging.{Judged, accepted, rejected, andThen, judgeSection}
 use Rattle.scope.specs.Instructions.{Instr, block, loop, end, op, instrAt}
-use Rattle.scope.specs.BodyRules.{Context, Wanted, Plan, Ruled, allowed, fault, test, andRuled, fromTop, reached, planOf}
-use Rattle.scope.specs.Bodies.{Operand, unknown, fits, Taken, alsoTaken, onTop, Frame, ofBlock, ofLoop, State, scopeOf, Next, goesOn, finished, withinOperands, afterPlan, entered, noneLeft, Code, onRuled, onNext, localsAt, Function, functionOf, Body, startState, contextOf, judgedOf, judgeBody}
+use Rattle.scope.specs.BodyRules.{Context, Wanted, Plan, Ruled, allowed, test, andRuled, fromTop, reached, planOf}
+use Rattle.scope.specs.Bodies.{Operand, unknown, fits, Taken, alsoTaken, onTop, Frame, ofBlock, ofLoop, State, scopeOf, Next, finished, withinOperands, afterPlan, entered, noneLeft, Code, onRuled, onNext, localsAt, Function, functionOf, Body, startState, contextOf, judgedOf, judgeBody}
 
 -- "operands from the top (20)"
 unfoldable pub takeBefore : Types → Bool → List Wanted → List Operand → Ruled Taken

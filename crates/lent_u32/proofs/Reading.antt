@@ -1,7 +1,7 @@
 -- Each way out of a read of the scratch. A store and the wiping loop are those of crate lent_u16, whose laws speak of numbers
 -- of any width.
 use Prim.Native.Nat.{ℕ, _≤_, _<_, _^_}
-use mathlib.Core.Path.{_≡_, refl, sym}
+use mathlib.Core.Path.{refl, sym}
 use mathlib.Core.List.{List}
 use native.Mathlib.Omega.{arith}
 use lib.ListN.{length, getD, List·getD-eq-default}

@@ -1,26 +1,23 @@
 -- The loop of `leb_at` and the definition `bitsAt` walk the same bytes: what was read so far, put below what the definition
 -- reads from here, is what it reads from the start. Each turn moves seven bits from the one to the other.
-use Prim.Native.Nat.{ℕ, zero, suc, _+_, _-_, _*_, _^_, _≤_, _<_}
+use Prim.Native.Nat.{ℕ, suc, _+_, _-_, _*_, _^_, _≤_, _<_}
 use mathlib.Core.Path.{_≡_, refl, sym, ap, _∙_}
-use mathlib.Core.Bool.{Bool, true, false, cond}
 use mathlib.Core.Option.{Option, none, some}
 use mathlib.Core.List.{List}
 use native.Mathlib.Omega.{arith}
-use native.Mathlib.Nat.{mul-add, mul-assoc, add-assoc, mul-le-mul-left, mul-le-mul, zero-add, one-mul}
+use native.Mathlib.Nat.{mul-add, mul-assoc, add-assoc, mul-le-mul-left}
 use lib.ListN.{length, getElem?}
 use lib.Pow.{pow-add, pow-mono}
-use lib.Dec.{T, ltb, lit≤, lit<}
 use borrow.Author.Tests.{lt-ltb, le-ltb}
 use mir.Syntax.{w64}
 use mir.Val.{Fits}
-use Rattle.scope.specs.Reading.{given}
 use Rattle.scope.specs.Numbers.{Bits, bits, cut, long, under, bitsAt}
 use Rattle.scope.proofs.Impossible.{impossible}
 use Rattle.number.specs.declared.Byte.{Byte}
 use Rattle.number.specs.declared.Byte
 use Rattle.number.specs.declared.Leb.{Leb}
 use Rattle.number.specs.declared.Leb
-use Rattle.number.specs.Answers.{byteIs, byteLimit, above, ByteAt, MostBytes, GoesOn, Few, BitsRead}
+use Rattle.number.specs.Answers.{byteIs, byteLimit, above, ByteAt, MostBytes, GoesOn, BitsRead}
 
 above-none : (r : Bits) → r ≡ above 0 1 0 r
 above-none (bits u j next) = let p : 0 + 1 * u ≡ u = omega arith in let q : 0 + j ≡ j = omega arith in cc

@@ -1,14 +1,14 @@
 -- Each way out of a number reader, as a law over plain variables: what the answer says of the definition.
-use Prim.Native.Nat.{ℕ, zero, suc, _+_, _≤_, _<_, _^_}
-use mathlib.Core.Path.{_≡_, refl, ap}
-use mathlib.Core.Option.{Option, none, some}
+use Prim.Native.Nat.{ℕ, zero, suc, _≤_, _<_, _^_}
+use mathlib.Core.Path.{_≡_, refl}
+use mathlib.Core.Option.{none, some}
 use mathlib.Core.List.{List, [], _∷_}
 use native.Mathlib.Omega.{arith}
 use native.Mathlib.Nat.{le-of-suc-le-suc, not-suc-le-zero}
 use lib.ListN.{length, getD, getElem?}
 use Rattle.number.specs.declared.Byte.{Byte}
 use Rattle.number.specs.declared.Byte
-use Rattle.number.specs.Answers.{byteIs, ByteAt}
+use Rattle.number.specs.Answers.{ByteAt}
 use Rattle.scope.proofs.Impossible.{impossible}
 
 -- the element of a list at a place inside it, and past its end

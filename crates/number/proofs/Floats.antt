@@ -15,7 +15,7 @@ use Rattle.scope.specs.Numbers.{littleEndian, floatBytes}
 use Rattle.scope.proofs.Impossible.{impossible}
 use Rattle.number.specs.declared.Natural.{Natural}
 use Rattle.number.specs.declared.Natural
-use Rattle.number.specs.Answers.{byteLimit, ByteIs, FloatLength, FloatRead, naturalIs}
+use Rattle.number.specs.Answers.{ByteIs, FloatLength, FloatRead}
 use Rattle.number.proofs.Exits.{element-there, element-missing}
 
 -- byte_inside

@@ -1,10 +1,10 @@
 -- What a caller learns from an answer of this crate: what the definition read, and the bounds of a number that was read.
-use Prim.Native.Nat.{ℕ, _+_, _-_, _^_, _≤_, _<_}
-use mathlib.Core.Path.{_≡_, refl, sym, _∙_}
+use Prim.Native.Nat.{ℕ, _-_, _^_, _≤_, _<_}
+use mathlib.Core.Path.{_≡_, refl}
 use mathlib.Core.Bool.{Bool, true, false, cond}
 use mathlib.Core.List.{List}
 use lib.ListN.{length}
-use lib.Dec.{ltb, leb}
+use lib.Dec.{ltb}
 use borrow.Author.Tests.{ltb-true, leb-true}
 use Rattle.scope.specs.Refusals.{badNumber}
 use Rattle.scope.specs.Reading.{Read, got, refused}

@@ -7,7 +7,6 @@ use native.Mathlib.Nat.{le-refl}
 use lib.ListN.{length}
 use mir.Syntax.{w32}
 use mir.Val.{Fits}
-use Rattle.scope.specs.Instructions.{end}
 use Rattle.scope.specs.Bodies.{Code}
 use Rattle.scope.specs.Machine.{Value, Block, Machine, Program, goes, ends, withControl, finish, doEnd, doInstr}
 use Rattle.run_values.specs.Layout.{kindWord, placeWord, belowWord}

@@ -9,7 +9,7 @@ use mir.Val.{Fits}
 use Rattle.scope.specs.Layout.{blockSpan, blocksSize}
 use Rattle.scope.specs.Sizes.{mostBlocks}
 use Rattle.scope.specs.Reading.{got}
-use Rattle.scope.specs.Instructions.{Instr, block, instrAt}
+use Rattle.scope.specs.Instructions.{Instr, instrAt}
 use Rattle.scope.specs.Machine.{Value, Machine, Program, goes, withControl, Block, doInstr}
 use Rattle.scope.proofs.Forward.{never-back}
 use Rattle.scope.proofs.ForwardBodies.{instr-takes}

@@ -4,7 +4,7 @@ use mathlib.Core.Path.{_≡_, refl, sym, ap, ap₂, _∙_}
 use mathlib.Core.Bool.{Bool, true, false, not, _&&_, _||_, Bool·beq}
 use mathlib.Core.Option.{some}
 use lib.Dec.{eqb}
-use lib.Ieee.{Float, Format, ofBits, lt, eq, le, ne}
+use lib.Ieee.{Float, Format, ofBits, le, ne}
 use borrow.Author.Tests.{eq-eqb, eqb-true, eqb-false, ne-eqb}
 use Rattle.scope.specs.Syntax.{i32}
 use Rattle.scope.specs.Rounding.{Width}

@@ -1,9 +1,8 @@
 -- Each way out of the comparisons of floats.
-use Prim.Native.Nat.{ℕ}
 use mathlib.Core.Path.{_≡_, refl, ap, _∙_}
 use mathlib.Core.Bool.{Bool}
 use lib.Ieee.{Float, binary32, binary64, lt, eq, le, ne}
-use Rattle.scope.specs.Syntax.{Number, i32, f32, f64}
+use Rattle.scope.specs.Syntax.{i32, f32, f64}
 use Rattle.scope.specs.Rounding.{single, double}
 use Rattle.run_value.specs.declared.Value.{Value as Carrier}
 use Rattle.run_calculated.specs.declared.Calculated

@@ -9,7 +9,7 @@ use lib.Dec.{eqb}
 use Rattle.scope.specs.Layout.{valueSpan, blockSpan}
 use Rattle.scope.specs.Reading.{got}
 use Rattle.scope.specs.Lists.{joined}
-use Rattle.scope.specs.Instructions.{Op, Instr, block, end, op, instrAt}
+use Rattle.scope.specs.Instructions.{Op, Instr, end, op, instrAt}
 use Rattle.scope.specs.Bodies.{Code}
 use Rattle.scope.specs.Machine.{Value, Block, openBlock, openLoop, pastEnds}
 use Rattle.scope.specs.Memory.{belowOf, allOperands}

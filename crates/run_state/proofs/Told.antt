@@ -13,7 +13,7 @@ use Rattle.scope.specs.Instructions.{Instr, instrAt}
 use Rattle.scope.specs.Bodies.{Code}
 use Rattle.scope.specs.Machine.{Value, Block}
 use Rattle.scope.specs.Running.{placeOf}
-use Rattle.scope.specs.Memory.{valueWords, belowOf, blockKind, blockPlace, heightOf, blockWords, StateWords, stateWords}
+use Rattle.scope.specs.Memory.{valueWords, belowOf, blockKind, blockPlace, heightOf, blockWords, stateWords}
 use Rattle.run_values.specs.Layout.{kindWord, placeWord, belowWord}
 use Rattle.run_values.specs.Values.{valueAt, entryIn}
 use Rattle.run_values.proofs.Numbered.{numbered-length}

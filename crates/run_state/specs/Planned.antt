@@ -1,5 +1,5 @@
 -- What is seen of a machine, and what it is to tell the move of an instruction from what is seen.
-use Prim.Native.Nat.{ℕ, _+_}
+use Prim.Native.Nat.{ℕ}
 use mathlib.Core.Path.{_≡_}
 use mathlib.Core.List.{List}
 use lib.ListN.{length, drop}

@@ -2,7 +2,7 @@
 -- counts, and zero beyond them.
 use Prim.Native.Nat.{ℕ, _+_, _*_}
 use mathlib.Core.Path.{_≡_}
-use mathlib.Core.List.{List, [], _∷_}
+use mathlib.Core.List.{[], _∷_}
 use lib.ListN.{take}
 use Rattle.scope.specs.Layout.{valueSpan, objectSpan, blockSpan}
 use Rattle.scope.specs.Memory.{StateWords}

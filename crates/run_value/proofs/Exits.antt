@@ -19,7 +19,7 @@ use Rattle.run_values.specs.Values.{within, valueAt, setValue}
 use Rattle.run_values.proofs.Laws.{value-null, value-object, value-number}
 use Rattle.run_value.specs.declared.Value
 use Rattle.run_value.specs.declared.Value.{Value as Carrier}
-use Rattle.run_value.specs.Carried.{decoded, valueKind, valueBits, withValue, SingleIs, DoubleIs, ValueIs}
+use Rattle.run_value.specs.Carried.{valueKind, valueBits, withValue, SingleIs, DoubleIs, ValueIs}
 use Rattle.run_value.proofs.Laws.{within-twice}
 
 -- floats and their bits, once over the format

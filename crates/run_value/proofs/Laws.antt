@@ -1,7 +1,7 @@
 -- The words of a value say that value, and they are its words.
-use Prim.Native.Nat.{ℕ, _%_, _^_}
+use Prim.Native.Nat.{ℕ}
 use mathlib.Core.Path.{_≡_, refl, ap}
-use mathlib.Core.List.{List, [], _∷_}
+use mathlib.Core.List.{[], _∷_}
 use native.Mathlib.Omega.{arith}
 use lib.Ieee.{binary32, binary64, toBits}
 use Rattle.scope.specs.Syntax.{Number, i32, i64, f32, f64}

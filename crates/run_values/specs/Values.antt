@@ -1,6 +1,6 @@
 -- What the words of a run's memory say: a total reading of two words as a value of the machine (scope's Machine.antt), in
 -- the layout of scope's Memory.antt (valueWords, localWords).
-use Prim.Native.Nat.{ℕ, zero, suc, _+_, _-_, _*_, _%_, _^_, _<_}
+use Prim.Native.Nat.{ℕ, zero, suc, _+_, _-_, _%_, _^_, _<_}
 use mathlib.Core.Path.{_≡_}
 use mathlib.Core.Bool.{cond}
 use mathlib.Core.Option.{Option, none, some}

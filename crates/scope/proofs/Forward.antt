@@ -2,7 +2,7 @@
 -- `cond` and `given`, each of which keeps "the place after lies between lo and the input's length"; a byte that is
 -- there moves lo by one.
 use Prim.Native.Nat.{ℕ, zero, suc, _+_, _-_, _*_, _≤_, _<_}
-use mathlib.Core.Path.{_≡_, refl, sym, ap, _∙_}
+use mathlib.Core.Path.{_≡_, refl}
 use mathlib.Core.Bool.{Bool, true, false, cond}
 use mathlib.Core.Option.{Option, none, some}
 use mathlib.Core.List.{List, [], _∷_}
@@ -10,14 +10,13 @@ use native.Mathlib.Omega.{arith}
 use native.Mathlib.Nat.{le-trans, le-refl}
 use lib.ListN.{length, getElem?}
 use lib.Dec.{ltb, eqb}
-use borrow.Author.Tests.{eqb-true}
 use Rattle.scope.specs.Reading.{Read, got, refused, Reader, given, then, onByte, entries}
-use Rattle.scope.specs.Numbers.{Bits, bits, cut, long, under, bitsAt, inRange, Whole, plus, minus, unsigned, signed, littleEndian, floatBytes, u32, s33}
+use Rattle.scope.specs.Numbers.{Bits, bits, cut, long, under, bitsAt, inRange, Whole, plus, minus, unsigned, signed, littleEndian, floatBytes, u32}
 use Rattle.scope.specs.Sizes.{mostEach, mostTypes}
 use Rattle.scope.specs.Refusals.{bytesEnd}
 use Rattle.scope.specs.Abstract.{abstractOf}
-use Rattle.scope.specs.Syntax.{Definition, ref}
-use Rattle.scope.specs.Sections.{typeNumber, heapAt, numberOf, valAt, flagAt, fieldAt, fewAt, supersAt, headAt, Head, clauseAt, describesCode, descriptorCode, formAt, definitionAt, groupAt, groupsAt, ended, readSection}
+use Rattle.scope.specs.Syntax.{ref}
+use Rattle.scope.specs.Sections.{typeNumber, heapAt, numberOf, valAt, flagAt, fieldAt, fewAt, supersAt, headAt, Head, clauseAt, describesCode, descriptorCode, formAt, definitionAt, groupAt, groupsAt}
 use Rattle.scope.proofs.Impossible.{impossible}
 
 -- where reading ends: refused, or at a place between lo and hi

@@ -6,7 +6,6 @@ use mathlib.Core.List.{List}
 use Rattle.scope.specs.declared.Verdict.{Verdict}
 use Rattle.scope.specs.declared.Asked.{Asked}
 use Rattle.scope.specs.declared.Ran.{Ran}
-use Rattle.scope.specs.Memory.{StateWords}
 use Rattle.scope.specs.Answers.{SectionJudged, TypeAsked, TypeHanded, BodyJudged, RunMemory, RunTried}
 
 same : {A : Type 0} {x y z : A} → x ≡ z → y ≡ z → x ≡ y

@@ -7,7 +7,7 @@ use mathlib.Core.Path.{_≡_, refl, sym, ap, _∙_, subst}
 use mathlib.Core.Bool.{Bool, true, false, cond}
 use mathlib.Core.Option.{Option, none, some}
 use mathlib.Core.List.{List, _∷_}
-use lib.ListN.{getElem?, set}
+use lib.ListN.{getElem?}
 use lib.Dec.{ltb}
 use Rattle.scope.specs.declared.Ran.{Ran}
 use Rattle.scope.specs.declared.Ran

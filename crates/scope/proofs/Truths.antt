@@ -1,6 +1,5 @@
 -- What a test that passed tells: of `&&`, `||` and an implication, and of a test over a list. A test passes where it is
 -- `≡ true`; each lemma here takes one apart or puts one together, by the two cases of a Bool.
-use Prim.Native.Nat.{ℕ}
 use mathlib.Core.Path.{_≡_, refl}
 use mathlib.Core.Logic.{_⊎_, inl, inr}
 use mathlib.Core.Bool.{Bool, true, false, not, _&&_, _||_, false≢true}

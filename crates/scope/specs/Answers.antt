@@ -2,8 +2,8 @@
 -- promises of its answer and of every lent word. 14 comes before all else.
 use Prim.Native.Nat.{ℕ}
 use mathlib.Core.Path.{_≡_}
-use mathlib.Core.Bool.{Bool, true, false, cond, _&&_}
-use mathlib.Core.List.{List, [], _∷_}
+use mathlib.Core.Bool.{Bool, cond, _&&_}
+use mathlib.Core.List.{List}
 use lib.ListN.{length}
 use lib.Dec.{leb}
 use Rattle.scope.specs.declared.Verdict.{Verdict}
@@ -16,7 +16,7 @@ use Rattle.scope.specs.Refusals.{bufferTooSmall}
 use Rattle.scope.specs.Layout.{rowsSize, codesSize, workSize, endsSize, countsSize, objectsSize, cellsSize, localsSize, operandsSize, blocksSize}
 use Rattle.scope.specs.Syntax.{Definition}
 use Rattle.scope.specs.Judging.{Judged, accepted, rejected, andThen, judgeSection, askType, partOf}
-use Rattle.scope.specs.Bodies.{Code, Body, instructions, judgeBody}
+use Rattle.scope.specs.Bodies.{Body, instructions, judgeBody}
 use Rattle.scope.specs.Machine.{Machine}
 use Rattle.scope.specs.Running.{Ending, done, trapped, spent, wrong, Trial, trialRun, placeOf}
 use Rattle.scope.specs.Memory.{filled, wiped, tableRows, tableCodes, StateWords, stateWords}

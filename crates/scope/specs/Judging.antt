@@ -2,9 +2,9 @@
 -- "A section's byte faults (1 to 5) come before its rules; then, type by type, 6, 7 and the chain; then, type by type
 -- again, 8 to 13 in rising number."
 use Prim.Native.Nat.{ℕ, zero, suc, _+_, _-_}
-use mathlib.Core.Bool.{Bool, true, false, cond}
+use mathlib.Core.Bool.{Bool, cond}
 use mathlib.Core.Option.{Option, none, some}
-use mathlib.Core.List.{List, [], _∷_, map}
+use mathlib.Core.List.{List, [], _∷_}
 use lib.ListN.{length, take, drop}
 use lib.Dec.{ltb}
 use Rattle.scope.specs.Sizes.{mostSteps}

@@ -1,18 +1,16 @@
 -- What lent memory holds after each public call, word by word. docs/LAYOUT.md draws it. "Every refusal zeroes all memory
 -- lent for writing."
-use Prim.Native.Nat.{ℕ, zero, suc, _+_, _-_, _*_}
-use mathlib.Core.Bool.{Bool, true, false, cond, _&&_}
-use mathlib.Core.Option.{Option, none, some}
+use Prim.Native.Nat.{ℕ, _+_, _-_, _*_}
+use mathlib.Core.Bool.{Bool, cond}
+use mathlib.Core.Option.{Option}
 use mathlib.Core.List.{List, [], _∷_, _++_, map, reverse}
 use lib.ListN.{length, replicate}
-use lib.Dec.{leb}
 use Rattle.scope.specs.Reading.{given}
-use Rattle.scope.specs.Lists.{every, joined, sum}
+use Rattle.scope.specs.Lists.{joined, sum}
 use Rattle.scope.specs.Abstract.{Abstract, NOFUNC, NOEXTERN, NONE, FUNC, EXTERN, ANY, EQ, I31, STRUCT, ARRAY}
-use Rattle.scope.specs.Syntax.{Heap, abstract, defined, exact, Number, Val, num, ref, Field, Form, struct, func, Definition, superOf}
+use Rattle.scope.specs.Syntax.{Heap, abstract, defined, exact, Val, num, ref, Field, Form, struct, func, Definition, superOf}
 use Rattle.scope.specs.Order.{numberCode}
-use Rattle.scope.specs.Bodies.{Code}
-use Rattle.scope.specs.Machine.{Value, number, null, object, Object, Store, Block, openBlock, openLoop, Machine}
+use Rattle.scope.specs.Machine.{Value, number, null, object, Store, Block, openBlock, openLoop, Machine}
 use Rattle.scope.specs.Running.{placeOf}
 
 -- the words, then zero to the buffer's end

@@ -1,7 +1,6 @@
 -- The trial run: a run with a budget, how it starts, and its verdict: "A run: these, then budget, then parameters."
 use Prim.Native.Nat.{ℕ, zero, suc, _+_}
-use mathlib.Core.Bool.{Bool, true, false, cond}
-use mathlib.Core.Option.{Option, none, some}
+use mathlib.Core.Bool.{cond}
 use mathlib.Core.List.{List, [], _∷_, _++_, map}
 use lib.ListN.{length}
 use lib.Dec.{ltb}
@@ -11,7 +10,7 @@ use Rattle.scope.specs.Lists.{every}
 use Rattle.scope.specs.Syntax.{typesOf}
 use Rattle.scope.specs.Judging.{Judged, accepted, rejected, andThen}
 use Rattle.scope.specs.BodyRules.{hasDefault}
-use Rattle.scope.specs.Bodies.{Code, Function, Body, judgeBody}
+use Rattle.scope.specs.Bodies.{Code, Body, judgeBody}
 use Rattle.scope.specs.Machine.{Machine, Program, OutcomeOf, goes, ends, traps, stuck, defaultOf, step}
 
 -- "The answer holds done with results, trap with place, or spent; and the steps": each with the steps and the machine after

@@ -9,7 +9,7 @@ use Rattle.scope.specs.Sizes.{mostBytes, mostTypes, mostEach}
 use Rattle.scope.specs.Refusals.{notListed, oversize, leftOver}
 use Rattle.scope.specs.Reading.{Read, got, refused, Reader, given, then, onByte, entries}
 use Rattle.scope.specs.Numbers.{Whole, plus, minus, u32, s33}
-use Rattle.scope.specs.Abstract.{Abstract, abstractOf}
+use Rattle.scope.specs.Abstract.{abstractOf}
 use Rattle.scope.specs.Syntax.{Heap, abstract, defined, exact, Number, i32, i64, f32, f64, Val, num, ref, Field, Form, struct, func, Definition, Group}
 
 -- Heap: 62 x (exact x), an abstract code, or a type number as a non-negative s33

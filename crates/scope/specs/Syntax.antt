@@ -6,7 +6,6 @@ use mathlib.Core.Option.{Option, none, some}
 use mathlib.Core.List.{List, [], _∷_}
 use lib.ListN.{getD}
 use Rattle.scope.specs.Abstract.{Abstract}
-use Rattle.scope.specs.Lists.{joined}
 
 -- Heap: an abstract type, a type number, or exact and a type number
 pub data Heap : Type 0 where

@@ -1,10 +1,9 @@
 -- Type rules 1 to 5, each a definition of its own, over the types by number. Rule 6 is specs/Order.antt.
 use Prim.Native.Nat.{ℕ, zero, suc}
-use mathlib.Core.Bool.{Bool, true, false, not, cond, _&&_, _||_, Bool·beq}
+use mathlib.Core.Bool.{Bool, true, false, cond, _&&_, _||_, Bool·beq}
 use mathlib.Core.Option.{Option, none, some}
 use mathlib.Core.List.{List, [], _∷_, _++_, map}
 use lib.Dec.{ltb}
-use Rattle.scope.specs.Sizes.{mostSteps}
 use Rattle.scope.specs.Reading.{given}
 use Rattle.scope.specs.Lists.{every, pairwise, prefixwise, joined, asList, isNone}
 use Rattle.scope.specs.Syntax.{Heap, abstract, defined, exact, Val, num, ref, Field, Form, struct, func, Definition, Types, superOf}

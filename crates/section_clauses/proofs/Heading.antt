@@ -1,11 +1,11 @@
 -- Each way out of the readers of heads and clauses: the bytes that led there make the definition give the same links and
 -- place.
-use Prim.Native.Nat.{ℕ, _+_, _^_, _<_}
+use Prim.Native.Nat.{ℕ, _+_}
 use mathlib.Core.Path.{_≡_, refl, sym, ap, _∙_}
 use mathlib.Core.Bool.{true, false}
-use mathlib.Core.Option.{Option, none, some}
-use mathlib.Core.List.{List, []}
-use lib.ListN.{length, getElem?}
+use mathlib.Core.Option.{Option}
+use mathlib.Core.List.{List}
+use lib.ListN.{getElem?}
 use borrow.Author.Tests.{eq-eqb, ne-eqb}
 use Rattle.scope.specs.Refusals.{bytesEnd}
 use Rattle.scope.specs.Reading.{Read, got, refused, then}
@@ -29,7 +29,7 @@ use Rattle.section_clauses.specs.declared.ClauseRead.{ClauseRead}
 use Rattle.section_clauses.specs.declared.ClauseRead
 use Rattle.section_clauses.specs.declared.Front.{Front}
 use Rattle.section_clauses.specs.declared.Front
-use Rattle.section_clauses.specs.Links.{supersIs, subIs, headIs, namedAt, clauseIs, Clauses, descriptorIs, clausesAt, clausesIs, FrontOf, frontAt, frontIs}
+use Rattle.section_clauses.specs.Links.{supersIs, subIs, headIs, namedAt, clauseIs, Clauses, descriptorIs, clausesAt, clausesIs, frontAt, frontIs}
 
 -- sub_at
 

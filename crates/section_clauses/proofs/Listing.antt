@@ -1,23 +1,21 @@
 -- The list of supertypes. The loop and the definition walk the same numbers; of those that are done the loop holds the
 -- first link and the greatest of the others, and one more number changes just what the kept list's links change by.
-use Prim.Native.Nat.{ℕ, zero, suc, _+_, _-_, _^_, _≤_, _<_, min, max}
+use Prim.Native.Nat.{ℕ, _+_, _-_, _^_, _≤_, _<_, max}
 use mathlib.Core.Path.{_≡_, refl, sym, ap, ap₂, _∙_}
-use mathlib.Core.Bool.{Bool, true, false, cond}
-use mathlib.Core.List.{List, [], _∷_, _++_, append-assoc, append-nil}
+use mathlib.Core.List.{List, [], _∷_, _++_, append-nil}
 use native.Mathlib.Omega.{arith}
 use lib.ListN.{length, length-append}
-use lib.Dec.{eqb}
 use borrow.Author.Tests.{eq-eqb, ne-eqb}
 use mir.Syntax.{w64}
 use mir.Val.{Fits}
-use Rattle.scope.specs.Reading.{Read, got, refused, then, entries}
+use Rattle.scope.specs.Reading.{got, entries}
 use Rattle.scope.specs.Numbers.{u32}
 use Rattle.scope.specs.Sections.{supersAt}
 use Rattle.number.specs.declared.Natural.{Natural}
 use Rattle.number.specs.declared.Natural
 use Rattle.number.specs.Answers.{naturalIs}
 use Rattle.number.proofs.Laws.{natural-got, natural-refused}
-use Rattle.type_table.specs.Kept.{kept, greatest, keptSupers}
+use Rattle.type_table.specs.Kept.{kept, greatest}
 use Rattle.section_forms.proofs.Lists.{onto, onto-none, onto-more, entries-step, entries-refused, entries-done}
 use Rattle.section_clauses.specs.declared.Supers.{Supers}
 use Rattle.section_clauses.specs.declared.Supers

@@ -1,13 +1,13 @@
 -- What the readers before a definition's form answer, by the definitions of document 01.
 use Prim.Native.Nat.{ℕ, max}
-use mathlib.Core.Bool.{Bool, true, false, cond}
-use mathlib.Core.Option.{Option, none, some}
+use mathlib.Core.Bool.{cond}
+use mathlib.Core.Option.{Option, some}
 use mathlib.Core.List.{List}
 use lib.Dec.{eqb}
 use Rattle.scope.specs.Reading.{Read, got, refused, Reader, then}
 use Rattle.scope.specs.Numbers.{u32}
 use Rattle.scope.specs.Syntax.{firstOf}
-use Rattle.scope.specs.Sections.{supersAt, Head, headAt, clauseAt, describesCode, descriptorCode}
+use Rattle.scope.specs.Sections.{Head, headAt, clauseAt, describesCode, descriptorCode}
 use Rattle.scope.specs.Memory.{flag, orZero}
 use Rattle.type_table.specs.Kept.{keptOption, keptSupers}
 use Rattle.type_table.specs.View.{furtherOf}

@@ -3,7 +3,7 @@
 use Prim.Native.Nat.{ℕ, _+_, _≤_, _<_}
 use mathlib.Core.Path.{_≡_, refl, sym, ap, _∙_}
 use mathlib.Core.Option.{Option}
-use mathlib.Core.List.{List, [], _∷_, _++_, map}
+use mathlib.Core.List.{List, map}
 use native.Mathlib.Omega.{arith}
 use native.Mathlib.Nat.{le-trans}
 use lib.ListN.{length}
@@ -18,11 +18,10 @@ use Rattle.scope.proofs.Impossible.{impossible}
 use Rattle.type_table.specs.Kept.{keptOption, keptForm, keptDefinition}
 use Rattle.type_table.specs.View.{row}
 use Rattle.type_table.proofs.Puts.{Puts}
-use Rattle.section_forms.specs.Reads.{Room}
 use Rattle.section_forms.proofs.Ahead.{form-ahead}
 use Rattle.section_clauses.specs.declared.Front.{Front}
 use Rattle.section_clauses.specs.declared.Front
-use Rattle.section_clauses.specs.Links.{firstOfKept, furtherOfKept, Clauses, clausesAt, FrontOf, frontAt, frontIs}
+use Rattle.section_clauses.specs.Links.{firstOfKept, furtherOfKept, clausesAt, FrontOf, frontAt, frontIs}
 use Rattle.section_definition.specs.declared.DefinitionRead.{DefinitionRead}
 use Rattle.section_definition.specs.declared.DefinitionRead
 use Rattle.section_definition.specs.Rows.{low, rowOf, Place, formedIs, FormedRead, definitionIs, DefinitionPut}

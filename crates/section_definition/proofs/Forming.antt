@@ -1,12 +1,12 @@
 -- A form that was read, and its row: the words that were put are those that the definition's row has.
-use Prim.Native.Nat.{ℕ, _+_, _^_, _≤_, _<_}
-use mathlib.Core.Path.{_≡_, refl, sym, ap, _∙_}
-use mathlib.Core.List.{List, [], _∷_, _++_, map}
+use Prim.Native.Nat.{ℕ, _+_, _≤_}
+use mathlib.Core.Path.{_≡_, refl, sym, _∙_}
+use mathlib.Core.List.{List}
 use native.Mathlib.Omega.{arith}
 use lib.ListN.{length, length-map}
 use mir.Syntax.{w64}
 use mir.Val.{Fits}
-use Rattle.scope.specs.Reading.{Read, got, refused}
+use Rattle.scope.specs.Reading.{got, refused}
 use Rattle.scope.specs.Syntax.{Val, Field, Form, struct, func}
 use Rattle.scope.specs.Sections.{formAt}
 use Rattle.scope.specs.Memory.{formCodes}
@@ -20,7 +20,7 @@ use Rattle.section_forms.specs.Reads.{PartRead}
 use Rattle.section_forms.proofs.Ahead.{struct-inv, func-inv, form-refused-inv, struct-codes, func-codes, form-ahead}
 use Rattle.section_definition.specs.declared.DefinitionRead.{DefinitionRead}
 use Rattle.section_definition.specs.declared.DefinitionRead
-use Rattle.section_definition.specs.Rows.{rowLow, rowOf, Place, formedIs, FormedRead}
+use Rattle.section_definition.specs.Rows.{rowLow, rowOf, Place, FormedRead}
 
 module _ {s : List ℕ} {at : ℕ} {codes codes′ : List ℕ} {filled : ℕ} {r : FormRead} (a : PartRead formAt s at codes codes′ filled r) where
   pub formed-refused : (made : Form → ℕ → List ℕ) (rows : List ℕ) (row : ℕ) {k place : ℕ} → r ≡ FormRead.the-variants.Refused k place → FormedRead made s at rows rows row codes codes′ filled (DefinitionRead.the-variants.Refused k place)

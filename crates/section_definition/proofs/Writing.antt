@@ -1,11 +1,9 @@
 -- Writing a row: each word is put behind the one before, and the words that were put are one piece.
-use Prim.Native.Nat.{ℕ, _+_, _%_, _^_, _≤_, _<_}
-use mathlib.Core.Path.{_≡_, refl, sym, ap, _∙_}
-use mathlib.Core.List.{List, [], _∷_, _++_, map}
+use Prim.Native.Nat.{ℕ, _+_, _%_, _≤_, _<_}
+use mathlib.Core.Path.{_≡_, refl}
+use mathlib.Core.List.{List, [], _∷_, _++_}
 use native.Mathlib.Omega.{arith}
 use lib.ListN.{length, set}
-use mir.Syntax.{w64}
-use mir.Val.{Fits}
 use Rattle.scope.specs.Layout.{rowSpan}
 use Rattle.lent_u16.specs.Words.{wordLimit}
 use Rattle.type_table.proofs.Puts.{Puts, puts-one, puts-more, puts-length}

@@ -5,7 +5,7 @@ use mathlib.Core.List.{List, [], _∷_, _++_, map}
 use lib.ListN.{length}
 use Rattle.scope.specs.Layout.{rowSpan}
 use Rattle.scope.specs.Reading.{Read, got, refused}
-use Rattle.scope.specs.Syntax.{Form, struct, func, Definition}
+use Rattle.scope.specs.Syntax.{Form, Definition}
 use Rattle.scope.specs.Sections.{formAt, definitionAt}
 use Rattle.scope.specs.Memory.{formCodes, formWords}
 use Rattle.lent_u16.specs.Words.{wordLimit}

@@ -2,7 +2,7 @@
 use Prim.Native.Nat.{ℕ, _+_, _≤_}
 use mathlib.Core.Path.{_≡_}
 use mathlib.Core.Bool.{Bool, true, false}
-use mathlib.Core.List.{List, [], _∷_, map}
+use mathlib.Core.List.{List, map}
 use lib.ListN.{length}
 use Rattle.scope.specs.Sizes.{mostBytes, mostEach}
 use Rattle.scope.specs.Reading.{Read, got, refused, Reader, then, entries}

@@ -1,8 +1,8 @@
 -- The definitions of a group. The loop and the definition `entries` walk the same bytes; the rows and the codes that were put
 -- are those of the definitions that are done, each behind those before it.
-use Prim.Native.Nat.{ℕ, zero, suc, _+_, _-_, _*_, _%_, _^_, _≤_, _<_}
-use mathlib.Core.Path.{_≡_, refl, sym, ap, ap₂, _∙_}
-use mathlib.Core.List.{List, [], _∷_, _++_, map, append-assoc, append-nil, map-append}
+use Prim.Native.Nat.{ℕ, _+_, _-_, _*_, _≤_, _<_}
+use mathlib.Core.Path.{_≡_, refl, ap, ap₂, _∙_}
+use mathlib.Core.List.{List, [], _∷_, _++_, map, append-nil, map-append}
 use native.Mathlib.Omega.{arith}
 use lib.ListN.{length, length-append, length-map}
 use mir.Syntax.{w64}
@@ -10,7 +10,7 @@ use mir.Val.{Fits}
 use Rattle.scope.specs.Layout.{rowSpan}
 use Rattle.scope.specs.Refusals.{oversize}
 use Rattle.scope.specs.Sizes.{mostTypes}
-use Rattle.scope.specs.Reading.{Read, got, refused, then, entries}
+use Rattle.scope.specs.Reading.{got, refused, entries}
 use Rattle.scope.specs.Syntax.{Definition}
 use Rattle.scope.specs.Sections.{definitionAt}
 use Rattle.scope.specs.Memory.{formCodes}
@@ -28,7 +28,7 @@ use Rattle.section_definition.specs.Rows.{low, Place, DefinitionPut}
 use Rattle.section_definition.proofs.Defining.{definition-ahead, definition-inv, definition-refused-inv}
 use Rattle.section_group.specs.declared.GroupRead.{GroupRead}
 use Rattle.section_group.specs.declared.GroupRead
-use Rattle.section_group.specs.Lent.{Lent, entriesAt, keptAll, groupIs, GroupPut}
+use Rattle.section_group.specs.Lent.{Lent, entriesAt, keptAll, GroupPut}
 
 pub record Grouped (reach first n : ℕ) (s : List ℕ) (at : ℕ) (rows₀ rows codes₀ codes : List ℕ) (used next count filled : ℕ) : Type 0 where
   pub done : List Definition

@@ -1,11 +1,9 @@
 -- The ways in which a group is written: each way out of its reader leaves in the table what the definition reads.
-use Prim.Native.Nat.{ℕ, _+_, _-_, _*_, _^_, _≤_, _<_}
+use Prim.Native.Nat.{ℕ, _+_, _-_, _≤_, _<_}
 use mathlib.Core.Path.{_≡_, refl, sym, ap, _∙_}
-use mathlib.Core.Bool.{Bool, true, false, cond}
-use mathlib.Core.List.{List, [], _∷_, _++_, map}
+use mathlib.Core.List.{List, [], _∷_}
 use native.Mathlib.Omega.{arith}
 use lib.ListN.{length, getElem?}
-use lib.Dec.{ltb, eqb}
 use borrow.Author.Tests.{eq-eqb, ne-eqb, lt-ltb, le-ltb}
 use mir.Syntax.{w64}
 use mir.Val.{Fits}
@@ -25,17 +23,14 @@ use Rattle.number.specs.declared.Natural
 use Rattle.number.specs.Answers.{ByteAt, naturalIs}
 use Rattle.number.proofs.Bits.{byte-got, byte-none}
 use Rattle.number.proofs.Laws.{natural-got, natural-refused, unsigned-small}
-use Rattle.type_table.specs.Kept.{keptForm, keptDefinition}
-use Rattle.type_table.specs.View.{row, rowsOf, codesOf}
-use Rattle.type_table.proofs.Puts.{Puts}
-use Rattle.section_forms.specs.Reads.{Room}
+use Rattle.type_table.specs.Kept.{keptForm}
 use Rattle.section_definition.specs.declared.DefinitionRead.{DefinitionRead}
 use Rattle.section_definition.specs.declared.DefinitionRead
-use Rattle.section_definition.specs.Rows.{low, Place, DefinitionPut}
+use Rattle.section_definition.specs.Rows.{Place, DefinitionPut}
 use Rattle.section_definition.proofs.Defining.{definition-ahead, definition-inv, definition-refused-inv}
 use Rattle.section_group.specs.declared.GroupRead.{GroupRead}
 use Rattle.section_group.specs.declared.GroupRead
-use Rattle.section_group.specs.Lent.{Lent, entriesAt, severalAt, aloneAt, keptAll, groupIs, GroupPut}
+use Rattle.section_group.specs.Lent.{Lent, entriesAt, severalAt, aloneAt, groupIs, GroupPut}
 use Rattle.section_group.proofs.Grouping.{one-row, one-codes}
 
 -- a reader that answers as another does leaves the same

@@ -1,5 +1,5 @@
 -- What the readers of groups answer and leave in the part of the table that they are lent, by the definitions of document 01.
-use Prim.Native.Nat.{ℕ, _+_, _-_, _*_, _^_, _≤_, _<_}
+use Prim.Native.Nat.{ℕ, _+_, _-_, _*_, _≤_}
 use mathlib.Core.Path.{_≡_}
 use mathlib.Core.Bool.{cond}
 use lib.Dec.{ltb}
@@ -10,7 +10,7 @@ use Rattle.scope.specs.Sizes.{mostTypes}
 use Rattle.scope.specs.Refusals.{oversize}
 use Rattle.scope.specs.Reading.{Read, got, refused, Reader, then, entries}
 use Rattle.scope.specs.Numbers.{u32}
-use Rattle.scope.specs.Syntax.{Definition, Group}
+use Rattle.scope.specs.Syntax.{Definition}
 use Rattle.scope.specs.Sections.{definitionAt}
 use Rattle.type_table.specs.Kept.{keptDefinition}
 use Rattle.type_table.specs.View.{rowsOf, codesOf}

@@ -1,32 +1,26 @@
 -- Each way out of the reader of a section: its size, its count, its groups, and what is left over.
-use Prim.Native.Nat.{ℕ, _+_, _*_, _-_, _≤_, _<_}
+use Prim.Native.Nat.{ℕ, _-_, _≤_, _<_}
 use mathlib.Core.Path.{_≡_, refl, sym, ap, _∙_}
-use mathlib.Core.Bool.{cond}
-use mathlib.Core.List.{List, map}
+use mathlib.Core.List.{List}
 use native.Mathlib.Omega.{arith}
 use lib.ListN.{length}
-use lib.Dec.{ltb, eqb}
 use borrow.Author.Tests.{eq-eqb, ne-eqb, lt-ltb, le-ltb}
 use Rattle.scope.specs.Refusals.{oversize, leftOver}
-use Rattle.scope.specs.Sizes.{mostBytes, mostTypes}
-use Rattle.scope.specs.Reading.{Read, got, refused, then}
+use Rattle.scope.specs.Sizes.{mostBytes}
+use Rattle.scope.specs.Reading.{Read, got, refused}
 use Rattle.scope.specs.Numbers.{u32}
 use Rattle.scope.specs.Lists.{joined}
-use Rattle.scope.specs.Syntax.{Definition, Group}
-use Rattle.scope.specs.Sections.{groupsAt, ended, readSection}
+use Rattle.scope.specs.Syntax.{Group}
+use Rattle.scope.specs.Sections.{groupsAt, readSection}
 use Rattle.scope.proofs.Forward.{unsigned-takes, never-back}
 use Rattle.scope.proofs.Impossible.{impossible}
 use Rattle.number.specs.declared.Natural.{Natural}
 use Rattle.number.specs.declared.Natural
 use Rattle.number.specs.Answers.{naturalIs}
 use Rattle.number.proofs.Laws.{natural-got, natural-refused}
-use Rattle.type_table.specs.View.{rowsOf, codesOf}
-use Rattle.type_table.proofs.Puts.{Puts}
-use Rattle.section_forms.specs.Reads.{Room}
-use Rattle.section_definition.specs.Rows.{low}
 use Rattle.section_group.specs.declared.GroupRead.{GroupRead}
 use Rattle.section_group.specs.declared.GroupRead
-use Rattle.section_group.specs.Lent.{Lent, keptAll, groupIs, GroupPut}
+use Rattle.section_group.specs.Lent.{Lent, groupIs, GroupPut}
 use Rattle.section_reader.specs.declared.SectionRead.{SectionRead}
 use Rattle.section_reader.specs.declared.SectionRead
 use Rattle.section_reader.specs.Whole.{flat, flatAt, endedAt, countedAt, Enough, sectionIs, SectionPut}

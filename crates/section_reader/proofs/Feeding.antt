@@ -1,21 +1,20 @@
 -- What a group that was read tells: there is a row for each of its definitions, and their codes took a byte each.
 use Prim.Native.Nat.{ℕ, zero, suc, _+_, _-_, _≤_, _<_}
-use mathlib.Core.Path.{_≡_, refl, sym, ap, _∙_}
+use mathlib.Core.Path.{_≡_, refl, ap}
 use mathlib.Core.Bool.{Bool, true, false, cond}
 use mathlib.Core.Option.{Option, none, some}
-use mathlib.Core.List.{List, [], _∷_, _++_}
+use mathlib.Core.List.{List, [], _∷_}
 use native.Mathlib.Omega.{arith}
 use lib.ListN.{length, length-append, getElem?}
 use lib.Dec.{ltb, eqb}
 use borrow.Author.Tests.{ltb-true}
 use Rattle.scope.specs.Refusals.{bytesEnd, oversize}
 use Rattle.scope.specs.Sizes.{mostTypes}
-use Rattle.scope.specs.Reading.{Read, got, refused, Reader, given, then, entries}
-use Rattle.scope.specs.Numbers.{u32}
-use Rattle.scope.specs.Syntax.{Definition, Group}
+use Rattle.scope.specs.Reading.{Read, got, refused, given, then, entries}
+use Rattle.scope.specs.Syntax.{Definition}
 use Rattle.scope.specs.Sections.{definitionAt, groupAt}
 use Rattle.scope.specs.Memory.{formCodes}
-use Rattle.scope.proofs.Forward.{Ends, stops, reaches, definition-takes, unsigned-takes}
+use Rattle.scope.proofs.Forward.{Ends, stops, reaches, unsigned-takes}
 use Rattle.scope.proofs.Impossible.{impossible}
 use Rattle.type_table.specs.Kept.{keptForm, keptDefinition}
 use Rattle.type_table.specs.View.{codesOf}

@@ -1,10 +1,10 @@
 -- The groups of a section. The loop and the definition `groupsAt` walk the same bytes; each group is lent the rest of the
 -- table from its first row and its first code on, so what it puts there follows the rows and codes of the groups before it.
-use Prim.Native.Nat.{ℕ, zero, suc, _+_, _-_, _*_, _^_, _≤_, _<_}
-use mathlib.Core.Path.{_≡_, refl, sym, ap, ap₂, _∙_}
+use Prim.Native.Nat.{ℕ, zero, suc, _+_, _-_, _*_, _≤_, _<_}
+use mathlib.Core.Path.{_≡_, refl, sym, ap, _∙_}
 use mathlib.Core.List.{List, [], _∷_, _++_, map, append-assoc, append-nil, map-append}
 use native.Mathlib.Omega.{arith}
-use lib.ListN.{length, take, drop, length-append, length-drop, length-map}
+use lib.ListN.{length, take, drop, length-append, length-drop}
 use lib.Seq.{take-all, drop-length}
 use mir.Syntax.{w64}
 use mir.Val.{Fits}
@@ -19,7 +19,7 @@ use Rattle.scope.proofs.Forward.{group-takes, never-back}
 use Rattle.scope.proofs.Impossible.{impossible}
 use Rattle.type_table.specs.View.{rowsOf, codesOf}
 use Rattle.type_table.proofs.Puts.{Puts, puts-none, puts-more, puts-length, puts-part}
-use Rattle.type_table.proofs.Growing.{rows-length, codes-append, rows-append}
+use Rattle.type_table.proofs.Growing.{codes-append, rows-append}
 use Rattle.section_forms.specs.Reads.{Room}
 use Rattle.section_forms.proofs.Lists.{onto, onto-none, onto-more}
 use Rattle.section_definition.specs.Rows.{low}
@@ -27,8 +27,8 @@ use Rattle.section_group.specs.declared.GroupRead.{GroupRead}
 use Rattle.section_group.specs.declared.GroupRead
 use Rattle.section_group.specs.Lent.{Lent, keptAll, groupIs, GroupPut}
 use Rattle.section_group.proofs.Grouping.{rows-done}
-use Rattle.section_reader.specs.Whole.{flat, flatAt}
-use Rattle.section_reader.proofs.Feeding.{Ate, group-ate}
+use Rattle.section_reader.specs.Whole.{flatAt}
+use Rattle.section_reader.proofs.Feeding.{group-ate}
 
 -- the rest of a list from a place on, lent and put back
 

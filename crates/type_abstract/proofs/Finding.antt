@@ -5,14 +5,13 @@ use native.Mathlib.Numerals.{add-one}
 use native.Mathlib.Omega.{arith}
 use mathlib.Core.Path.{_≡_, refl, sym, ap, _∙_}
 use mathlib.Core.Bool.{Bool, true, false, cond}
-use mathlib.Core.Option.{Option, none, some}
+use mathlib.Core.Option.{some}
 use mathlib.Core.List.{List, [], _∷_}
 use lib.Dec.{eqb}
 use lib.ListN.{length, drop}
 use lib.Seq.{drop-cons}
 use borrow.Author.Tests.{eq-eqb, ne-eqb}
-use Rattle.scope.specs.Abstract.{Abstract, ARRAY, row, ten, abstractOf, firstWith}
-use Rattle.scope.specs.Memory.{abstractCode}
+use Rattle.scope.specs.Abstract.{ARRAY, row, ten, abstractOf, firstWith}
 use Rattle.type_abstract.specs.declared.HeapRow.{HeapRow}
 use Rattle.type_abstract.specs.declared.AbstractType.{AbstractType}
 use Rattle.type_abstract.specs.declared.AbstractType

@@ -2,9 +2,9 @@
 -- in document 01's table; abstractCode of scope's Memory.antt is the way back.
 use Prim.Native.Nat.{ℕ, _<_}
 use mathlib.Core.Path.{_≡_}
-use mathlib.Core.Bool.{Bool, true, false, cond}
+use mathlib.Core.Bool.{Bool, false, cond}
 use mathlib.Core.Option.{Option, none, some}
-use mathlib.Core.List.{List, [], _∷_, map}
+use mathlib.Core.List.{List, map}
 use lib.Dec.{ltb}
 use lib.ListN.{getD}
 use Rattle.scope.specs.Abstract.{Abstract, ARRAY, Row, ten}

@@ -1,19 +1,18 @@
 -- Each way out of the readers of flags and fields: a field's code is twice its type's and its flag.
-use Prim.Native.Nat.{ℕ, _+_, _*_, _^_, _≤_, _<_, min}
-use mathlib.Core.Path.{_≡_, refl, sym, ap, _∙_}
-use mathlib.Core.Bool.{Bool, true, false, cond}
+use Prim.Native.Nat.{ℕ, _+_, _*_, _≤_}
+use mathlib.Core.Path.{_≡_, sym, _∙_}
+use mathlib.Core.Bool.{Bool, true, false}
 use mathlib.Core.List.{List}
 use native.Mathlib.Omega.{arith}
-use lib.ListN.{length, getElem?}
-use lib.Dec.{eqb}
-use borrow.Author.Tests.{eq-eqb, ne-eqb}
+use lib.ListN.{getElem?}
+use borrow.Author.Tests.{ne-eqb}
 use mir.Syntax.{w64}
 use mir.Val.{Fits}
 use Rattle.scope.specs.Refusals.{bytesEnd, notListed}
-use Rattle.scope.specs.Reading.{Read, got, refused, then}
-use Rattle.scope.specs.Syntax.{Number, i32, i64, f32, f64, Val, num, ref, Field}
+use Rattle.scope.specs.Reading.{Read, got}
+use Rattle.scope.specs.Syntax.{Val, Field}
 use Rattle.scope.specs.Sections.{valAt, flagAt, fieldAt}
-use Rattle.scope.specs.Memory.{valCode, flag}
+use Rattle.scope.specs.Memory.{flag}
 use Rattle.number.specs.declared.Byte.{Byte}
 use Rattle.number.specs.declared.Byte
 use Rattle.number.specs.Answers.{ByteAt}
@@ -21,7 +20,7 @@ use Rattle.number.proofs.Bits.{byte-got, byte-none}
 use Rattle.type_table.proofs.CodesBack.{val-code-small, field-code-small}
 use Rattle.type_read.specs.declared.Coded.{Coded}
 use Rattle.type_read.specs.declared.Coded
-use Rattle.type_read.specs.Codes.{codedIs, heapCodeKept, valCodeKept, fieldCodeKept}
+use Rattle.type_read.specs.Codes.{codedIs, valCodeKept, fieldCodeKept}
 use Rattle.type_read.proofs.Vals.{coded-got, coded-refused}
 
 -- flag_at

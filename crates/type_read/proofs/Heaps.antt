@@ -1,22 +1,18 @@
 -- Each way out of the readers of heap types: the bytes that led there make the definition give the same code and place.
-use Prim.Native.Nat.{ℕ, zero, suc, _+_, _*_, _^_, _≤_, _<_, min}
-use mathlib.Core.Path.{_≡_, refl, sym, ap, _∙_}
-use mathlib.Core.Bool.{Bool, true, false, cond}
-use mathlib.Core.Option.{Option, none, some}
+use Prim.Native.Nat.{ℕ, _+_, _*_, _≤_, _<_}
+use mathlib.Core.Path.{_≡_, sym, _∙_}
+use mathlib.Core.Option.{some}
 use mathlib.Core.List.{List}
 use native.Mathlib.Omega.{arith}
-use lib.ListN.{length, getElem?}
-use lib.Dec.{eqb}
+use lib.ListN.{getElem?}
 use borrow.Author.Tests.{eq-eqb, ne-eqb}
 use mir.Syntax.{w64}
 use mir.Val.{Fits}
 use Rattle.scope.specs.Refusals.{bytesEnd, notListed}
-use Rattle.scope.specs.Reading.{Read, got, refused, given, then}
-use Rattle.scope.specs.Numbers.{Whole, plus, minus, u32, s33}
+use Rattle.scope.specs.Numbers.{u32, s33}
 use Rattle.scope.specs.Abstract.{Abstract, abstractOf}
-use Rattle.scope.specs.Syntax.{Heap, abstract, defined, exact}
-use Rattle.scope.specs.Sections.{typeNumber, heapAt}
-use Rattle.scope.specs.Memory.{heapCode, abstractCode}
+use Rattle.scope.specs.Sections.{heapAt}
+use Rattle.scope.specs.Memory.{abstractCode}
 use Rattle.number.specs.declared.Byte.{Byte}
 use Rattle.number.specs.declared.Byte
 use Rattle.number.specs.declared.Natural.{Natural}
@@ -29,8 +25,8 @@ use Rattle.number.proofs.Laws.{natural-got, natural-refused, integer-plus, inte
 use Rattle.type_abstract.specs.declared.AbstractType.{AbstractType}
 use Rattle.type_abstract.specs.declared.AbstractType
 use Rattle.type_abstract.specs.Heaps.{abstractIs}
-use Rattle.type_abstract.proofs.Laws.{is-inv, not-one-inv, code-small}
-use Rattle.type_table.specs.Kept.{beyond, kept, keptHeap}
+use Rattle.type_abstract.proofs.Laws.{is-inv, not-one-inv}
+use Rattle.type_table.specs.Kept.{beyond, kept}
 use Rattle.type_read.specs.declared.Coded.{Coded}
 use Rattle.type_read.specs.declared.Coded
 use Rattle.type_read.specs.Codes.{codedIs, heapCodeKept, exactAt, definedAt}

@@ -1,23 +1,22 @@
 -- Each way out of the readers of value types and fields. A reference's code is made of its heap type's; the bounds of codes
 -- are those of the kept numbers.
-use Prim.Native.Nat.{ℕ, zero, suc, _+_, _*_, _^_, _≤_, _<_, min}
+use Prim.Native.Nat.{ℕ, _+_, _*_, _≤_, _<_}
 use mathlib.Core.Path.{_≡_, refl, sym, ap, _∙_}
 use mathlib.Core.Bool.{Bool, true, false, cond}
 use mathlib.Core.Option.{Option, none, some}
 use mathlib.Core.List.{List}
 use native.Mathlib.Omega.{arith}
-use lib.ListN.{length, getElem?}
-use lib.Dec.{eqb}
+use lib.ListN.{getElem?}
 use borrow.Author.Tests.{eq-eqb, ne-eqb}
 use mir.Syntax.{w64}
 use mir.Val.{Fits}
 use Rattle.scope.specs.Refusals.{bytesEnd, notListed}
-use Rattle.scope.specs.Reading.{Read, got, refused, given, then}
+use Rattle.scope.specs.Reading.{Read, got, refused}
 use Rattle.scope.specs.Abstract.{Abstract, abstractOf}
-use Rattle.scope.specs.Syntax.{Heap, abstract, defined, exact, Number, i32, i64, f32, f64, Val, num, ref}
+use Rattle.scope.specs.Syntax.{Heap, Number}
 use Rattle.scope.specs.Sections.{heapAt, numberOf, valAt}
 use Rattle.scope.specs.Order.{numberCode}
-use Rattle.scope.specs.Memory.{heapCode, abstractCode, valCode}
+use Rattle.scope.specs.Memory.{abstractCode}
 use Rattle.scope.proofs.Impossible.{impossible}
 use Rattle.number.specs.declared.Byte.{Byte}
 use Rattle.number.specs.declared.Byte
@@ -28,7 +27,6 @@ use Rattle.type_abstract.specs.declared.AbstractType
 use Rattle.type_abstract.specs.Heaps.{abstractIs}
 use Rattle.type_abstract.proofs.Laws.{is-inv, not-one-inv, code-small}
 use Rattle.type_table.proofs.CodesBack.{heap-code-small}
-use Rattle.type_table.specs.Kept.{kept, keptHeap, keptVal}
 use Rattle.type_read.specs.declared.Coded.{Coded}
 use Rattle.type_read.specs.declared.Coded
 use Rattle.type_read.specs.declared.NumberType.{NumberType}

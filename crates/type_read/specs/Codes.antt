@@ -1,6 +1,6 @@
 -- What the readers of types answer: the code of what the definitions read.
-use Prim.Native.Nat.{ℕ, _+_, _*_}
-use mathlib.Core.Bool.{Bool, true, false, cond}
+use Prim.Native.Nat.{ℕ}
+use mathlib.Core.Bool.{Bool, true, cond}
 use mathlib.Core.Option.{Option, none, some}
 use mathlib.Core.List.{List}
 use lib.Dec.{eqb}
@@ -11,7 +11,7 @@ use Rattle.scope.specs.Abstract.{abstractOf}
 use Rattle.scope.specs.Syntax.{Heap, abstract, exact, Number, Val, ref, Field}
 use Rattle.scope.specs.Sections.{typeNumber, heapAt}
 use Rattle.scope.specs.Order.{numberCode}
-use Rattle.scope.specs.Memory.{heapCode, valCode, fieldCode, flag}
+use Rattle.scope.specs.Memory.{heapCode, valCode, fieldCode}
 use Rattle.type_table.specs.Kept.{keptHeap, keptVal, keptField}
 use Rattle.type_read.specs.declared.Coded.{Coded}
 use Rattle.type_read.specs.declared.Coded

@@ -2,13 +2,13 @@
 -- each test of the reader is decided by the size or the parity of the code, and halving gives back what was doubled.
 use Prim.Native.Nat.{ℕ, _+_, _-_, _*_, _/_, _%_, _<_, _≤_}
 use native.Mathlib.Omega.{arith}
-use mathlib.Core.Path.{_≡_, refl, ap, _∙_}
-use mathlib.Core.Bool.{Bool, true, false, cond}
+use mathlib.Core.Path.{_≡_, refl}
+use mathlib.Core.Bool.{Bool, true, false}
 use lib.Dec.{ltb}
-use borrow.Author.Tests.{lt-ltb, le-ltb, eq-eqb, ne-eqb}
+use borrow.Author.Tests.{le-ltb, eq-eqb, ne-eqb}
 use Rattle.scope.specs.Syntax.{Heap, abstract, defined, exact, Number, i32, i64, f32, f64, Val, num, ref, Field}
 use Rattle.scope.specs.Order.{numberCode}
-use Rattle.scope.specs.Memory.{abstractCode, heapCode, valCode, fieldCode, flag}
+use Rattle.scope.specs.Memory.{heapCode, valCode, fieldCode, flag}
 use Rattle.type_abstract.proofs.Laws.{code-small}
 use Rattle.type_table.proofs.Codes.{heap-at-code}
 use Rattle.type_table.specs.Kept.{keptHeap, keptVal, keptField}

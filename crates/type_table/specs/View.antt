@@ -1,13 +1,12 @@
 -- What the words of the lent table say: a total reading of rows and codes as types by number, over which the rules are
 -- stated. Words of zero say `blank`. RowWords.antt names the words of a row.
 use Prim.Native.Nat.{ℕ, zero, suc, _+_, _-_, _*_, _/_, _%_}
-use mathlib.Core.Bool.{Bool, true, false, cond}
+use mathlib.Core.Bool.{Bool, cond}
 use mathlib.Core.Option.{Option, none, some}
-use mathlib.Core.List.{List, [], _∷_, _++_, map}
+use mathlib.Core.List.{List, [], _∷_, _++_}
 use lib.ListN.{getD, length}
 use lib.Dec.{eqb, ltb}
 use Rattle.scope.specs.Layout.{rowSpan}
-use Rattle.scope.specs.Reading.{given}
 use Rattle.scope.specs.Lists.{asList}
 use Rattle.scope.specs.Syntax.{Heap, abstract, defined, exact, Number, i32, i64, f32, f64, Val, num, ref, Field, Form, struct, func, Definition, Types, firstOf}
 use Rattle.scope.specs.Memory.{formCodes, formWords, flag, orZero}
