@@ -1,13 +1,14 @@
 -- The loop of `leb_at` and the definition `bitsAt` walk the same bytes: what was read so far, put below what the definition
 -- reads from here, is what it reads from the start. Each turn moves seven bits from the one to the other.
-use Prim.Native.Nat.{ℕ, suc, _+_, _-_, _*_, _^_, _≤_, _<_}
+use Prim.Native.Nat.{ℕ, suc, _+_, _-_, _*_, _^_, _%_, _≤_, _<_}
 use mathlib.Core.Path.{_≡_, refl, sym, ap, _∙_}
 use mathlib.Core.Option.{Option, none, some}
 use mathlib.Core.List.{List}
 use native.Mathlib.Omega.{arith}
-use native.Mathlib.Nat.{mul-add, mul-assoc, add-assoc, mul-le-mul-left}
+use native.Mathlib.Nat.{mul-add, mul-assoc, add-assoc, mul-le-mul-left, mod-lt}
 use lib.ListN.{length, getElem?}
 use lib.Pow.{pow-add, pow-mono}
+use lib.Dec.{lit<}
 use borrow.Author.Tests.{lt-ltb, le-ltb}
 use mir.Syntax.{w64}
 use mir.Val.{Fits}
@@ -17,18 +18,21 @@ use Rattle.number.specs.declared.Byte.{Byte}
 use Rattle.number.specs.declared.Byte
 use Rattle.number.specs.declared.Leb.{Leb}
 use Rattle.number.specs.declared.Leb
-use Rattle.number.specs.Answers.{byteIs, byteLimit, above, ByteAt, MostBytes, GoesOn, BitsRead}
+use Rattle.number.specs.Answers.{byteIs, above, ByteAt, MostBytes, GoesOn, BitsRead}
 
 above-none : (r : Bits) → r ≡ above 0 1 0 r
 above-none (bits u j next) = let p : 0 + 1 * u ≡ u = omega arith in let q : 0 + j ≡ j = omega arith in cc
 above-none cut = refl
 above-none long = refl
 
+seven : (b : ℕ) → b % 128 < 128
+seven b = mod-lt b (lit< tt)
+
 -- seven bits more
-above-under : (v w k b : ℕ) (r : Bits) → above v w k (under b r) ≡ above (v + w * (b - 128)) (w * 128) (k + 1) r
+above-under : (v w k b : ℕ) (r : Bits) → above v w k (under b r) ≡ above (v + w * (b % 128)) (w * 128) (k + 1) r
 above-under v w k b (bits u j next) =
-    let value : v + w * (b - 128 + 128 * u) ≡ v + w * (b - 128) + w * 128 * u =
-    ap (λ (x : ℕ). v + x) (mul-add w (b - 128) (128 * u)) ∙ sym (add-assoc v (w * (b - 128)) (w * (128 * u))) ∙ ap (λ (x : ℕ). v + w * (b - 128) + x) (sym (mul-assoc w 128 u)) in
+    let value : v + w * (b % 128 + 128 * u) ≡ v + w * (b % 128) + w * 128 * u =
+    ap (λ (x : ℕ). v + x) (mul-add w (b % 128) (128 * u)) ∙ sym (add-assoc v (w * (b % 128)) (w * (128 * u))) ∙ ap (λ (x : ℕ). v + w * (b % 128) + x) (sym (mul-assoc w 128 u)) in
     let count : k + (j + 1) ≡ k + 1 + j = omega arith in
     cc
 above-under v w k b cut = refl
@@ -80,20 +84,20 @@ module _ {most : ℕ} (fit : MostBytes most) {s : List ℕ} {at value weight nex
   times-bound : {b : ℕ} → b < 128 → weight * b ≤ weight * 127
   times-bound h = mul-le-mul-left weight (omega arith)
 
-  turn-value : {b : ℕ} → b < byteLimit → value + weight * (b - 128) < weight * 128
-  turn-value {b} h = let t : weight * (b - 128) ≤ weight * 127 = mul-le-mul-left weight (omega arith) in let q : value < weight = p .small in omega arith
+  turn-value : (b : ℕ) → value + weight * (b % 128) < weight * 128
+  turn-value b = let t : weight * (b % 128) ≤ weight * 127 = mul-le-mul-left weight (let h = seven b in omega arith) in let q : value < weight = p .small in omega arith
 
   -- how many bytes may still follow: one at least
   room : (more : ℕ) → most + more - count ≡ suc (most + more - (count + 1))
   room more = omega arith
 
   -- a byte that goes on: seven bits more
-  pub part-turn : {r : Byte} {b : ℕ} → ByteAt s next r → r ≡ Byte.the-variants.Is b → 128 ≤ b → Part most s at (value + weight * (b - 128)) (weight * 128) (next + 1) (count + 1)
+  pub part-turn : {r : Byte} {b : ℕ} → ByteAt s next r → r ≡ Byte.the-variants.Is b → 128 ≤ b → Part most s at (value + weight * (b % 128)) (weight * 128) (next + 1) (count + 1)
   part-turn {r} {b} a e h =
       record {
         few = omega arith;
         weighs = ap (λ (w : ℕ). w * 128) (p .weighs) ∙ seven-more count;
-        small = turn-value (a .small b e .0);
+        small = turn-value b;
         same = λ more.
             p .same more
             ∙ ap (λ (n : ℕ). above value weight count (bitsAt n s next)) (room more)
@@ -144,22 +148,22 @@ module _ {most : ℕ} (fit : MostBytes most) {s : List ℕ} {at value weight nex
       let v : value < weight = p .small in
       record { fits = omega arith }
 
-  pub turn-product-fits : {r : Byte} {b : ℕ} → ByteAt s next r → r ≡ Byte.the-variants.Is b → Fits w64 (weight * (b - 128))
-  turn-product-fits {b = b} a e = product-fits (let h : b < byteLimit = a .small b e .0 in omega arith)
+  pub turn-product-fits : (b : ℕ) → Fits w64 (weight * (b % 128))
+  turn-product-fits b = product-fits (seven b)
 
-  pub turn-sum-fits : {r : Byte} {b : ℕ} → ByteAt s next r → r ≡ Byte.the-variants.Is b → Fits w64 (value + weight * (b - 128))
-  turn-sum-fits {b = b} a e = sum-fits (let h : b < byteLimit = a .small b e .0 in omega arith)
+  pub turn-sum-fits : (b : ℕ) → Fits w64 (value + weight * (b % 128))
+  turn-sum-fits b = sum-fits (seven b)
 
   pub weight-fits : Fits w64 (weight * 128)
   weight-fits = let w : weight ≤ 2 ^ 56 = weight-bound in record { fits = omega arith }
 
 -- where the loop starts: after a first byte that goes on
 module _ {s : List ℕ} {at b most : ℕ} (g : GoesOn s at b most) where
-  pub part-second : Part most s at (b - 128) 128 (at + 1) 1
+  pub part-second : Part most s at (b % 128) 128 (at + 1) 1
   part-second =
-      let first : Part most s at (0 + 1 * (b - 128)) (1 * 128) (at + 1) (0 + 1) =
+      let first : Part most s at (0 + 1 * (b % 128)) (1 * 128) (at + 1) (0 + 1) =
       part-turn (g .room) (part-first most s at) (g .room .some) (record { is = rw (g .byte); small = λ c e. let same : b ≡ c = cc in rw (← same) (g .small, g .inside) }) refl (g .more) in
-      let value : 0 + 1 * (b - 128) ≡ b - 128 = omega arith in
+      let value : 0 + 1 * (b % 128) ≡ b % 128 = omega arith in
       rw value at first
 
   pub second-fits : length s < 2 ^ 64 → Fits w64 (at + 1)

@@ -1,14 +1,14 @@
 -- What a caller learns from an answer of this crate: what the definition read, and the bounds of a number that was read.
-use Prim.Native.Nat.{ℕ, _-_, _^_, _≤_, _<_}
+use Prim.Native.Nat.{ℕ, _-_, _*_, _^_, _≤_, _<_}
 use mathlib.Core.Path.{_≡_, refl}
-use mathlib.Core.Bool.{Bool, true, false, cond}
+use mathlib.Core.Bool.{Bool, true, false, cond, _&&_}
 use mathlib.Core.List.{List}
 use lib.ListN.{length}
 use lib.Dec.{ltb}
 use borrow.Author.Tests.{ltb-true, leb-true}
-use Rattle.scope.specs.Refusals.{badNumber}
+use Rattle.scope.specs.Refusals.{badNumber, padded}
 use Rattle.scope.specs.Reading.{Read, got, refused}
-use Rattle.scope.specs.Numbers.{Bits, bits, cut, long, bitsAt, greatestLength, inRange, Whole, plus, minus, signed-of, withinSigned, unsigned, signed, u32, s33}
+use Rattle.scope.specs.Numbers.{Bits, bits, cut, long, bitsAt, greatestLength, inRange, withinUnsigned, Whole, plus, minus, signed-of, withinSigned, unsigned, signed, u32, s33}
 use Rattle.scope.proofs.Forward.{unsigned-takes, signed-takes, never-back}
 use Rattle.scope.proofs.Impossible.{impossible}
 use Rattle.number.specs.declared.Natural.{Natural}
@@ -44,26 +44,27 @@ integer-refused (refused m k) p q = cc
 
 -- what was read is in the range of its width
 
-range-kept : {A : Type 0} (at : ℕ) (r : Bits) (value : ℕ → ℕ → A) (fits : A → Bool) {x : A} {next : ℕ} → inRange at r value fits ≡ got x next → fits x ≡ true
-range-kept at cut value fits e = impossible cc
-range-kept at long value fits e = impossible cc
-range-kept {A} at (bits v k n) value fits {x} {next} e = go (fits (value v k)) refl e
+range-kept : {A : Type 0} (width at : ℕ) (r : Bits) (value : ℕ → ℕ → A) (holds : ℕ → A → Bool) {x : A} {next : ℕ} → inRange width at r value holds ≡ got x next → holds width x ≡ true
+range-kept width at cut value holds e = impossible cc
+range-kept width at long value holds e = impossible cc
+range-kept {A} width at (bits v k n) value holds {x} {next} e = go (holds width (value v k)) refl (ltb 1 k && holds (7 * (k - 1)) (value v k)) e
   where
-    go : (t : Bool) → fits (value v k) ≡ t → cond t (got (value v k) n) (refused badNumber at) ≡ got x next → fits x ≡ true
-    go true p q = let same : value v k ≡ x = cc in rw same at p
-    go false p q = impossible cc
+    go : (t : Bool) → holds width (value v k) ≡ t → (spare : Bool) → cond t (cond spare (refused padded at) (got (value v k) n)) (refused badNumber at) ≡ got x next → holds width x ≡ true
+    go true p true q = impossible cc
+    go true p false q = let same : value v k ≡ x = cc in rw same at p
+    go false p spare q = impossible cc
 
 pub unsigned-small : (width : ℕ) (s : List ℕ) (at : ℕ) {v next : ℕ} → unsigned width s at ≡ got v next → v < 2 ^ width
 unfolding unsigned
-unsigned-small width s at {v} e = ltb-true v (2 ^ width) (range-kept at (bitsAt (greatestLength width) s at) (λ u k. u) (λ u. ltb u (2 ^ width)) e)
+unsigned-small width s at {v} e = ltb-true v (2 ^ width) (range-kept width at (bitsAt (greatestLength width) s at) (λ u k. u) withinUnsigned e)
 
 pub signed-small : (width : ℕ) (s : List ℕ) (at : ℕ) {v next : ℕ} → signed width s at ≡ got (plus v) next → v < 2 ^ (width - 1)
 unfolding signed
-signed-small width s at {v} e = ltb-true v (2 ^ (width - 1)) (range-kept at (bitsAt (greatestLength width) s at) signed-of (withinSigned width) e)
+signed-small width s at {v} e = ltb-true v (2 ^ (width - 1)) (range-kept width at (bitsAt (greatestLength width) s at) signed-of withinSigned e)
 
 pub signed-least : (width : ℕ) (s : List ℕ) (at : ℕ) {v next : ℕ} → signed width s at ≡ got (minus v) next → v ≤ 2 ^ (width - 1)
 unfolding signed
-signed-least width s at {v} e = leb-true v (2 ^ (width - 1)) (range-kept at (bitsAt (greatestLength width) s at) signed-of (withinSigned width) e)
+signed-least width s at {v} e = leb-true v (2 ^ (width - 1)) (range-kept width at (bitsAt (greatestLength width) s at) signed-of withinSigned e)
 
 -- a number read by `u32_at`, and a type number read by `s33_at`
 

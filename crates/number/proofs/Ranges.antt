@@ -9,25 +9,25 @@ use mir.Val.{Fits}
 use lib.Dec.{lit≤}
 use borrow.Author.Tests.{lt-ltb, le-ltb, le-leb, lt-leb}
 use Rattle.scope.specs.Refusals.{bytesEnd, badNumber}
-use Rattle.scope.specs.Numbers.{Bits, bits, bitsAt, greatestLength, inRange, Whole, plus, minus, signed-of, withinSigned, unsigned, signed, u32, s32, s33}
+use Rattle.scope.specs.Numbers.{Bits, bits, bitsAt, greatestLength, unlessPadded, inRange, Whole, plus, minus, signed-of, withinSigned, unsigned, signed, u32, s32, s33}
 use Rattle.number.specs.declared.Leb.{Leb}
 use Rattle.number.specs.declared.Leb
 use Rattle.number.specs.declared.Natural.{Natural}
 use Rattle.number.specs.declared.Natural
 use Rattle.number.specs.declared.Integer.{Integer}
 use Rattle.number.specs.declared.Integer
-use Rattle.number.specs.Answers.{MostBytes, Few, BitsRead, naturalIs, integerIs, SignWeight, inHalf, rangeOf, SignedRead}
+use Rattle.number.proofs.Needed.{few-counts}
+use Rattle.number.specs.Answers.{MostBytes, Few, Below, BitsRead, naturalIs, integerIs, SignWeight, naturalOf, inHalf, rangeOf, SignedRead}
 
 -- u32_at
 
-module _ {s : List ℕ} {at : ℕ} {r : Leb} (a : BitsRead 5 s at r) where
-  pub natural-fits : {v k n : ℕ} → r ≡ Leb.the-variants.Bits v k n → v < 2 ^ 32 → Natural.the-variants.Is v n ≡ naturalIs (u32 s at)
-  unfolding unsigned
-  natural-fits {v} {k} {n} e h = rw (a .ended v k n e .1 0, lt-ltb v (2 ^ 32) h)
+natural-is : (s : List ℕ) (at : ℕ) {v k n : ℕ} → bitsAt 5 s at ≡ bits v k n → u32 s at ≡ naturalOf at v k n
+unfolding unsigned naturalOf
+natural-is s at e = rw e
 
-  pub natural-beyond : {v k n : ℕ} → r ≡ Leb.the-variants.Bits v k n → 2 ^ 32 ≤ v → Natural.the-variants.Refused badNumber at ≡ naturalIs (u32 s at)
-  unfolding unsigned
-  natural-beyond {v} {k} {n} e h = rw (a .ended v k n e .1 0, le-ltb v (2 ^ 32) h)
+module _ {s : List ℕ} {at : ℕ} {r : Leb} (a : BitsRead 5 s at r) where
+  pub natural-got : {v k n : ℕ} {q : Natural} → r ≡ Leb.the-variants.Bits v k n → q ≡ naturalIs (naturalOf at v k n) → q ≡ naturalIs (u32 s at)
+  natural-got {v} {k} {n} e f = f ∙ ap naturalIs (sym (natural-is s at (a .ended v k n e .1 0)))
 
   pub natural-cut : r ≡ Leb.the-variants.Cut → Natural.the-variants.Refused bytesEnd at ≡ naturalIs (u32 s at)
   unfolding unsigned
@@ -39,8 +39,6 @@ module _ {s : List ℕ} {at : ℕ} {r : Leb} (a : BitsRead 5 s at r) where
 
 pub five-bytes : MostBytes 5
 five-bytes = record { some = lit≤ tt; fit = lit≤ tt }
-
-pub ruleset natural-exits = (natural-fits, natural-beyond, natural-cut, natural-long, five-bytes)
 
 -- the sign's weight
 
@@ -90,19 +88,20 @@ weight-is few sign = sign .is (few .some) (few .few)
 twice-is : {v k w : ℕ} → Few 9 v k → SignWeight k w → 2 * w ≡ 2 ^ (7 * k)
 twice-is few sign = sign .twice (few .some) (few .few)
 
-module _ (at half n : ℕ) {v k w : ℕ} (few : Few 9 v k) (sign : SignWeight k w) where
-  pub plus-fits : v < w → v < half → Integer.the-variants.Plus v n ≡ integerIs (rangeOf at half v k n)
+module _ (at half n : ℕ) {v k w : ℕ} {r : Integer} (few : Few 9 v k) (sign : SignWeight k w) where
+  pub plus-fits : v < w → v < half → r ≡ integerIs (unlessPadded at k n withinSigned (plus v)) → r ≡ integerIs (rangeOf at half v k n)
   unfolding rangeOf
-  plus-fits p q = rw (lt-ltb v (2 ^ (7 * k - 1)) (rw (weight-is few sign) at p), lt-ltb v half q)
+  plus-fits p q e = rw (lt-ltb v (2 ^ (7 * k - 1)) (rw (weight-is few sign) at p), lt-ltb v half q) e
 
+  pub minus-fits : w ≤ v → 2 * w - v ≤ half → r ≡ integerIs (unlessPadded at k n withinSigned (minus (2 * w - v))) → r ≡ integerIs (rangeOf at half v k n)
+  unfolding rangeOf
+  minus-fits p q e =
+      rw (le-ltb v (2 ^ (7 * k - 1)) (rw (weight-is few sign) at p), ← twice-is few sign, le-leb (2 * w - v) half q) e
+
+module _ (at half n : ℕ) {v k w : ℕ} (few : Few 9 v k) (sign : SignWeight k w) where
   pub plus-beyond : v < w → half ≤ v → Integer.the-variants.Refused badNumber at ≡ integerIs (rangeOf at half v k n)
   unfolding rangeOf
   plus-beyond p q = rw (lt-ltb v (2 ^ (7 * k - 1)) (rw (weight-is few sign) at p), le-ltb v half q)
-
-  pub minus-fits : w ≤ v → 2 * w - v ≤ half → Integer.the-variants.Minus (2 * w - v) n ≡ integerIs (rangeOf at half v k n)
-  unfolding rangeOf
-  minus-fits p q =
-      rw (le-ltb v (2 ^ (7 * k - 1)) (rw (weight-is few sign) at p), ← twice-is few sign, le-leb (2 * w - v) half q)
 
   pub minus-beyond : w ≤ v → half < 2 * w - v → Integer.the-variants.Refused badNumber at ≡ integerIs (rangeOf at half v k n)
   unfolding rangeOf
@@ -117,7 +116,14 @@ under-twice {v} {k} {w} few sign =
 pub twice-fits : {k w : ℕ} → SignWeight k w → Fits w64 (2 * w)
 twice-fits sign = let h = sign .small in record { fits = omega arith }
 
-pub ruleset signed-exits = (plus-fits, plus-beyond, minus-fits, minus-beyond, under-twice, twice-fits)
+-- a magnitude that is not nothing
+pub few-below : {v k w : ℕ} → Few 9 v k → SignWeight k w → Below (2 * w - v) k
+few-below {v} {k} {w} few sign =
+    let e : 2 * w ≡ 2 ^ (7 * k) = twice-is few sign in
+    let h : v < 2 ^ (7 * k) = few .seven in
+    record { negative = omega arith; counts = few-counts few }
+
+pub ruleset signed-exits = (plus-fits, plus-beyond, minus-fits, minus-beyond, under-twice, twice-fits, few-counts, few-below)
 
 -- signed_at, over the width: one to which five bytes are the greatest length
 
@@ -125,11 +131,11 @@ same-range : (half width : ℕ) → half ≡ 2 ^ (width - 1) → (w : Whole) →
 same-range half width h (plus v) = rw h
 same-range half width h (minus v) = rw h
 
-pub range-is : (at half width : ℕ) → half ≡ 2 ^ (width - 1) → (v k n : ℕ) → rangeOf at half v k n ≡ inRange at (bits v k n) signed-of (withinSigned width)
+pub range-is : (at half width : ℕ) → half ≡ 2 ^ (width - 1) → (v k n : ℕ) → rangeOf at half v k n ≡ inRange width at (bits v k n) signed-of withinSigned
 unfolding rangeOf
 range-is at half width h v k n = rw (same-range half width h (signed-of v k))
 
-signed-is : (width : ℕ) (s : List ℕ) (at : ℕ) {o : Bits} → greatestLength width ≡ 5 → bitsAt 5 s at ≡ o → signed width s at ≡ inRange at o signed-of (withinSigned width)
+signed-is : (width : ℕ) (s : List ℕ) (at : ℕ) {o : Bits} → greatestLength width ≡ 5 → bitsAt 5 s at ≡ o → signed width s at ≡ inRange width at o signed-of withinSigned
 unfolding signed
 signed-is width s at l e = rw (l, e)
 
@@ -153,6 +159,8 @@ few-bits {v = v} {k = k} {n = n} fit a e =
     record { some = f .some; few = omega arith; seven = f .seven }
 
 pub ruleset width-exits = (signed-got, signed-cut, signed-long, few-bits, five-bytes)
+
+pub ruleset natural-exits = (natural-got, natural-cut, natural-long, few-bits, five-bytes)
 
 -- the two widths
 

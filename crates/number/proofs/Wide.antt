@@ -8,14 +8,14 @@ use lib.ListN.{getElem?}
 use lib.Dec.{ltb, lit≤}
 use borrow.Author.Tests.{lt-ltb, le-ltb, le-leb, lt-leb, ltb-true, ltb-false}
 use Rattle.scope.specs.Refusals.{bytesEnd, badNumber}
-use Rattle.scope.specs.Numbers.{Bits, bits, bitsAt, inRange, signed-of, withinSigned, signed, s64}
+use Rattle.scope.specs.Numbers.{Bits, bits, bitsAt, unlessPadded, inRange, plus, minus, signed-of, withinSigned, signed, s64}
 use Rattle.number.specs.declared.Byte.{Byte}
 use Rattle.number.specs.declared.Byte
 use Rattle.number.specs.declared.Leb.{Leb}
 use Rattle.number.specs.declared.Leb
 use Rattle.number.specs.declared.Integer.{Integer}
 use Rattle.number.specs.declared.Integer
-use Rattle.number.specs.Answers.{above, ByteAt, MostBytes, BitsRead, integerIs, rangeOf, Tenth}
+use Rattle.number.specs.Answers.{above, ByteAt, MostBytes, Counts, Below, BitsRead, integerIs, rangeOf, Tenth}
 use Rattle.number.proofs.Bits.{byte-got, byte-none, bits-last, bits-more, bits-cut, next-fits}
 use Rattle.number.proofs.Ranges.{range-is, few-bits}
 
@@ -25,7 +25,7 @@ nine-bytes = record { some = lit≤ tt; fit = lit≤ tt }
 module _ {s : List ℕ} {at : ℕ} {r : Leb} (a : BitsRead 9 s at r) where
   pub wide-got : {v k n : ℕ} {q : Integer} → r ≡ Leb.the-variants.Bits v k n → q ≡ integerIs (rangeOf at (2 ^ 63) v k n) → q ≡ integerIs (s64 s at)
   unfolding signed
-  wide-got {v} {k} {n} e f = f ∙ ap integerIs (range-is at (2 ^ 63) 64 refl v k n ∙ ap (λ (o : Bits). inRange at o signed-of (withinSigned 64)) (sym (a .ended v k n e .1 1)))
+  wide-got {v} {k} {n} e f = f ∙ ap integerIs (range-is at (2 ^ 63) 64 refl v k n ∙ ap (λ (o : Bits). inRange 64 at o signed-of withinSigned) (sym (a .ended v k n e .1 1)))
 
   pub wide-cut : r ≡ Leb.the-variants.Cut → Integer.the-variants.Refused bytesEnd at ≡ integerIs (s64 s at)
   unfolding signed
@@ -49,22 +49,22 @@ module _ {s : List ℕ} {next : ℕ} {r : Byte} (a : ByteAt s next r) where
   unfolding signed
   tenth-missing e = record { is = λ h p. rw (p, bits-cut 0 s next (byte-none (getElem? s next) (a .is) e)) }
 
-  pub tenth-plus : {at low b : ℕ} → r ≡ Byte.the-variants.Is b → b ≡ 0 → Tenth s at low next (Integer.the-variants.Plus low (next + 1))
+  pub tenth-plus : {at low b : ℕ} {q : Integer} → r ≡ Byte.the-variants.Is b → b ≡ 0 → q ≡ integerIs (unlessPadded at 10 (next + 1) withinSigned (plus low)) → Tenth s at low next q
   unfolding signed
-  tenth-plus {at} {low} {b} e z =
+  tenth-plus {at} {low} {b} e z f =
       record {
         is = λ h p.
             let value : low + 2 ^ 63 * b ≡ low = omega arith in
-            rw (ten-bits at low e (omega arith) p, value, lt-ltb low (2 ^ 69) (omega arith), lt-ltb low (2 ^ 63) h);
+            rw (ten-bits at low e (omega arith) p, value, lt-ltb low (2 ^ 69) (omega arith), lt-ltb low (2 ^ 63) h) f;
       }
 
-  pub tenth-minus : {at low b : ℕ} → r ≡ Byte.the-variants.Is b → b ≡ 127 → Tenth s at low next (Integer.the-variants.Minus (2 ^ 63 - low) (next + 1))
+  pub tenth-minus : {at low b : ℕ} {q : Integer} → r ≡ Byte.the-variants.Is b → b ≡ 127 → q ≡ integerIs (unlessPadded at 10 (next + 1) withinSigned (minus (2 ^ 63 - low))) → Tenth s at low next q
   unfolding signed
-  tenth-minus {at} {low} {b} e z =
+  tenth-minus {at} {low} {b} e z f =
       record {
         is = λ h p.
             let value : 2 ^ 70 - (low + 2 ^ 63 * b) ≡ 2 ^ 63 - low = omega arith in
-            rw (ten-bits at low e (omega arith) p, le-ltb (low + 2 ^ 63 * b) (2 ^ 69) (omega arith), value, le-leb (2 ^ 63 - low) (2 ^ 63) (omega arith));
+            rw (ten-bits at low e (omega arith) p, le-ltb (low + 2 ^ 63 * b) (2 ^ 69) (omega arith), value, le-leb (2 ^ 63 - low) (2 ^ 63) (omega arith)) f;
       }
 
   pub tenth-beyond : {at low b : ℕ} → r ≡ Byte.the-variants.Is b → (b ≡ 0 → ⊥) → (b ≡ 127 → ⊥) → Tenth s at low next (Integer.the-variants.Refused badNumber at)
@@ -80,4 +80,10 @@ module _ {s : List ℕ} {next : ℕ} {r : Byte} (a : ByteAt s next r) where
       go false q h p = rw (p, bits-more 0 s next (byte-got (getElem? s next) (a .is) e) (ltb-false b 128 q))
       go true q h p = let g = ltb-true b 128 q in beyond (ltb (low + 2 ^ 63 * b) (2 ^ 69)) refl g h (ten-bits at low e g p)
 
-pub ruleset tenth-exits = (tenth-missing, tenth-plus, tenth-minus, tenth-beyond, next-fits)
+pub ten-counts : Counts 10
+ten-counts = record { some = lit≤ tt; few = lit≤ tt }
+
+pub ten-below : {low : ℕ} → low < 2 ^ 63 → Below (2 ^ 63 - low) 10
+ten-below {low} h = record { negative = omega arith; counts = ten-counts }
+
+pub ruleset tenth-exits = (tenth-missing, tenth-plus, tenth-minus, tenth-beyond, ten-counts, ten-below, next-fits)

@@ -1,13 +1,14 @@
 -- What the readers of numbers and floats answer, by scope's definitions.
 use Prim.Native.Nat.{ℕ, _+_, _-_, _*_, _<_, _≤_, _^_}
 use mathlib.Core.Path.{_≡_}
-use mathlib.Core.Bool.{Bool}
+use mathlib.Core.Bool.{Bool, cond, _&&_}
 use lib.Dec.{ltb, leb}
 use mathlib.Core.Option.{Option, none, some}
 use mathlib.Core.List.{List}
 use lib.ListN.{getElem?, length}
 use Rattle.scope.specs.Reading.{Read, got, refused}
-use Rattle.scope.specs.Numbers.{Bits, bits, cut, long, bitsAt, greatestLength, inRange, Whole, plus, minus, signed-of, signed}
+use Rattle.scope.specs.Refusals.{badNumber}
+use Rattle.scope.specs.Numbers.{Bits, bits, cut, long, bitsAt, greatestLength, unlessPadded, inRange, withinUnsigned, Whole, plus, minus, signed-of, withinSigned, signed}
 use Rattle.number.specs.declared.Byte.{Byte}
 use Rattle.number.specs.declared.Byte
 use Rattle.number.specs.declared.Leb.{Leb}
@@ -64,6 +65,20 @@ pub record Few (most v k : ℕ) : Type 0 where
   pub few : k ≤ most
   pub seven : v < 2 ^ (7 * k)
 
+-- a number's bytes: one to ten
+pub record Counts (k : ℕ) : Type 0 where
+  pub some : 1 ≤ k
+  pub few : k ≤ 10
+
+-- a number below zero, of so many bytes
+pub record Below (v k : ℕ) : Type 0 where
+  pub negative : 1 ≤ v
+  pub counts : Counts k
+
+-- Of k bytes one is to spare where what lies below the sign, n, lies below that of one byte less.
+abbrev pub hasSpare : ℕ → ℕ → Bool
+hasSpare n k = ltb 1 k && ltb n (2 ^ (7 * (k - 1) - 1))
+
 -- The bits that end within `most` bytes, whatever a number's greatest length beyond that is; bytes that end first; or bytes
 -- that all go on: their bits lie below what follows.
 pub record BitsRead (most : ℕ) (s : List ℕ) (at : ℕ) (r : Leb) : Type 0 where
@@ -92,6 +107,10 @@ pub record SignWeight (k r : ℕ) : Type 0 where
   pub twice : 1 ≤ k → k ≤ 9 → 2 * r ≡ 2 ^ (7 * k)
   pub small : r ≤ 2 ^ 62
 
+-- k bytes with the bits v as a number of 32 bits
+unfoldable pub naturalOf : ℕ → ℕ → ℕ → ℕ → Read ℕ
+naturalOf at v k next = inRange 32 at (bits v k next) (λ u j. u) withinUnsigned
+
 -- a whole number from -half up to half
 abbrev pub inHalf : ℕ → Whole → Bool
 inHalf half (plus v) = ltb v half
@@ -99,7 +118,7 @@ inHalf half (minus v) = leb v half
 
 -- k bytes with the bits v as a number in that range
 unfoldable pub rangeOf : ℕ → ℕ → ℕ → ℕ → ℕ → Read Whole
-rangeOf at half v k next = inRange at (bits v k next) signed-of (inHalf half)
+rangeOf at half v k next = cond (inHalf half (signed-of v k)) (unlessPadded at k next withinSigned (signed-of v k)) (refused badNumber at)
 
 -- one statement for every width of five bytes
 pub record SignedRead (s : List ℕ) (at half : ℕ) (r : Integer) : Type 0 where

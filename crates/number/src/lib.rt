@@ -4,8 +4,8 @@ use scope::refusals;
 ghost use Prim.Native.Nat.{_-_, _*_, _<_, _^_};
 ghost use mathlib.Core.Path.{_≡_};
 ghost use lib.ListN.{length};
-ghost use Rattle.scope.specs.Numbers.{u32, s32, s33, s64, floatBytes, float32, float64};
-ghost use Rattle.number.specs.Answers.{ByteAt, ByteIs, MostBytes, GoesOn, Few, FloatLength, BitsRead, naturalIs, FloatRead, SignWeight, rangeOf, SignedRead, Tenth, integerIs};
+ghost use Rattle.scope.specs.Numbers.{plus, minus, withinSigned, unlessPadded, u32, s32, s33, s64, floatBytes, float32, float64};
+ghost use Rattle.number.specs.Answers.{ByteAt, ByteIs, MostBytes, GoesOn, Few, Counts, Below, FloatLength, BitsRead, naturalIs, FloatRead, SignWeight, hasSpare, naturalOf, rangeOf, SignedRead, Tenth, integerIs};
 
 // The first number that is more than one byte.
 const TWO_BYTES: u64 = 128;
@@ -25,6 +25,8 @@ const S64_HALF: u64 = 9223372036854775808;
 const FIVE: u64 = 5;
 
 const NINE: u64 = 9;
+
+const TEN: u64 = 10;
 
 // A float's length, and the first number that is no byte.
 const F32_BYTES: usize = 4;
@@ -62,8 +64,8 @@ fn leb_loop(s: &[u8], at: usize, first: u64, most: u64) -> Leb
     requires { ⌜ GoesOn (now s) at first most ⌝ }
     ensures { λ r. ⌜ BitsRead most (now (s .entry)) at r ⌝ }
 {
-    let mut value: u64 = first - 128;
-    let mut weight: u64 = 128;
+    let mut value: u64 = first % TWO_BYTES;
+    let mut weight: u64 = TWO_BYTES;
     let mut next = at + 1;
     let mut count: u64 = 1;
     while count < most {
@@ -72,11 +74,11 @@ fn leb_loop(s: &[u8], at: usize, first: u64, most: u64) -> Leb
             return Leb::Cut;
         };
         count = count + 1;
-        if b < 128 {
+        if b < TWO_BYTES {
             return Leb::Bits(value + weight * b, count, next + 1);
         }
-        value = value + weight * (b - 128);
-        weight = weight * 128;
+        value = value + weight * (b % TWO_BYTES);
+        weight = weight * TWO_BYTES;
         next = next + 1;
     }
     Leb::Long(value, next)
@@ -103,30 +105,6 @@ pub enum Natural {
     Refused(u64, usize),
 }
 
-pub fn u32_at(s: &[u8], at: usize) -> Natural
-    ensures { λ r. ⌜ r ≡ naturalIs (u32 (now (s .entry)) at) ⌝ }
-{
-    let read = leb_at(s, at, FIVE);
-    match read {
-        Leb::Bits(value, _, next) => {
-            if value < U32_LIMIT {
-                Natural::Is(value, next)
-            } else {
-                Natural::Refused(refusals::BAD_NUMBER, at)
-            }
-        }
-        Leb::Cut => Natural::Refused(refusals::BYTES_END, at),
-        Leb::Long(_, _) => Natural::Refused(refusals::BAD_NUMBER, at),
-    }
-}
-
-// A whole number by its magnitude, and the place after it; or a refusal's number and place.
-pub enum Integer {
-    Plus(u64, usize),
-    Minus(u64, usize),
-    Refused(u64, usize),
-}
-
 // The weight of the highest bit of so many bytes: the sign.
 fn sign_weight(count: u64) -> u64
     ensures { λ r. ⌜ SignWeight count r ⌝ }
@@ -144,6 +122,73 @@ fn sign_weight(count: u64) -> u64
     }
 }
 
+// Whether one of so many bytes is to spare: of what lies below the sign, n, one byte less holds all.
+fn spare(n: u64, count: u64) -> bool
+    requires { ⌜ Counts count ⌝ }
+    ensures { λ r. ⌜ r ≡ hasSpare n count ⌝ }
+{
+    if count == 1 {
+        return false;
+    }
+    let less = sign_weight(count - 1);
+    n < less
+}
+
+// The bits of so many bytes as a number of 32 bits: in range (2), and no byte to spare (32). A natural number has no sign, so
+// half of it lies below.
+fn natural_of(value: u64, count: u64, next: usize, at: usize) -> Natural
+    requires { ⌜ Few 9 value count ⌝ }
+    ensures { λ r. ⌜ r ≡ naturalIs (naturalOf at value count next) ⌝ }
+{
+    if U32_LIMIT <= value {
+        return Natural::Refused(refusals::BAD_NUMBER, at);
+    }
+    if spare(value / 2, count) {
+        return Natural::Refused(refusals::PADDED, at);
+    }
+    Natural::Is(value, next)
+}
+
+pub fn u32_at(s: &[u8], at: usize) -> Natural
+    ensures { λ r. ⌜ r ≡ naturalIs (u32 (now (s .entry)) at) ⌝ }
+{
+    let read = leb_at(s, at, FIVE);
+    match read {
+        Leb::Bits(value, count, next) => natural_of(value, count, next, at),
+        Leb::Cut => Natural::Refused(refusals::BYTES_END, at),
+        Leb::Long(_, _) => Natural::Refused(refusals::BAD_NUMBER, at),
+    }
+}
+
+// A whole number by its magnitude, and the place after it; or a refusal's number and place.
+pub enum Integer {
+    Plus(u64, usize),
+    Minus(u64, usize),
+    Refused(u64, usize),
+}
+
+// A number that is not negative, of so many bytes: none of them to spare (32).
+fn plus_of(value: u64, count: u64, next: usize, at: usize) -> Integer
+    requires { ⌜ Counts count ⌝ }
+    ensures { λ r. ⌜ r ≡ integerIs (unlessPadded at count next withinSigned (plus value)) ⌝ }
+{
+    if spare(value, count) {
+        return Integer::Refused(refusals::PADDED, at);
+    }
+    Integer::Plus(value, next)
+}
+
+// One below zero, by its magnitude: as many lie below the sign as above it, and the first of them is -1.
+fn minus_of(under: u64, count: u64, next: usize, at: usize) -> Integer
+    requires { ⌜ Below under count ⌝ }
+    ensures { λ r. ⌜ r ≡ integerIs (unlessPadded at count next withinSigned (minus under)) ⌝ }
+{
+    if spare(under - 1, count) {
+        return Integer::Refused(refusals::PADDED, at);
+    }
+    Integer::Minus(under, next)
+}
+
 // The bits of so many bytes as a whole number: below the sign's weight as they are, else less twice that weight.
 fn signed_of(value: u64, count: u64, next: usize, at: usize, half: u64) -> Integer
     requires { ⌜ Few 9 value count ⌝ }
@@ -152,13 +197,13 @@ fn signed_of(value: u64, count: u64, next: usize, at: usize, half: u64) -> Integ
     let sign = sign_weight(count);
     if value < sign {
         if value < half {
-            return Integer::Plus(value, next);
+            return plus_of(value, count, next, at);
         }
         return Integer::Refused(refusals::BAD_NUMBER, at);
     }
     let under = 2 * sign - value;
     if under <= half {
-        return Integer::Minus(under, next);
+        return minus_of(under, count, next, at);
     }
     Integer::Refused(refusals::BAD_NUMBER, at)
 }
@@ -198,10 +243,10 @@ fn tenth_at(s: &[u8], at: usize, low: u64, next: usize) -> Integer
         return Integer::Refused(refusals::BYTES_END, at);
     };
     if b == 0x00 {
-        return Integer::Plus(low, next + 1);
+        return plus_of(low, TEN, next + 1, at);
     }
     if b == 0x7F {
-        return Integer::Minus(S64_HALF - low, next + 1);
+        return minus_of(S64_HALF - low, TEN, next + 1, at);
     }
     Integer::Refused(refusals::BAD_NUMBER, at)
 }

@@ -3,7 +3,7 @@
 -- there moves lo by one.
 use Prim.Native.Nat.{ℕ, zero, suc, _+_, _-_, _*_, _≤_, _<_}
 use mathlib.Core.Path.{_≡_, refl}
-use mathlib.Core.Bool.{Bool, true, false, cond}
+use mathlib.Core.Bool.{Bool, true, false, cond, _&&_}
 use mathlib.Core.Option.{Option, none, some}
 use mathlib.Core.List.{List, [], _∷_}
 use native.Mathlib.Omega.{arith}
@@ -93,19 +93,20 @@ unfolding bitsAt
 bits-end zero s at = longs
 bits-end (suc room) s at = bits-first s at (λ b. bits-under b (bits-end room s (at + 1)))
 
-range-ends : {A : Type 0} {lo hi : ℕ} (at : ℕ) {r : Bits} (value : ℕ → ℕ → A) (fits : A → Bool) → BitsEnd lo hi r → Ends lo hi (inRange at r value fits)
-range-ends at value fits cuts = stops
-range-ends at value fits longs = stops
-range-ends at value fits (stand {v} {k} a h) = ends-cond (fits (value v k)) (reaches a h) stops
+range-ends : {A : Type 0} {lo hi : ℕ} (width at : ℕ) {r : Bits} (value : ℕ → ℕ → A) (holds : ℕ → A → Bool) → BitsEnd lo hi r → Ends lo hi (inRange width at r value holds)
+range-ends width at value holds cuts = stops
+range-ends width at value holds longs = stops
+range-ends width at value holds (stand {v} {k} a h) =
+    ends-cond (holds width (value v k)) (ends-cond (ltb 1 k && holds (7 * (k - 1)) (value v k)) stops (reaches a h)) stops
 
 -- one fact for every width
 pub unsigned-takes : (width : ℕ) → Takes (unsigned width)
 unfolding unsigned
-unsigned-takes width = record { takes = λ s at. range-ends at _ _ (bits-end _ s at) }
+unsigned-takes width = record { takes = λ s at. range-ends width at _ _ (bits-end _ s at) }
 
 pub signed-takes : (width : ℕ) → Takes (signed width)
 unfolding signed
-signed-takes width = record { takes = λ s at. range-ends at _ _ (bits-end _ s at) }
+signed-takes width = record { takes = λ s at. range-ends width at _ _ (bits-end _ s at) }
 
 -- the bytes of a float are all there, where they are read
 pub float-inside : (n : ℕ) (s : List ℕ) (at : ℕ) {v : ℕ} → littleEndian (suc n) s at ≡ some v → at + suc n ≤ length s

@@ -1,14 +1,14 @@
--- "Numbers are LEB128 as the core standard has them; padding within the greatest length is allowed." One account over
--- the width: seven bits a byte, lowest first, a byte of 128 or more goes on; then the range of the width. A float is no
--- LEB number: its bytes are its bits, and one item.
-use Prim.Native.Nat.{ℕ, zero, suc, _+_, _-_, _*_, _^_, _/_}
-use mathlib.Core.Bool.{Bool, cond}
+-- "Numbers are LEB128 as the core standard has them"; the leave to pad them is withdrawn by request 10 of document 02. One
+-- account over the width and the sign: seven bits a byte, lowest first, a byte of 128 or more goes on; then the range of the
+-- width; then that no byte is to spare. A float is no LEB number: its bytes are its bits, and one item.
+use Prim.Native.Nat.{ℕ, zero, suc, _+_, _-_, _*_, _^_, _/_, _%_}
+use mathlib.Core.Bool.{Bool, cond, _&&_}
 use mathlib.Core.Option.{Option, none, some}
 use mathlib.Core.List.{List}
 use lib.ListN.{getElem?}
 use lib.Dec.{ltb, leb}
 use Rattle.scope.specs.Reading.{Read, got, refused, Reader, given}
-use Rattle.scope.specs.Refusals.{bytesEnd, badNumber}
+use Rattle.scope.specs.Refusals.{bytesEnd, badNumber, padded}
 
 -- the bits of a number as they stand: their value, how many bytes they take, the place after; or what is wrong
 pub data Bits : Type 0 where
@@ -18,7 +18,7 @@ pub data Bits : Type 0 where
 
 -- seven bits put below those that follow
 abbrev pub under : ℕ → Bits → Bits
-under b (bits v k next) = bits (b - 128 + 128 * v) (k + 1) next
+under b (bits v k next) = bits (b % 128 + 128 * v) (k + 1) next
 under b cut = cut
 under b long = long
 
@@ -32,15 +32,23 @@ bitsAt (suc room) s at =
 abbrev pub greatestLength : ℕ → ℕ
 greatestLength width = (width + 6) / 7
 
--- 1: bytes end inside an item; 2: LEB too long or out of range. Both at its first byte.
-abbrev pub inRange : {A : Type 0} → ℕ → Bits → (ℕ → ℕ → A) → (A → Bool) → Read A
-inRange at (bits v k next) value fits = cond (fits (value v k)) (got (value v k) next) (refused badNumber at)
-inRange at cut value fits = refused bytesEnd at
-inRange at long value fits = refused badNumber at
+-- Request 10: 32, at its first byte, "for any LEB number with more bytes than it needs". Of k bytes one is to spare where seven
+-- bits fewer hold the number too; `holds n x` says that n bits hold x. A number of one byte has none to spare.
+abbrev pub unlessPadded : {A : Type 0} → ℕ → ℕ → ℕ → (ℕ → A → Bool) → A → Read A
+unlessPadded at k next holds x = cond (ltb 1 k && holds (7 * (k - 1)) x) (refused padded at) (got x next)
+
+-- 1: bytes end inside an item; 2: LEB too long or out of range; 32 "after 1 and 2". All at its first byte.
+abbrev pub inRange : {A : Type 0} → ℕ → ℕ → Bits → (ℕ → ℕ → A) → (ℕ → A → Bool) → Read A
+inRange width at (bits v k next) value holds = cond (holds width (value v k)) (unlessPadded at k next holds (value v k)) (refused badNumber at)
+inRange width at cut value holds = refused bytesEnd at
+inRange width at long value holds = refused badNumber at
+
+abbrev pub withinUnsigned : ℕ → ℕ → Bool
+withinUnsigned width v = ltb v (2 ^ width)
 
 -- uN
 unfoldable pub unsigned : ℕ → Reader ℕ
-unsigned width s at = inRange at (bitsAt (greatestLength width) s at) (λ v k. v) (λ v. ltb v (2 ^ width))
+unsigned width s at = inRange width at (bitsAt (greatestLength width) s at) (λ v k. v) withinUnsigned
 
 -- a whole number: a natural one, or one below zero by its magnitude
 pub data Whole : Type 0 where
@@ -57,7 +65,7 @@ withinSigned width (minus v) = leb v (2 ^ (width - 1))
 
 -- sN
 unfoldable pub signed : ℕ → Reader Whole
-signed width s at = inRange at (bitsAt (greatestLength width) s at) signed-of (withinSigned width)
+signed width s at = inRange width at (bitsAt (greatestLength width) s at) signed-of withinSigned
 
 abbrev pub u32 : Reader ℕ
 u32 = unsigned 32

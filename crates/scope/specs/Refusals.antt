@@ -97,6 +97,10 @@ noDefault = 29
 abbrev pub onlyNull : ℕ
 onlyNull = 31
 
+-- request 10 of document 02: a LEB number with more bytes than it needs
+abbrev pub padded : ℕ
+padded = 32
+
 -- trap: unreachable
 abbrev pub trapUnreachable : ℕ
 trapUnreachable = 41

@@ -71,3 +71,6 @@ pub const NO_DEFAULT: u64 = 29;
 
 // request 9 of document 02: an operand would fit if it could not be null
 pub const ONLY_NULL: u64 = 31;
+
+// request 10 of document 02: a LEB number with more bytes than it needs
+pub const PADDED: u64 = 32;

@@ -11,9 +11,6 @@ Inv-loop s at first most value₀ weight₀ next₀ count₀ value weight next c
 abbrev μ-loop : tie.MeasureT-loop
 μ-loop s at first most value₀ weight₀ next₀ count₀ value weight next count = most - count
 
-sub-value : tie.Need-sub-value Inv-loop μ-loop
-sub-value c = search (leb-exits, needs)
-
 add-next : tie.Need-add-next Inv-loop μ-loop
 add-next c = search (leb-exits, needs)
 
@@ -74,7 +71,6 @@ leb-loop-spec =
     (tie.spec
     Inv-loop
     μ-loop
-    sub-value
     add-next
     loop-holds
     byte-at-requires

@@ -5,7 +5,10 @@ use Rattle.number.proofs.signed_of.Statement.{statement}
 use Rattle.number.proofs.signed_of.Tie as tie
 
 sign-weight-requires : tie.Need-sign-weight-requires
-sign-weight-requires c κs = search needs
+sign-weight-requires c κs = search (signed-exits, needs)
+
+plus-of-requires : tie.Need-plus-of-requires
+plus-of-requires c κs = search (signed-exits, needs)
 
 returns : tie.Need-returns
 returns c = search (signed-exits, needs)
@@ -14,10 +17,13 @@ returns-2 : tie.Need-returns-2
 returns-2 c = search (signed-exits, needs)
 
 mul-under : tie.Need-mul-under
-mul-under c = search needs
+mul-under c = search (signed-exits, needs)
 
 sub-under : tie.Need-sub-under
 sub-under c = search (signed-exits, needs)
+
+minus-of-requires : tie.Need-minus-of-requires
+minus-of-requires c κs = search (signed-exits, needs)
 
 returns-3 : tie.Need-returns-3
 returns-3 c = search (signed-exits, needs)
@@ -28,4 +34,13 @@ returns-4 c = search (signed-exits, needs)
 pub signed-of-spec : {M : Type 1} → statement M
 signed-of-spec =
     tie.close
-    (tie.spec sign-weight-requires returns returns-2 mul-under sub-under returns-3 returns-4)
+    (tie.spec
+    sign-weight-requires
+    plus-of-requires
+    returns
+    returns-2
+    mul-under
+    sub-under
+    minus-of-requires
+    returns-3
+    returns-4)

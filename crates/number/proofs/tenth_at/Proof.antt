@@ -16,17 +16,23 @@ enum-told c = search (tenth-exits, needs)
 returns : tie.Need-returns
 returns c = search (tenth-exits, needs)
 
-add-t8 : tie.Need-add-t8
-add-t8 c = search (tenth-exits, needs)
+add-plus-of : tie.Need-add-plus-of
+add-plus-of c = search (tenth-exits, needs)
+
+plus-of-requires : tie.Need-plus-of-requires
+plus-of-requires c κs = search (tenth-exits, needs)
 
 returns-2 : tie.Need-returns-2
 returns-2 c = search (tenth-exits, needs)
 
-sub-t9 : tie.Need-sub-t9
-sub-t9 c = search (tenth-exits, needs)
+sub-minus-of : tie.Need-sub-minus-of
+sub-minus-of c = search (tenth-exits, needs)
 
-add-t10 : tie.Need-add-t10
-add-t10 c = search (tenth-exits, needs)
+add-minus-of : tie.Need-add-minus-of
+add-minus-of c = search (tenth-exits, needs)
+
+minus-of-requires : tie.Need-minus-of-requires
+minus-of-requires c κs = search (tenth-exits, needs)
 
 returns-3 : tie.Need-returns-3
 returns-3 c = search (tenth-exits, needs)
@@ -42,9 +48,11 @@ tenth-at-spec =
     enum-known-read
     enum-told
     returns
-    add-t8
+    add-plus-of
+    plus-of-requires
     returns-2
-    sub-t9
-    add-t10
+    sub-minus-of
+    add-minus-of
+    minus-of-requires
     returns-3
     returns-4)
