@@ -17,7 +17,7 @@ use Rattle.body_immediates.specs.declared.Instruction.{Instruction}
 use Rattle.body_immediates.specs.declared.Instruction
 use Rattle.body_immediates.specs.declared.InstructionRead.{InstructionRead}
 use Rattle.body_immediates.specs.declared.InstructionRead
-use Rattle.body_immediates.proofs.Signs.{Bytes, signed-more}
+use Rattle.body_immediates.proofs.Signs.{signed-more}
 use Rattle.body_immediates.specs.Coding.{operationOf, instructionOf, instructionIs, numbered, numberedAt, constantAt, wideAt, float32ConstAt, float64ConstAt, typed, typedAt, fieldedAt}
 
 -- numbered_at
@@ -61,8 +61,8 @@ module _ (s : List ℕ) (at : ℕ) {r : Integer} (a : r ≡ integerIs (s32 s at)
   pub constant-narrow : {v next : ℕ} → r ≡ Integer.the-variants.Plus v next → v < 2 ^ 32
   constant-narrow {v} {next} e = let h = signed-small 32 s at (integer-plus (s32 s at) a e) in omega arith
 
-  pub constant-lacks : {v next : ℕ} → r ≡ Integer.the-variants.Minus v next → Bytes s → 2 ^ 32 - v < 2 ^ 32
-  constant-lacks {v} {next} e bytes = let h = signed-more 32 s at (integer-minus (s32 s at) a e) bytes in omega arith
+  pub constant-lacks : {v next : ℕ} → r ≡ Integer.the-variants.Minus v next → 2 ^ 32 - v < 2 ^ 32
+  constant-lacks {v} {next} e = let h = signed-more 32 s at (integer-minus (s32 s at) a e) in omega arith
 
 pub ruleset constant-exits = (constant-refused, constant-plus, constant-minus, constant-bound, constant-narrow, constant-lacks)
 
@@ -77,10 +77,10 @@ module _ (s : List ℕ) (at : ℕ) {r : Integer} (a : r ≡ integerIs (s64 s at)
   unfolding wideAt instructionOf operationOf
   wide-plus e = rw (integer-plus (s64 s at) a e)
 
-  module _ {v next : ℕ} (e : r ≡ Integer.the-variants.Minus v next) (bytes : Bytes s) where
+  module _ {v next : ℕ} (e : r ≡ Integer.the-variants.Minus v next) where
     -- it is not zero, so that one less does not go below 0
     pub wide-some : 1 ≤ v
-    wide-some = let h = signed-more 64 s at (integer-minus (s64 s at) a e) bytes in omega arith
+    wide-some = let h = signed-more 64 s at (integer-minus (s64 s at) a e) in omega arith
 
     pub wide-minus : InstructionRead.the-variants.Is (Instruction.the-variants.I64Const (18446744073709551615 - (v - 1))) next ≡ instructionIs (wideAt s at)
     unfolding wideAt instructionOf operationOf

@@ -6,7 +6,7 @@ use mathlib.Core.List.{List}
 use Rattle.scope.specs.Refusals.{bufferTooSmall}
 use Rattle.scope.specs.Judging.{rejected, judgeSection}
 use Rattle.scope.specs.Bodies.{judgeBody}
-use Rattle.facts_refusals.specs.Numbers.{ByteFault, is-bytes-end, is-bad-number, is-not-listed, is-oversize, is-left-over, RuleFault, is-out-of-reach, is-bad-supertype, is-long-chain, is-no-match, is-clause-not-on-struct, is-describes-not-earlier, is-clauses-disagree, is-bad-descriptor, is-bad-describes, InstructionFault, type-out-of-reach, is-absent, is-bad-struct, is-field-fixed, is-bad-branch, is-no-default, is-not-set, is-only-null, is-bad-operand, is-values-left, is-too-many, EntryNumber, entry-out-of-reach, entry-too-many}
+use Rattle.facts_refusals.specs.Numbers.{ByteFault, is-bytes-end, is-bad-number, is-not-listed, is-oversize, is-left-over, is-padded, RuleFault, is-out-of-reach, is-bad-supertype, is-long-chain, is-no-match, is-clause-not-on-struct, is-describes-not-earlier, is-clauses-disagree, is-bad-descriptor, is-bad-describes, InstructionFault, type-out-of-reach, is-absent, is-bad-struct, is-field-fixed, is-bad-branch, is-no-default, is-not-set, is-only-null, is-bad-operand, is-values-left, is-too-many, EntryNumber, entry-out-of-reach, entry-too-many}
 use Rattle.facts_refusals.specs.Sections as sections
 use Rattle.facts_refusals.specs.Bodies as bodies
 use Rattle.facts_refusals.proofs.Sections.{says-no}
@@ -21,6 +21,7 @@ byte-fault is-bad-number e = omega arith
 byte-fault is-not-listed e = omega arith
 byte-fault is-oversize e = omega arith
 byte-fault is-left-over e = omega arith
+byte-fault is-padded e = omega arith
 
 rule-fault : {n : ℕ} → RuleFault n → ¬ Fourteen n
 rule-fault is-out-of-reach e = omega arith

@@ -56,7 +56,12 @@ all-read =
     (also-read refl
     (also-read refl
     (also-read refl
-    none-left))))))))))))))))))))))))))))))))))))))))))))
+    (also-read refl
+    (also-read refl
+    (also-read refl
+    (also-read refl
+    (also-read refl
+    none-left)))))))))))))))))))))))))))))))))))))))))))))))))
 
 pub numeric-read : map (λ b. instrAt (b ∷ []) 0) (upward 0x45 128) ≡ numericRead
 unfolding computes

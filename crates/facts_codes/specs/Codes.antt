@@ -1,12 +1,12 @@
 -- The codes of document 01's list of instructions and of request 1 of document 02, one by one: these bytes are that instruction,
--- and nothing more. "FB, a u32 in LEB" may be padded; "flags 0 to 3 (bit 0 source null, bit 1 target null)"; -5 is kept as 32 bits.
--- And bytes that are none: codes that are not listed, and numbers that are cut or out of range.
+-- and nothing more. "Flags 0 to 3 (bit 0 source null, bit 1 target null)"; -5 is kept as 32 bits. And bytes that are none: codes
+-- that are not listed, and numbers that are cut, out of range or padded.
 use Prim.Native.Nat.{ℕ}
 use mathlib.Core.Path.{_≡_}
 use mathlib.Core.Bool.{true, false}
 use mathlib.Core.List.{List, [], _∷_, _++_, map}
 use lib.ListN.{length}
-use Rattle.scope.specs.Refusals.{bytesEnd, badNumber, notListed}
+use Rattle.scope.specs.Refusals.{bytesEnd, badNumber, notListed, padded}
 use Rattle.scope.specs.Reading.{Read, got, refused}
 use Rattle.scope.specs.Abstract.{ANY, EQ}
 use Rattle.scope.specs.Syntax.{abstract, defined, exact, i64, num, nullable}
@@ -41,6 +41,13 @@ listed =
     ∷ record { bytes = 0x41 ∷ 0x05 ∷ []; instruction = op (i32-const 5) }
     ∷ record { bytes = 0x41 ∷ 0x7B ∷ []; instruction = op (i32-const 4_294_967_291) }
     ∷ record { bytes = 0x41 ∷ 0x80 ∷ 0x80 ∷ 0x80 ∷ 0x80 ∷ 0x78 ∷ []; instruction = op (i32-const 2_147_483_648) }
+    -- as many bytes as each needs: 127 and -128, 64 and -65 two; the greatest i64 of nine bytes, and the next, of ten
+    ∷ record { bytes = 0x41 ∷ 0xFF ∷ 0x00 ∷ []; instruction = op (i32-const 127) }
+    ∷ record { bytes = 0x41 ∷ 0x80 ∷ 0x7F ∷ []; instruction = op (i32-const 0xFFFF_FF80) }
+    ∷ record { bytes = 0x41 ∷ 0xC0 ∷ 0x00 ∷ []; instruction = op (i32-const 64) }
+    ∷ record { bytes = 0x41 ∷ 0xBF ∷ 0x7F ∷ []; instruction = op (i32-const 0xFFFF_FFBF) }
+    ∷ record { bytes = 0x42 ∷ 0xFF ∷ 0xFF ∷ 0xFF ∷ 0xFF ∷ 0xFF ∷ 0xFF ∷ 0xFF ∷ 0xFF ∷ 0x3F ∷ []; instruction = op (i64-const 0x3FFF_FFFF_FFFF_FFFF) }
+    ∷ record { bytes = 0x42 ∷ 0x80 ∷ 0x80 ∷ 0x80 ∷ 0x80 ∷ 0x80 ∷ 0x80 ∷ 0x80 ∷ 0x80 ∷ 0xC0 ∷ 0x00 ∷ []; instruction = op (i64-const 0x4000_0000_0000_0000) }
     ∷ record { bytes = 0x42 ∷ 0x05 ∷ []; instruction = op (i64-const 5) }
     ∷ record { bytes = 0x42 ∷ 0x7B ∷ []; instruction = op (i64-const 18_446_744_073_709_551_611) }
     -- ten bytes: the least i64
@@ -70,7 +77,6 @@ listed =
     ∷ record { bytes = 0xFB ∷ 0x22 ∷ 0x02 ∷ []; instruction = op (ref-get-desc 2) }
     ∷ record { bytes = 0xFB ∷ 0x23 ∷ 0x62 ∷ 0x03 ∷ []; instruction = op (ref-cast-desc-eq false (exact 3)) }
     ∷ record { bytes = 0xFB ∷ 0x24 ∷ 0x62 ∷ 0x03 ∷ []; instruction = op (ref-cast-desc-eq true (exact 3)) }
-    ∷ record { bytes = 0xFB ∷ 0x94 ∷ 0x00 ∷ 0x03 ∷ []; instruction = op (ref-test false (defined 3)) }
     ∷ []
 
 -- the numeric codes 45 to C4, each by itself
@@ -96,6 +102,34 @@ faulty =
     ∷ record { bytes = 0x42 ∷ 0x80 ∷ 0x80 ∷ 0x80 ∷ 0x80 ∷ 0x80 ∷ 0x80 ∷ 0x80 ∷ 0x80 ∷ 0x80 ∷ 0x01 ∷ []; says = refused badNumber 1 }
     ∷ record { bytes = 0x42 ∷ 0x80 ∷ 0x80 ∷ 0x80 ∷ 0x80 ∷ 0x80 ∷ 0x80 ∷ 0x80 ∷ 0x80 ∷ 0x80 ∷ 0x80 ∷ 0x00 ∷ []; says = refused badNumber 1 }
     ∷ record { bytes = 0x42 ∷ 0x80 ∷ 0x80 ∷ 0x80 ∷ 0x80 ∷ 0x80 ∷ 0x80 ∷ 0x80 ∷ 0x80 ∷ 0x80 ∷ []; says = refused bytesEnd 1 }
+    -- request 10, "any LEB number with more bytes than it needs": the FB number, listed or not, a label, a local, a type's number and
+    -- a field's, a heap type, and each before what stands behind it
+    ∷ record { bytes = 0xFB ∷ 0x94 ∷ 0x00 ∷ 0x03 ∷ []; says = refused padded 1 }
+    ∷ record { bytes = 0xFB ∷ 0x90 ∷ 0x00 ∷ []; says = refused padded 1 }
+    ∷ record { bytes = 0x0C ∷ 0x80 ∷ 0x00 ∷ []; says = refused padded 1 }
+    ∷ record { bytes = 0x0D ∷ 0x80 ∷ 0x00 ∷ []; says = refused padded 1 }
+    ∷ record { bytes = 0x20 ∷ 0xFF ∷ 0x00 ∷ []; says = refused padded 1 }
+    ∷ record { bytes = 0x21 ∷ 0xFF ∷ 0x00 ∷ []; says = refused padded 1 }
+    ∷ record { bytes = 0x22 ∷ 0xFF ∷ 0x80 ∷ 0x00 ∷ []; says = refused padded 1 }
+    ∷ record { bytes = 0xD0 ∷ 0xBF ∷ 0x00 ∷ []; says = refused padded 1 }
+    ∷ record { bytes = 0xD0 ∷ 0x62 ∷ 0xFF ∷ 0x00 ∷ []; says = refused padded 2 }
+    ∷ record { bytes = 0xFB ∷ 0x02 ∷ 0x80 ∷ 0x00 ∷ 0x80 ∷ 0x00 ∷ []; says = refused padded 2 }
+    ∷ record { bytes = 0xFB ∷ 0x02 ∷ 0x00 ∷ 0x80 ∷ 0x00 ∷ []; says = refused padded 3 }
+    ∷ record { bytes = 0xFB ∷ 0x18 ∷ 0x00 ∷ 0x81 ∷ 0x00 ∷ []; says = refused padded 3 }
+    ∷ record { bytes = 0xFB ∷ 0x18 ∷ 0x00 ∷ 0x01 ∷ 0x81 ∷ 0x00 ∷ []; says = refused padded 4 }
+    ∷ record { bytes = 0xFB ∷ 0x18 ∷ 0x00 ∷ 0x01 ∷ 0x6D ∷ 0x81 ∷ 0x00 ∷ []; says = refused padded 5 }
+    ∷ record { bytes = 0x02 ∷ 0x63 ∷ 0x81 ∷ 0x00 ∷ []; says = refused padded 2 }
+    -- constants: 0 and -1 do not need two bytes, nor 63 and -64; an i64 of ten bytes may not need the tenth, whose bits are in
+    -- range; a number that is out of range or cut is told so first
+    ∷ record { bytes = 0x41 ∷ 0x80 ∷ 0x00 ∷ []; says = refused padded 1 }
+    ∷ record { bytes = 0x41 ∷ 0xFF ∷ 0x7F ∷ []; says = refused padded 1 }
+    ∷ record { bytes = 0x41 ∷ 0xBF ∷ 0x00 ∷ []; says = refused padded 1 }
+    ∷ record { bytes = 0x41 ∷ 0xC0 ∷ 0x7F ∷ []; says = refused padded 1 }
+    ∷ record { bytes = 0x42 ∷ 0x80 ∷ 0x00 ∷ []; says = refused padded 1 }
+    ∷ record { bytes = 0x42 ∷ 0xFF ∷ 0xFF ∷ 0xFF ∷ 0xFF ∷ 0xFF ∷ 0xFF ∷ 0xFF ∷ 0xFF ∷ 0xBF ∷ 0x00 ∷ []; says = refused padded 1 }
+    ∷ record { bytes = 0x42 ∷ 0x80 ∷ 0x80 ∷ 0x80 ∷ 0x80 ∷ 0x80 ∷ 0x80 ∷ 0x80 ∷ 0x80 ∷ 0xC0 ∷ 0x7F ∷ []; says = refused padded 1 }
+    ∷ record { bytes = 0x41 ∷ 0x80 ∷ 0x80 ∷ 0x80 ∷ 0x80 ∷ 0x80 ∷ 0x00 ∷ []; says = refused badNumber 1 }
+    ∷ record { bytes = 0x41 ∷ 0x80 ∷ 0x80 ∷ []; says = refused bytesEnd 1 }
     -- the range ends at C4, and FC begins no instruction
     ∷ record { bytes = 0xC5 ∷ []; says = refused notListed 0 }
     ∷ record { bytes = 0xFC ∷ 0x00 ∷ []; says = refused notListed 0 }

@@ -22,7 +22,7 @@ use Rattle.scope.specs.Bodies.{Operand, unknown, fits, nonNullOf, fit, operandT
 use Rattle.scope.proofs.Impossible.{impossible}
 use Rattle.scope.proofs.Accepted.{accepted-passes}
 use Rattle.facts_bodies.proofs.Premises.{Ordered, passes-ordered}
-use Rattle.facts_refusals.specs.Numbers.{ByteFault, is-bytes-end, is-bad-number, is-not-listed, is-oversize, is-left-over, RuleFault, is-out-of-reach, is-bad-supertype, is-long-chain, is-no-match, is-clause-not-on-struct, is-describes-not-earlier, is-clauses-disagree, is-bad-descriptor, is-bad-describes}
+use Rattle.facts_refusals.specs.Numbers.{ByteFault, is-bytes-end, is-bad-number, is-not-listed, is-oversize, is-left-over, is-padded, RuleFault, is-out-of-reach, is-bad-supertype, is-long-chain, is-no-match, is-clause-not-on-struct, is-describes-not-earlier, is-clauses-disagree, is-bad-descriptor, is-bad-describes}
 use Rattle.facts_refusals.specs.Sections.{SaysNo, of-bytes, of-rules}
 use Rattle.facts_refusals.proofs.Reading.{Heeds, refuses, goes-on, unsigned-heeds, val-heeds, instr-heeds}
 use Rattle.facts_refusals.proofs.Sections.{says-no}
@@ -107,6 +107,7 @@ byte-as is-bad-number = refl
 byte-as is-not-listed = refl
 byte-as is-oversize = refl
 byte-as is-left-over = refl
+byte-as is-padded = refl
 
 rule-as : {n : ℕ} → RuleFault n → as20 n ≡ n
 rule-as is-out-of-reach = refl

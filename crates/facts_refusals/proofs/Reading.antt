@@ -1,10 +1,10 @@
 -- What a reader refuses: its number is a byte fault's, and its place lies inside the input or at its length. The argument
 -- is that of scope's proofs/Forward.antt: a reader is put together from `then`, `onByte`, `cond` and `given`, each of which
 -- keeps it; a reader that begins inside the input or at its length ends there too.
-use Prim.Native.Nat.{ℕ, zero, suc, _+_, _-_, _≤_, _<_}
+use Prim.Native.Nat.{ℕ, zero, suc, _+_, _-_, _*_, _≤_, _<_}
 use native.Mathlib.Omega.{arith}
 use mathlib.Core.Path.{_≡_, refl}
-use mathlib.Core.Bool.{Bool, true, false, cond}
+use mathlib.Core.Bool.{Bool, true, false, cond, _&&_}
 use mathlib.Core.Option.{Option, none, some}
 use mathlib.Core.List.{List, [], _∷_}
 use lib.ListN.{length, getElem?}
@@ -19,7 +19,7 @@ use Rattle.scope.specs.Sections.{typeNumber, heapAt, numberOf, valAt, flagAt, f
 use Rattle.scope.specs.Numeric.{numericOf}
 use Rattle.scope.specs.Instructions.{Op, numeric, Instr, bare, having, havingTwo, blockTypeAt, castAt, opening, closing, firstBytes, afterFB, find, instrAt}
 use Rattle.scope.proofs.Forward.{byte-inside, float-inside, BitsEnd, cuts, longs, stand, bits-end}
-use Rattle.facts_refusals.specs.Numbers.{ByteFault, is-bytes-end, is-bad-number, is-not-listed, is-oversize, is-left-over}
+use Rattle.facts_refusals.specs.Numbers.{ByteFault, is-bytes-end, is-bad-number, is-not-listed, is-oversize, is-left-over, is-padded}
 
 -- a byte fault at a place up to `hi`, or a place up to `hi` to go on from
 pub data Heeds {A : Type 0} (hi : ℕ) : Read A → Type 0 where
@@ -53,18 +53,19 @@ heeds-byte s at f h k = go (getElem? s at) refl
 
 -- numbers: one fact for every width
 
-range-heeds : {A : Type 0} {lo hi : ℕ} (at : ℕ) {r : Bits} (value : ℕ → ℕ → A) (fits : A → Bool) → at ≤ hi → BitsEnd lo hi r → Heeds hi (inRange at r value fits)
-range-heeds at value fits h cuts = refuses is-bytes-end h
-range-heeds at value fits h longs = refuses is-bad-number h
-range-heeds at value fits h (stand {v} {k} a b) = heeds-cond (fits (value v k)) (goes-on b) (refuses is-bad-number h)
+range-heeds : {A : Type 0} {lo hi : ℕ} (width at : ℕ) {r : Bits} (value : ℕ → ℕ → A) (holds : ℕ → A → Bool) → at ≤ hi → BitsEnd lo hi r → Heeds hi (inRange width at r value holds)
+range-heeds width at value holds h cuts = refuses is-bytes-end h
+range-heeds width at value holds h longs = refuses is-bad-number h
+range-heeds width at value holds h (stand {v} {k} a b) =
+    heeds-cond (holds width (value v k)) (heeds-cond (ltb 1 k && holds (7 * (k - 1)) (value v k)) (refuses is-padded h) (goes-on b)) (refuses is-bad-number h)
 
 pub unsigned-heeds : (width : ℕ) → Heedful (unsigned width)
 unfolding unsigned
-unsigned-heeds width = record { heeds = λ s at h. range-heeds at _ _ h (bits-end _ s at) }
+unsigned-heeds width = record { heeds = λ s at h. range-heeds width at _ _ h (bits-end _ s at) }
 
 pub signed-heeds : (width : ℕ) → Heedful (signed width)
 unfolding signed
-signed-heeds width = record { heeds = λ s at h. range-heeds at _ _ h (bits-end _ s at) }
+signed-heeds width = record { heeds = λ s at h. range-heeds width at _ _ h (bits-end _ s at) }
 
 -- a float's bytes are one item
 float-heeds : (n : ℕ) → Heedful (floatBytes (suc n))

@@ -1,14 +1,15 @@
 -- The numbers of a refusal, by what was judged: the rows of document 01's table "When the loader says no".
 use Prim.Native.Nat.{ℕ}
-use Rattle.scope.specs.Refusals.{bytesEnd, badNumber, notListed, oversize, leftOver, outOfReach, badSupertype, noMatch, clauseNotOnStruct, describesNotEarlier, clausesDisagree, badDescriptor, badDescribes, badOperand, onlyNull, absent, notSet, badStruct, fieldFixed, badBranch, valuesLeft, noDefault}
+use Rattle.scope.specs.Refusals.{bytesEnd, badNumber, notListed, oversize, leftOver, outOfReach, badSupertype, noMatch, clauseNotOnStruct, describesNotEarlier, clausesDisagree, badDescriptor, badDescribes, badOperand, onlyNull, padded, absent, notSet, badStruct, fieldFixed, badBranch, valuesLeft, noDefault}
 
--- "byte faults (1 to 5)"
+-- "byte faults (1 to 5)", and 32 of request 10 of document 02
 pub data ByteFault : ℕ → Type 0 where
   is-bytes-end : ByteFault bytesEnd
   is-bad-number : ByteFault badNumber
   is-not-listed : ByteFault notListed
   is-oversize : ByteFault oversize
   is-left-over : ByteFault leftOver
+  is-padded : ByteFault padded
 
 -- of a section's rules: "type by type, 6, 7 and the chain; then, type by type again, 8 to 13 in rising number"
 pub data RuleFault : ℕ → Type 0 where

@@ -1,5 +1,5 @@
--- `Between s at w end`: the bytes of s from the place `at` up to the place `end` are w. Stretches that meet join, and a
--- stretch of w and then u comes apart; the whole of s lies between 0 and its length, and nothing else does.
+-- Stretches that meet join, and a stretch of w and then u comes apart; the whole of s lies between 0 and its length, and nothing
+-- else does.
 use Prim.Native.Nat.{ℕ, suc, _+_}
 use native.Mathlib.Omega.{arith}
 use native.Mathlib.Numerals.{add-one}
@@ -7,10 +7,7 @@ use mathlib.Core.Path.{_≡_, refl}
 use mathlib.Core.Option.{some}
 use mathlib.Core.List.{List, [], _∷_, _++_}
 use lib.ListN.{length, getElem?}
-
-pub data Between (s : List ℕ) : ℕ → List ℕ → ℕ → Type 0 where
-  nothing : {at : ℕ} → Between s at [] at
-  byte : {at b end : ℕ} {w : List ℕ} → getElem? s at ≡ some b → Between s (at + 1) w end → Between s at (b ∷ w) end
+use Rattle.facts_sections.specs.Between.{Between, nothing, byte}
 
 module _ {s : List ℕ} where
   pub join : {at mid end : ℕ} {w u : List ℕ} → Between s at w mid → Between s mid u end → Between s at (w ++ u) end

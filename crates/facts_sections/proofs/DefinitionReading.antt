@@ -17,7 +17,8 @@ use Rattle.scope.specs.Sections.{valAt, fewAt, Head, headAt, clauseAt, describe
 use Rattle.scope.proofs.Truths.{every-at}
 use Rattle.facts_sections.specs.WithinSizes.{FormFits, few-fields, few-values, DefinitionFits}
 use Rattle.facts_sections.specs.Writing.{Anywhere, WritesHead, open-with-supertypes, final-with-supertypes, neither, WritesClause, a-clause, no-clause, WritesForm, a-struct-form, a-func-form, WritesDefinition, a-definition}
-use Rattle.facts_sections.proofs.Between.{Between, nothing, byte, join, split, split-at, end-is}
+use Rattle.facts_sections.specs.Between.{Between, nothing, byte}
+use Rattle.facts_sections.proofs.Between.{join, split, split-at, end-is}
 use Rattle.facts_sections.proofs.Readers.{Found, Reads, AnySize, refused-is-not-got, then-got, byte-got, by-cond, found-got, this-byte, coded}
 use Rattle.facts_sections.proofs.NumberReading.{unsigned-reads}
 use Rattle.facts_sections.proofs.ValueReading.{val-reads, field-reads}

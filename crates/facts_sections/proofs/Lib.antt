@@ -6,6 +6,7 @@ pub mod OwnForms
 pub mod Judge
 pub mod Between
 pub mod Readers
+pub mod NumberKinds
 pub mod NumberReading
 pub mod ValueReading
 pub mod ListReading

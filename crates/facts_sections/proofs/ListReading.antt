@@ -12,7 +12,8 @@ use Rattle.scope.specs.Numbers.{u32}
 use Rattle.scope.specs.Sections.{fewAt, supersAt}
 use Rattle.facts_sections.specs.WithinSizes.{Each}
 use Rattle.facts_sections.specs.Writing.{Unsigned, Anywhere, Entries, no-entry, an-entry, Counted, count-and-entries, Listed, listed}
-use Rattle.facts_sections.proofs.Between.{Between, nothing, join, split-at, behind}
+use Rattle.facts_sections.specs.Between.{Between, nothing}
+use Rattle.facts_sections.proofs.Between.{join, split-at, behind}
 use Rattle.facts_sections.proofs.Readers.{Found, Reads, AnySize, refused-is-not-got, then-got, found-got}
 use Rattle.facts_sections.proofs.NumberReading.{unsigned-reads}
 

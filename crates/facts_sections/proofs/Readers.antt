@@ -10,7 +10,7 @@ use lib.Dec.{eqb}
 use borrow.Author.Tests.{eqb-true}
 use Rattle.scope.specs.Reading.{Read, got, refused, Reader, given, then, onByte}
 use Rattle.scope.proofs.Impossible.{contradiction}
-use Rattle.facts_sections.proofs.Between.{Between, byte}
+use Rattle.facts_sections.specs.Between.{Between, byte}
 
 -- a writing of x lies in s between the two places
 pub record Found {A : Type 0} (W : ℕ → List ℕ → A → Type 0) (Small : A → Type 0) (s : List ℕ) (at : ℕ) (x : A) (next : ℕ) : Type 0 where

@@ -17,7 +17,8 @@ use Rattle.scope.specs.Syntax.{Definition, Group}
 use Rattle.scope.specs.Sections.{definitionAt, groupAt, groupsAt, ended, readSection}
 use Rattle.facts_sections.specs.WithinSizes.{Each, DefinitionFits, WithinSizes}
 use Rattle.facts_sections.specs.Writing.{Unsigned, Anywhere, WritesDefinition, WritesGroup, several, alone, WritesGroups, no-group, a-group, WritesSection, a-section}
-use Rattle.facts_sections.proofs.Between.{Between, nothing, byte, join, split-at, behind, end-is, whole, whole-only}
+use Rattle.facts_sections.specs.Between.{Between, nothing, byte}
+use Rattle.facts_sections.proofs.Between.{join, split-at, behind, end-is, whole, whole-only}
 use Rattle.facts_sections.proofs.Readers.{Found, Reads, AnySize, refused-is-not-got, then-got, byte-got, by-cond, found-got, this-byte}
 use Rattle.facts_sections.proofs.NumberReading.{unsigned-reads}
 use Rattle.facts_sections.proofs.ListReading.{each-none, each-more, each-first, Roomy, counted, CountedBy, counted-reads}

@@ -19,8 +19,9 @@ use Rattle.scope.specs.Syntax.{Heap, exact, Number, Val, num, ref, Field}
 use Rattle.scope.specs.Sections.{typeNumber, heapAt, numberOf, valAt, flagAt, fieldAt}
 use Rattle.scope.proofs.Truths.{none-is-not-some}
 use Rattle.scope.proofs.TenRows.{each, code-names}
-use Rattle.facts_sections.specs.Writing.{last-seven, seven-more, Signed, not-negative, WritesHeap, exact-type, abstract-code, type-number, WritesVal, i32-type, i64-type, f32-type, f64-type, nullable-reference, reference, abstract-alone, WritesFlag, fixed-flag, mutable-flag, WritesField, a-field, Anywhere}
-use Rattle.facts_sections.proofs.Between.{Between, nothing, byte, join, split-at}
+use Rattle.facts_sections.specs.Writing.{last-seven, seven-more, not-negative, a-numeral, Signed, WritesHeap, exact-type, abstract-code, type-number, WritesVal, i32-type, i64-type, f32-type, f64-type, nullable-reference, reference, abstract-alone, WritesFlag, fixed-flag, mutable-flag, WritesField, a-field, Anywhere}
+use Rattle.facts_sections.specs.Between.{Between, nothing, byte}
+use Rattle.facts_sections.proofs.Between.{join, split-at}
 use Rattle.facts_sections.proofs.Readers.{Found, Reads, AnySize, refused-is-not-got, then-got, byte-got, by-cond, by-given, found-got, this-byte, coded}
 use Rattle.facts_sections.proofs.NumberReading.{unsigned-reads, signed-reads}
 
@@ -71,8 +72,8 @@ far-from-codes b far = (ne-eqb b 0x62 (not-here far), go (abstractOf b) refl)
     go (some a) e = absurd (no-code far a (code-of e))
 
 type-number-first : {s w : List ℕ} {at next x : ℕ} → Signed 33 w (plus x) → Between s at w next → (b : ℕ) × (getElem? s at ≡ some b) × ((b < 64) ⊎ (128 ≤ b))
-type-number-first (not-negative (last-seven low) short positive small) (byte {b = b} there rest) = (b, there, inl positive)
-type-number-first (not-negative (seven-more high more) short positive small) (byte {b = b} there rest) = (b, there, inr high)
+type-number-first (a-numeral (not-negative (last-seven low) positive) short small least) (byte {b = b} there rest) = (b, there, inl positive)
+type-number-first (a-numeral (not-negative (seven-more high more) positive) short small least) (byte {b = b} there rest) = (b, there, inr high)
 
 numbered : {s : List ℕ} {at : ℕ} (w : Whole) {end next : ℕ} {h : Heap} → Found (Anywhere (Signed 33)) AnySize s at w end → typeNumber at w end ≡ got h next → Found (Anywhere WritesHeap) AnySize s at h next
 numbered (minus x) n e = absurd (refused-is-not-got e)

@@ -6,7 +6,7 @@ use mathlib.Core.List.{List, [], _∷_, _++_}
 use lib.ListN.{replicate}
 use lib.Dec.{eqb}
 use Rattle.scope.specs.Sizes.{mostBytes, mostTypes, mostEach, mostSteps}
-use Rattle.scope.specs.Refusals.{bytesEnd, badNumber, notListed, oversize, leftOver, outOfReach, badSupertype, noMatch, clauseNotOnStruct, describesNotEarlier, clausesDisagree, badDescriptor, badDescribes}
+use Rattle.scope.specs.Refusals.{bytesEnd, badNumber, notListed, oversize, leftOver, outOfReach, badSupertype, noMatch, clauseNotOnStruct, describesNotEarlier, clausesDisagree, badDescriptor, badDescribes, padded}
 use Rattle.scope.specs.Lists.{someOf, joined}
 use Rattle.scope.specs.Judging.{Judged, accepted, rejected, judgeSection}
 
@@ -81,6 +81,40 @@ byteCases =
       mended = 0x01 ∷ 0x5F ∷ 0x01 ∷ 0x63 ∷ 0x80 ∷ 0x80 ∷ 0x80 ∷ 0x80 ∷ 0x70 ∷ 0x00 ∷ [];
       saidThen = record { number = notListed; place = 4 };
     }
+    -- 32 of request 10, "after 1 and 2 and before 3 for the same number": a count that is cut, one that is too long, each before
+    -- that it is padded
+    ∷ record {
+      bytes = 0x80 ∷ [];
+      said = record { number = bytesEnd; place = 0 };
+      mended = 0x80 ∷ 0x00 ∷ [];
+      saidThen = record { number = padded; place = 0 };
+    }
+    ∷ record {
+      bytes = 0x80 ∷ 0x80 ∷ 0x80 ∷ 0x80 ∷ 0x80 ∷ 0x00 ∷ [];
+      said = record { number = badNumber; place = 0 };
+      mended = 0x80 ∷ 0x80 ∷ 0x80 ∷ 0x80 ∷ 0x00 ∷ [];
+      saidThen = record { number = padded; place = 0 };
+    }
+    -- a heap type's number padded before that it is negative: -16 in two bytes, then -128, which needs them
+    ∷ record {
+      bytes = 0x01 ∷ 0x5F ∷ 0x01 ∷ 0x63 ∷ 0xF0 ∷ 0x7F ∷ 0x00 ∷ [];
+      said = record { number = padded; place = 4 };
+      mended = 0x01 ∷ 0x5F ∷ 0x01 ∷ 0x63 ∷ 0x80 ∷ 0x7F ∷ 0x00 ∷ [];
+      saidThen = record { number = notListed; place = 4 };
+    }
+    -- a count of 65 padded before the 65th field; a number padded before that it is out of reach
+    ∷ record {
+      bytes = (0x01 ∷ 0x5F ∷ 0xC1 ∷ 0x00 ∷ []) ++ times (mostEach + 1) (0x7F ∷ 0x00 ∷ []);
+      said = record { number = padded; place = 2 };
+      mended = (0x01 ∷ 0x5F ∷ 0x41 ∷ []) ++ times (mostEach + 1) (0x7F ∷ 0x00 ∷ []);
+      saidThen = record { number = oversize; place = 131 };
+    }
+    ∷ record {
+      bytes = 0x01 ∷ 0x4C ∷ 0x89 ∷ 0x00 ∷ 0x5F ∷ 0x00 ∷ [];
+      said = record { number = padded; place = 2 };
+      mended = 0x01 ∷ 0x4C ∷ 0x09 ∷ 0x5F ∷ 0x00 ∷ [];
+      saidThen = record { number = outOfReach; place = 0 };
+    }
     -- a byte that is not listed before bytes left over
     ∷ record {
       bytes = 0x01 ∷ 0x61 ∷ 0x00 ∷ 0x00 ∷ [];
@@ -151,9 +185,9 @@ linkCases =
     }
     -- type by type: a chain of 64 steps before a later type's number out of reach
     ∷ record {
-      bytes = (0x42 ∷ []) ++ root ++ below (mostSteps + 1) ++ (0x4C ∷ 0xC2 ∷ 0x00 ∷ 0x5F ∷ 0x00 ∷ []);
+      bytes = (0x42 ∷ []) ++ root ++ below (mostSteps + 1) ++ (0x4C ∷ 0x42 ∷ 0x5F ∷ 0x00 ∷ []);
       said = record { number = oversize; place = mostSteps + 1 };
-      mended = (0x41 ∷ []) ++ root ++ below mostSteps ++ (0x4C ∷ 0xC2 ∷ 0x00 ∷ 0x5F ∷ 0x00 ∷ []);
+      mended = (0x41 ∷ []) ++ root ++ below mostSteps ++ (0x4C ∷ 0x42 ∷ 0x5F ∷ 0x00 ∷ []);
       saidThen = record { number = outOfReach; place = mostSteps + 1 };
     }
     -- a final supertype before an earlier type's missing field
@@ -225,8 +259,8 @@ abbrev pub cases : List Case
 cases = byteCases ++ linkCases ++ ruleCases
 
 -- the refusals of a section
-abbrev pub thirteen : List ℕ
-thirteen =
+abbrev pub sectionRefusals : List ℕ
+sectionRefusals =
     bytesEnd
     ∷ badNumber
     ∷ notListed
@@ -240,6 +274,7 @@ thirteen =
     ∷ clausesDisagree
     ∷ badDescriptor
     ∷ badDescribes
+    ∷ padded
     ∷ []
 
 -- this number is said in some case, though a later fault is there

@@ -2,6 +2,7 @@ pub mod TypeRelations
 pub mod WithinSizes
 pub mod TenTypes
 pub mod OwnForms
+pub mod Between
 pub mod Writing
 pub mod Allowed
 pub mod FirstFault

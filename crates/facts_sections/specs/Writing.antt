@@ -1,7 +1,7 @@
 -- The format as relations: which bytes are a writing of which piece of syntax, a constructor for each way that document 01
 -- gives. Bytes are lists put one after the other. A definition keeps where its bytes lie, so definitions and groups carry
 -- along the place where their bytes begin; nothing is looked up by place.
-use Prim.Native.Nat.{ℕ, _+_, _-_, _*_, _^_, _<_, _≤_}
+use Prim.Native.Nat.{ℕ, _+_, _-_, _*_, _^_, _%_, _<_, _≤_}
 use mathlib.Core.Bool.{Bool, true, false}
 use mathlib.Core.Option.{Option, none, some}
 use mathlib.Core.List.{List, [], _∷_, _++_}
@@ -11,23 +11,41 @@ use Rattle.scope.specs.Abstract.{Abstract, row}
 use Rattle.scope.specs.Syntax.{Heap, abstract, defined, exact, i32, i64, f32, f64, Val, num, ref, Field, Form, struct, func, Definition, Group}
 use Rattle.scope.specs.Sections.{Head, describesCode, descriptorCode}
 
--- "Numbers are LEB128 as the core standard has them; padding within the greatest length is allowed."
+-- "Numbers are LEB128 as the core standard has them." Document 01's leave to pad them is withdrawn by request 10 of document 02:
+-- no number has "more bytes than it needs".
 
 -- seven bits a byte, lowest first; every byte but the last is 128 or more
 pub data Sevens : List ℕ → ℕ → Type 0 where
   last-seven : {b : ℕ} → b < 128 → Sevens (b ∷ []) b
-  seven-more : {b v : ℕ} {w : List ℕ} → 128 ≤ b → Sevens w v → Sevens (b ∷ w) (b - 128 + 128 * v)
+  seven-more : {b v : ℕ} {w : List ℕ} → 128 ≤ b → Sevens w v → Sevens (b ∷ w) (b % 128 + 128 * v)
 
--- uN: at most the greatest length, and in the range of the width
-pub data Unsigned (width : ℕ) : List ℕ → ℕ → Type 0 where
-  a-natural : {w : List ℕ} {v : ℕ} → Sevens w v → length w ≤ greatestLength width → v < 2 ^ width → Unsigned width w v
+-- of a whole number the highest bit of the bytes is the sign
+pub data Twos : List ℕ → Whole → Type 0 where
+  not-negative : {w : List ℕ} {v : ℕ} → Sevens w v → v < 2 ^ (7 * length w - 1) → Twos w (plus v)
+  negative : {w : List ℕ} {v : ℕ} → Sevens w v → 2 ^ (7 * length w - 1) ≤ v → Twos w (minus (2 ^ (7 * length w) - v))
 
--- sN: the highest bit of the bytes is the sign
-pub data Signed (width : ℕ) : List ℕ → Whole → Type 0 where
-  not-negative : {w : List ℕ} {v : ℕ} → Sevens w v → length w ≤ greatestLength width
-      → v < 2 ^ (7 * length w - 1) → v < 2 ^ (width - 1) → Signed width w (plus v)
-  negative : {w : List ℕ} {v : ℕ} → Sevens w v → length w ≤ greatestLength width
-      → 2 ^ (7 * length w - 1) ≤ v → 2 ^ (7 * length w) - v ≤ 2 ^ (width - 1) → Signed width w (minus (2 ^ (7 * length w) - v))
+-- as many bytes as it needs: no shorter writing has this value
+pub data Shortest {A : Type 0} (W : List ℕ → A → Type 0) (w : List ℕ) (x : A) : Type 0 where
+  none-shorter : ((u : List ℕ) → W u x → length w ≤ length u) → Shortest W w x
+
+-- the range of so many bits
+pub data NaturalRange (width : ℕ) : ℕ → Type 0 where
+  a-natural : {v : ℕ} → v < 2 ^ width → NaturalRange width v
+
+pub data WholeRange (width : ℕ) : Whole → Type 0 where
+  from-zero-on : {v : ℕ} → v < 2 ^ (width - 1) → WholeRange width (plus v)
+  below-zero : {v : ℕ} → v ≤ 2 ^ (width - 1) → WholeRange width (minus v)
+
+-- a number of so many bits: at most the greatest length, in the range of the width, and no byte more than it needs
+pub data Numeral {A : Type 0} (W : List ℕ → A → Type 0) (Range : ℕ → A → Type 0) (width : ℕ) : List ℕ → A → Type 0 where
+  a-numeral : {w : List ℕ} {x : A} → W w x → length w ≤ greatestLength width → Range width x → Shortest W w x → Numeral W Range width w x
+
+-- uN and sN
+abbrev pub Unsigned : ℕ → List ℕ → ℕ → Type 0
+Unsigned = Numeral Sevens NaturalRange
+
+abbrev pub Signed : ℕ → List ℕ → Whole → Type 0
+Signed = Numeral Twos WholeRange
 
 -- "Heap: 62 x (exact x), an abstract code, or a type number as a non-negative s33."
 pub data WritesHeap : List ℕ → Heap → Type 0 where

@@ -1,7 +1,5 @@
 -- `body_immediates::constant_at` meets its contract: an s32, one below zero by what it lacks of 2 to the 32.
-use native.Mathlib.Omega.{arith}
 use borrow.Author.Needs.{needs}
-use Rattle.body_immediates.proofs.Signs.{Bytes}
 use Rattle.body_immediates.proofs.Counting.{constant-exits}
 use Rattle.body_immediates.proofs.constant_at.Statement.{statement}
 use Rattle.body_immediates.proofs.constant_at.Tie as tie
@@ -25,10 +23,7 @@ sub-t13 : tie.Need-sub-t13
 sub-t13 c = search (constant-exits, needs)
 
 cast-t14 : tie.Need-cast-t14
-cast-t14 c =
-    let start = c .before .before .before .before in
-    let bytes : Bytes (start .before .args .s .now) = λ j. omega (arith, start .shared-slice-known .given j) in
-    search (constant-exits, bytes, needs)
+cast-t14 c = search (constant-exits, needs)
 
 returns : tie.Need-returns
 returns c = search (constant-exits, needs)

@@ -1,11 +1,8 @@
 -- `body_immediates::wide_at` meets its contract: an s64, one below zero by what it lacks of 2 to the 64.
-use native.Mathlib.Omega.{arith}
 use borrow.Author.Needs.{needs}
-use Rattle.body_immediates.proofs.Signs.{Bytes}
 use Rattle.body_immediates.proofs.Counting.{wide-exits}
 use Rattle.body_immediates.proofs.wide_at.Statement.{statement}
 use Rattle.body_immediates.proofs.wide_at.Tie as tie
-use Rattle.number.proofs.s64_at.Reads as s64-at-reads
 
 s64-at-requires : tie.Need-s64-at-requires
 s64-at-requires c κs = search needs
@@ -20,10 +17,7 @@ enum-known-read-3 : tie.Need-enum-known-read-3
 enum-known-read-3 c = search needs
 
 sub-t12 : tie.Need-sub-t12
-sub-t12 c =
-    let start = c .before .before .before .before in
-    let bytes : Bytes (start .before .args .s .now) = λ j. omega (arith, start .shared-slice-known .given j) in
-    search (wide-exits, bytes, needs)
+sub-t12 c = search (wide-exits, needs)
 
 sub-t13 : tie.Need-sub-t13
 sub-t13 c = search needs
@@ -35,10 +29,7 @@ returns-2 : tie.Need-returns-2
 returns-2 c = search (wide-exits, needs)
 
 returns-3 : tie.Need-returns-3
-returns-3 c =
-    let start = c .before .before .before .before in
-    let bytes : Bytes (start .before .args .s .now) = λ j. omega (arith, start .shared-slice-known .given j) in
-    search (wide-exits, bytes, needs)
+returns-3 c = search (wide-exits, needs)
 
 pub wide-at-spec : {M : Type 1} → statement M
 wide-at-spec =
