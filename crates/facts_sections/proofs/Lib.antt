@@ -8,6 +8,7 @@ pub mod Between
 pub mod Readers
 pub mod NumberKinds
 pub mod NumberReading
+pub mod NumberFaults
 pub mod ValueReading
 pub mod ListReading
 pub mod DefinitionReading

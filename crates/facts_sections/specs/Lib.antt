@@ -4,6 +4,7 @@ pub mod TenTypes
 pub mod OwnForms
 pub mod Between
 pub mod Writing
+pub mod NumberFaults
 pub mod Allowed
 pub mod FirstFault
 pub mod FaultCases
