@@ -13,6 +13,7 @@ pub mod ValueReading
 pub mod ListReading
 pub mod DefinitionReading
 pub mod SectionReading
+pub mod OneWriting
 pub mod Verdict
 pub mod Exactly
 pub mod Witness

@@ -29,7 +29,7 @@ pub record Kind {A : Type 0} (value : ℕ → ℕ → A) (holds : ℕ → A → 
 
 -- A byte to spare
 
-sevens-some : {w : List ℕ} {v : ℕ} → Sevens w v → 1 ≤ length w
+pub sevens-some : {w : List ℕ} {v : ℕ} → Sevens w v → 1 ≤ length w
 sevens-some (last-seven low) = omega arith
 sevens-some (seven-more high more) = omega arith
 

@@ -5,6 +5,7 @@ pub mod OwnForms
 pub mod Between
 pub mod Writing
 pub mod NumberFaults
+pub mod OneWriting
 pub mod Allowed
 pub mod FirstFault
 pub mod FaultCases

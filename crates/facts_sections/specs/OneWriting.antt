@@ -1,0 +1,45 @@
+-- How far a section's syntax says its bytes. Since request 10 of document 02 no number has "more bytes than it needs", so a number, a
+-- heap type and a clause have one writing each. Three things have two: a nullable reference to an abstract type (its code alone, or 63 and the code), a
+-- final definition without supertypes (nothing, or 4F 00), and a group of one definition (alone, or 4E 01). Syntax keeps where a
+-- definition's bytes lie, and that tells the last two apart; so bytes and syntax say each other wherever no value type is a nullable
+-- reference to an abstract type. What is written are bytes.
+use Prim.Native.Nat.{ℕ, _<_}
+use mathlib.Core.Path.{_≡_}
+use mathlib.Core.Logic.{_⊎_, _↔_}
+use mathlib.Core.Bool.{true, false}
+use mathlib.Core.List.{List, [], _∷_}
+use Rattle.scope.specs.Numbers.{Whole}
+use Rattle.scope.specs.Abstract.{Abstract, row}
+use Rattle.scope.specs.Syntax.{Heap, abstract, defined, exact, Number, Val, num, ref, Field, Form, struct, func, Group}
+use Rattle.facts_sections.specs.Writing.{Unsigned, Signed, WritesHeap, WritesVal, WritesSection}
+
+pub data All {A : Type 0} (P : A → Type 0) : List A → Type 0 where
+  none-left : All P []
+  also : {x : A} {xs : List A} → P x → All P xs → All P (x ∷ xs)
+
+abbrev pub Bytes : List ℕ → Type 0
+Bytes = All (λ b. b < 256)
+
+-- every value type but a nullable reference to an abstract type
+pub data OneWay : Val → Type 0 where
+  a-number : {n : Number} → OneWay (num n)
+  not-null : {h : Heap} → OneWay (ref false h)
+  nullable-number : {x : ℕ} → OneWay (ref true (defined x))
+  nullable-exact : {x : ℕ} → OneWay (ref true (exact x))
+
+pub data OneWayForm : Form → Type 0 where
+  a-struct : {fs : List Field} → All (λ f. OneWay (f .holds)) fs → OneWayForm (struct fs)
+  a-function : {ps rs : List Val} → All OneWay ps → All OneWay rs → OneWayForm (func ps rs)
+
+abbrev pub OneWayGroups : List Group → Type 0
+OneWayGroups = All (All (λ d. OneWayForm (d .form)))
+
+pub record OneWriting : Type 0 where
+  pub naturals : (width : ℕ) {w u : List ℕ} {v : ℕ} → Bytes w → Bytes u → Unsigned width w v → Unsigned width u v → w ≡ u
+  pub wholes : (width : ℕ) {w u : List ℕ} {v : Whole} → Bytes w → Bytes u → Signed width w v → Signed width u v → w ≡ u
+  pub heaps : {w u : List ℕ} {h : Heap} → Bytes w → Bytes u → WritesHeap w h → WritesHeap u h → w ≡ u
+  pub values : {w u : List ℕ} {v : Val} → OneWay v → Bytes w → Bytes u → WritesVal w v → WritesVal u v → w ≡ u
+  -- the exception, whole
+  pub either : {w : List ℕ} {a : Abstract} → WritesVal w (ref true (abstract a)) ↔ ((w ≡ row a .code ∷ []) ⊎ (w ≡ 0x63 ∷ row a .code ∷ []))
+  -- a section's syntax says its bytes; that its bytes say its syntax is `one-syntax` of proofs/SectionReading.antt
+  pub sections : {w u : List ℕ} {gs : List Group} → OneWayGroups gs → Bytes w → Bytes u → WritesSection w gs → WritesSection u gs → w ≡ u
