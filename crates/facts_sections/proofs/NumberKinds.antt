@@ -33,7 +33,7 @@ pub sevens-some : {w : List ℕ} {v : ℕ} → Sevens w v → 1 ≤ length w
 sevens-some (last-seven low) = omega arith
 sevens-some (seven-more high more) = omega arith
 
-both-true : (b c : Bool) → (b && c) ≡ true → (b ≡ true) × (c ≡ true)
+pub both-true : (b c : Bool) → (b && c) ≡ true → (b ≡ true) × (c ≡ true)
 both-true true true e = (refl, refl)
 both-true true false e = absurd (false≢true e)
 both-true false c e = absurd (false≢true e)

@@ -7,17 +7,22 @@ use mathlib.Core.Path.{_≡_, refl, ap, ap₂}
 use mathlib.Core.Logic.{_⊎_, inl, inr}
 use mathlib.Core.Bool.{Bool, true}
 use mathlib.Core.Option.{Option}
-use mathlib.Core.List.{List, [], _∷_, _++_}
+use mathlib.Core.List.{List, [], _∷_, _++_, map}
 use lib.ListN.{length, length-append}
-use lib.Dec.{lit<}
+use lib.Dec.{ltb, lit<}
+use borrow.Author.Tests.{ltb-true}
 use Rattle.scope.specs.Numbers.{Whole}
 use Rattle.scope.specs.Abstract.{Abstract, row}
 use Rattle.scope.specs.Syntax.{Heap, abstract, Val, ref, Field, Form, Definition, Group}
-use Rattle.scope.specs.Sections.{Head}
+use Rattle.scope.specs.Reading.{got}
+use Rattle.scope.specs.Lists.{every}
+use Rattle.scope.specs.Sections.{Head, readSection}
+use Rattle.scope.proofs.Computes.{computes}
 use Rattle.scope.proofs.Impossible.{impossible}
 use Rattle.facts_sections.specs.Writing.{Sevens, last-seven, seven-more, Twos, not-negative, negative, Shortest, none-shorter, a-numeral, Unsigned, Signed, WritesHeap, exact-type, abstract-code, type-number, WritesVal, i32-type, i64-type, f32-type, f64-type, nullable-reference, reference, abstract-alone, WritesFlag, fixed-flag, mutable-flag, WritesField, a-field, Entries, no-entry, an-entry, Counted, count-and-entries, Anywhere, Listed, listed, WritesHead, open-with-supertypes, final-with-supertypes, neither, WritesClause, a-clause, no-clause, WritesForm, a-struct-form, a-func-form, WritesDefinition, a-definition, WritesGroup, several, alone, WritesGroups, no-group, a-group, WritesSection, a-section}
-use Rattle.facts_sections.specs.OneWriting.{All, none-left, also, Bytes, OneWay, a-number, not-null, nullable-number, nullable-exact, OneWayForm, a-struct, a-function, OneWayGroups, OneWriting}
-use Rattle.facts_sections.proofs.NumberKinds.{sevens-below, sevens-some}
+use Rattle.facts_sections.specs.OneWriting.{All, none-left, also, Bytes, OneWay, a-number, not-null, nullable-number, nullable-exact, OneWayForm, a-struct, a-function, OneWayGroups, OneWriting, readUnplaced, TwoWritings, severalWritings, samePlaces, oneWay, oneWayGroups, HowFar}
+use Rattle.facts_sections.proofs.NumberKinds.{both-true, sevens-below, sevens-some}
+use Rattle.facts_sections.proofs.SectionReading.{section-found}
 
 all-apart : {A : Type 0} {P : A → Type 0} (w : List A) {u : List A} → All P (w ++ u) → All P w × All P u
 all-apart [] us = (none-left, us)
@@ -217,3 +222,32 @@ section-one ways ws us (a-section {w = w} n gs) (a-section {w = u} m ks) =
 
 pub one-writing : OneWriting
 one-writing = record { naturals = natural-one; wholes = whole-one; heaps = heap-one; values = val-one; either = (either-way, either-back); sections = section-one }
+
+-- how far that goes
+
+several-same : map (λ (t : TwoWritings). readUnplaced (t .one)) severalWritings ≡ map (λ (t : TwoWritings). readUnplaced (t .other)) severalWritings
+unfolding computes
+several-same = refl
+
+places-same : readSection (samePlaces .one) ≡ readSection (samePlaces .other)
+unfolding computes
+places-same = refl
+
+one-way-read : readSection oneWay ≡ got oneWayGroups 12
+unfolding computes
+one-way-read = refl
+
+one-way-written : WritesSection oneWay oneWayGroups
+one-way-written = section-found oneWay one-way-read .writes
+
+bytes-below : (w : List ℕ) → every (λ b. ltb b 256) w ≡ true → Bytes w
+bytes-below [] e = none-left
+bytes-below (b ∷ w) e = let (low, more) = both-true (ltb b 256) (every (λ b. ltb b 256) w) e in also (ltb-true b 256 low) (bytes-below w more)
+
+pub how-far : HowFar
+how-far =
+    record {
+      unplacedSame = several-same;
+      placedSame = places-same;
+      met = (one-way-written, λ u us writes. section-one (also (also (a-struct (also a-number (also nullable-number (also not-null none-left)))) none-left) none-left) us (bytes-below oneWay refl) writes one-way-written);
+    }
