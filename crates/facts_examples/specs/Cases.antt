@@ -45,6 +45,10 @@ F1 = 0x02 ∷ 0x4E ∷ 0x02 ∷ 0x4D ∷ 0x01 ∷ 0x5F ∷ 0x00 ∷ 0x4C ∷ 0x0
 abbrev pub F2 : List ℕ
 F2 = 0x02 ∷ 0x4E ∷ 0x02 ∷ 0x4D ∷ 0x01 ∷ 0x5F ∷ 0x00 ∷ 0x4C ∷ 0x00 ∷ 0x5F ∷ 0x00 ∷ 0x60 ∷ 0x00 ∷ 0x01 ∷ 0x64 ∷ 0x62 ∷ 0x01 ∷ []
 
+-- a function from nothing to nothing
+abbrev pub toNothing : List ℕ
+toNothing = 0x01 ∷ 0x60 ∷ 0x00 ∷ 0x00 ∷ []
+
 -- a descriptor object, and an object with it
 abbrev pub withDescriptor : List ℕ
 withDescriptor = 0x00 ∷ 0xFB ∷ 0x00 ∷ 0x01 ∷ 0xFB ∷ 0x20 ∷ 0x00 ∷ 0x0B ∷ []
@@ -187,8 +191,34 @@ onlyNulls =
     ∷ record { asks = body oneStruct 1 (0x00 ∷ 0x41 ∷ 0x00 ∷ 0xD4 ∷ 0x1A ∷ 0x00 ∷ 0x0B ∷ []); says = refusal 20 3 }
     ∷ []
 
+-- Request 10: "32, at its first byte, for any LEB number with more bytes than it needs, looked at after 1 and 2 and before 3 for the
+-- same number."
+abbrev pub paddedNumbers : List Case
+paddedNumbers =
+    -- after 1 and 2: a count that is cut, out of range, too long
+    record { asks = section (0x80 ∷ []); says = refusal 1 0 }
+    ∷ record { asks = section (0x80 ∷ 0x80 ∷ 0x80 ∷ 0x80 ∷ 0x10 ∷ []); says = refusal 2 0 }
+    ∷ record { asks = section (0x80 ∷ 0x80 ∷ 0x80 ∷ 0x80 ∷ 0x80 ∷ 0x00 ∷ []); says = refusal 2 0 }
+    ∷ record { asks = section (0x80 ∷ 0x00 ∷ []); says = refusal 32 0 }
+    -- before 3: a negative heap type, an FB number that is not listed; before 4: 257 locals
+    ∷ record { asks = section (0x01 ∷ 0x5F ∷ 0x01 ∷ 0x63 ∷ 0xF0 ∷ 0x7F ∷ 0x00 ∷ []); says = refusal 32 4 }
+    ∷ record { asks = body toNothing 0 (0x00 ∷ 0xFB ∷ 0x90 ∷ 0x00 ∷ 0x0B ∷ []); says = refusal 32 2 }
+    ∷ record { asks = body toNothing 0 (0x01 ∷ 0x81 ∷ 0x82 ∷ 0x00 ∷ 0x7F ∷ 0x0B ∷ []); says = refusal 32 1 }
+    -- a float's bytes are no LEB number
+    ∷ record { asks = body (0x01 ∷ 0x60 ∷ 0x00 ∷ 0x01 ∷ 0x7D ∷ []) 0 (0x00 ∷ 0x43 ∷ 0x80 ∷ 0x80 ∷ 0x80 ∷ 0x00 ∷ 0x0B ∷ []); says = instructions 2 }
+    -- signed numbers: 127 and -128 need two bytes, -1 and 0 do not; as a heap type 64 does and 63 does not
+    ∷ record { asks = body toNothing 0 (0x00 ∷ 0x41 ∷ 0xFF ∷ 0x00 ∷ 0x1A ∷ 0x0B ∷ []); says = instructions 3 }
+    ∷ record { asks = body toNothing 0 (0x00 ∷ 0x41 ∷ 0x80 ∷ 0x7F ∷ 0x1A ∷ 0x0B ∷ []); says = instructions 3 }
+    ∷ record { asks = body toNothing 0 (0x00 ∷ 0x41 ∷ 0xFF ∷ 0x7F ∷ 0x1A ∷ 0x0B ∷ []); says = refusal 32 2 }
+    ∷ record { asks = body toNothing 0 (0x00 ∷ 0x41 ∷ 0x80 ∷ 0x00 ∷ 0x1A ∷ 0x0B ∷ []); says = refusal 32 2 }
+    ∷ record { asks = section (0x01 ∷ 0x5F ∷ 0x01 ∷ 0x63 ∷ 0xC0 ∷ 0x00 ∷ 0x00 ∷ []); says = refusal 6 0 }
+    ∷ record { asks = section (0x01 ∷ 0x5F ∷ 0x01 ∷ 0x63 ∷ 0xBF ∷ 0x00 ∷ 0x00 ∷ []); says = refusal 32 4 }
+    -- a later instruction's 32 comes after an earlier one's rule
+    ∷ record { asks = body toNothing 0 (0x00 ∷ 0x1A ∷ 0x41 ∷ 0x80 ∷ 0x00 ∷ 0x0B ∷ []); says = refusal 20 1 }
+    ∷ []
+
 abbrev pub table : List Case
-table = starred ++ shortCuts ++ branchingCasts ++ onlyNulls
+table = starred ++ shortCuts ++ branchingCasts ++ onlyNulls ++ paddedNumbers
 
 abbrev pub agrees : Case → Bool
 agrees c = sameWords (answer (c .asks)) (c .says)

@@ -6,6 +6,7 @@ use mathlib.Core.Bool.{Bool}
 use mathlib.Core.List.{List, [], _∷_, _++_}
 use lib.ListN.{take, drop, replicate}
 use Rattle.scope.specs.Lists.{joined}
+use Rattle.facts_examples.specs.Cases.{refusal, toNothing}
 use Rattle.facts_examples.specs.Words.{sectionWords, typeWords, bodyWords, runWords, sameWords}
 
 pub record Pin : Type 0 where
@@ -18,16 +19,10 @@ holds p = sameWords (p .computed) (p .says)
 abbrev pub times : ℕ → List ℕ → List ℕ
 times n piece = joined (replicate n piece)
 
-abbrev pub refusal : ℕ → ℕ → List ℕ
-refusal number place = 0 ∷ number ∷ place ∷ []
-
 abbrev pub counted : ℕ → List ℕ
 counted n = 1 ∷ n ∷ []
 
--- type 0 takes nothing and gives nothing; or gives an i32
-abbrev pub toNothing : List ℕ
-toNothing = 0x01 ∷ 0x60 ∷ 0x00 ∷ 0x00 ∷ []
-
+-- from nothing to an i32
 abbrev pub toI32 : List ℕ
 toI32 = 0x01 ∷ 0x60 ∷ 0x00 ∷ 0x01 ∷ 0x7F ∷ []
 
@@ -89,7 +84,7 @@ thinBodies =
     record { computed = bodyWords ((0x01 ∷ 0x60 ∷ 0x40 ∷ []) ++ times 64 (0x7F ∷ []) ++ (0x40 ∷ []) ++ times 64 (0x7F ∷ [])) 0 ((0x00 ∷ []) ++ times 64 (0x20 ∷ 0x3F ∷ []) ++ (0x0B ∷ [])); says = counted 65 }
     -- 64 fields with a descriptor; field 63 is there, field 64 is not
     ∷ record { computed = bodyWords ((0x02 ∷ 0x4E ∷ 0x02 ∷ 0x4D ∷ 0x01 ∷ 0x5F ∷ 0x40 ∷ []) ++ times 64 (0x7F ∷ 0x01 ∷ []) ++ (0x4C ∷ 0x00 ∷ 0x5F ∷ 0x00 ∷ 0x60 ∷ 0x00 ∷ 0x01 ∷ 0x7F ∷ [])) 2 (0x00 ∷ 0xFB ∷ 0x00 ∷ 0x01 ∷ 0xFB ∷ 0x21 ∷ 0x00 ∷ 0xFB ∷ 0x02 ∷ 0x00 ∷ 0x3F ∷ 0x0B ∷ []); says = counted 4 }
-    ∷ record { computed = bodyWords ((0x02 ∷ 0x4E ∷ 0x02 ∷ 0x4D ∷ 0x01 ∷ 0x5F ∷ 0x40 ∷ []) ++ times 64 (0x7F ∷ 0x01 ∷ []) ++ (0x4C ∷ 0x00 ∷ 0x5F ∷ 0x00 ∷ 0x60 ∷ 0x00 ∷ 0x01 ∷ 0x7F ∷ [])) 2 (0x00 ∷ 0xFB ∷ 0x00 ∷ 0x01 ∷ 0xFB ∷ 0x21 ∷ 0x00 ∷ 0xFB ∷ 0x02 ∷ 0x00 ∷ 0xC0 ∷ 0x00 ∷ 0x0B ∷ []); says = refusal 23 7 }
+    ∷ record { computed = bodyWords ((0x02 ∷ 0x4E ∷ 0x02 ∷ 0x4D ∷ 0x01 ∷ 0x5F ∷ 0x40 ∷ []) ++ times 64 (0x7F ∷ 0x01 ∷ []) ++ (0x4C ∷ 0x00 ∷ 0x5F ∷ 0x00 ∷ 0x60 ∷ 0x00 ∷ 0x01 ∷ 0x7F ∷ [])) 2 (0x00 ∷ 0xFB ∷ 0x00 ∷ 0x01 ∷ 0xFB ∷ 0x21 ∷ 0x00 ∷ 0xFB ∷ 0x02 ∷ 0x00 ∷ 0x40 ∷ 0x0B ∷ []); says = refusal 23 7 }
     ∷ []
 
 -- sections that other examples reach thinly
