@@ -1,6 +1,6 @@
 //! The bytes of a body: locals entries and instructions with their immediates.
 //!
-//! Only byte faults (1, 2 and 3) are given here.
+//! Only byte faults (1, 2, 3 and 32) are given here.
 
 use crate::number::Reader;
 use crate::numeric::row_of_code;

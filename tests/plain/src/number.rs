@@ -4,17 +4,45 @@
 //! A reader goes forward over the bytes; each item answers its value, or a
 //! refusal whose place is the item's first byte.
 
-use crate::refusal::{refuse, Refusal, BYTES_END, BYTES_LEFT_OVER, NUMBER_TOO_LONG};
+use crate::refusal::{refuse, Refusal, BYTES_END, BYTES_LEFT_OVER, NUMBER_PADDED, NUMBER_TOO_LONG};
+use std::ops::Range;
 
 pub struct Reader<'a> {
     bytes: &'a [u8],
     place: usize,
 }
 
-/// The raw bits of a LEB number and how many of them were written.
+/// The raw bits of a LEB number and in how many bytes they were written.
 struct Written {
     bits: u128,
-    count: u32,
+    bytes: u32,
+}
+
+/// Seven bits of a number stand in each byte.
+const BYTE_BITS: u32 = 7;
+
+#[derive(Clone, Copy)]
+enum Sign {
+    Unsigned,
+    Signed,
+}
+
+impl Sign {
+    /// The numbers that so many bits hold; there is at least one bit.
+    fn held_by(self, bits: u32) -> Range<i128> {
+        match self {
+            Sign::Unsigned => 0..1 << bits,
+            Sign::Signed => -(1 << (bits - 1))..1 << (bits - 1),
+        }
+    }
+
+    fn number(self, written: &Written) -> i128 {
+        let unused = 128 - BYTE_BITS * written.bytes;
+        match self {
+            Sign::Unsigned => written.bits as i128,
+            Sign::Signed => ((written.bits << unused) as i128) >> unused,
+        }
+    }
 }
 
 impl<'a> Reader<'a> {
@@ -50,21 +78,19 @@ impl<'a> Reader<'a> {
     }
 
     pub fn u32(&mut self) -> Result<u32, Refusal> {
-        let first = self.place;
-        let written = self.written(32, first)?;
-        u32::try_from(written.bits).or_else(|_| refuse(NUMBER_TOO_LONG, first))
+        self.number(32, Sign::Unsigned).map(|number| number as u32)
     }
 
     pub fn s32(&mut self) -> Result<i32, Refusal> {
-        self.signed(32).map(|number| number as i32)
+        self.number(32, Sign::Signed).map(|number| number as i32)
     }
 
     pub fn s33(&mut self) -> Result<i64, Refusal> {
-        self.signed(33)
+        self.number(33, Sign::Signed).map(|number| number as i64)
     }
 
     pub fn s64(&mut self) -> Result<i64, Refusal> {
-        self.signed(64)
+        self.number(64, Sign::Signed).map(|number| number as i64)
     }
 
     /// So many bytes that are one item.
@@ -85,37 +111,36 @@ impl<'a> Reader<'a> {
         Ok(())
     }
 
-    fn signed(&mut self, width: u32) -> Result<i64, Refusal> {
+    /// 1 and 2, then 32: one byte fewer would hold the number.
+    fn number(&mut self, width: u32, sign: Sign) -> Result<i128, Refusal> {
         let first = self.place;
         let written = self.written(width, first)?;
-        let number = sign_extended(&written);
-        let bound = 1i128 << (width - 1);
-        if number < -bound || number >= bound {
+        let number = sign.number(&written);
+        if !sign.held_by(width).contains(&number) {
             return refuse(NUMBER_TOO_LONG, first);
         }
-        Ok(number as i64)
+        let fewer = written.bytes - 1;
+        if fewer > 0 && sign.held_by(BYTE_BITS * fewer).contains(&number) {
+            return refuse(NUMBER_PADDED, first);
+        }
+        Ok(number)
     }
 
     /// Seven bits a byte, lowest first, up to the greatest length of the width.
     fn written(&mut self, width: u32, first: usize) -> Result<Written, Refusal> {
-        let greatest_length = width.div_ceil(7);
+        let greatest_length = width.div_ceil(BYTE_BITS);
         let mut bits = 0u128;
         for index in 0..greatest_length {
             let Some(byte) = self.peek() else {
                 return refuse(BYTES_END, first);
             };
             self.place += 1;
-            bits |= u128::from(byte & 0x7F) << (7 * index);
+            bits |= u128::from(byte & 0x7F) << (BYTE_BITS * index);
             if byte & 0x80 == 0 {
-                return Ok(Written { bits, count: 7 * (index + 1) });
+                return Ok(Written { bits, bytes: index + 1 });
             }
         }
         // The last byte that could be its end asks for one more.
         refuse(NUMBER_TOO_LONG, first)
     }
-}
-
-fn sign_extended(written: &Written) -> i128 {
-    let unused = 128 - written.count;
-    ((written.bits << unused) as i128) >> unused
 }

@@ -34,6 +34,7 @@ pub const NOT_A_FUNCTION: Number = 27;
 pub const VALUES_LEFT: Number = 28;
 pub const NO_DEFAULT: Number = 29;
 pub const ONLY_NULL: Number = 31;
+pub const NUMBER_PADDED: Number = 32;
 
 pub fn refuse<T>(number: Number, place: usize) -> Result<T, Refusal> {
     Err(Refusal { number, place })

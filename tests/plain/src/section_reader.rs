@@ -1,6 +1,6 @@
 //! The bytes of a section: groups, definitions, value types and heap types.
 //!
-//! Faults 1 to 5 are given here, in reading order; the rules come later.
+//! Faults 1 to 5 and 32 are given here, in reading order; the rules come later.
 
 use crate::number::Reader;
 use crate::order::abstract_of_code;

@@ -13,13 +13,17 @@ fn reading_1_cut_and_too_long() {
 fn reading_2_prefixed_numbers() {
     assert_eq!(body(V, 0, "00 FB 06 0B"), "no 3 2");
     assert_eq!(body(V, 0, "00 FB 80 06 0B"), "no 3 2");
+    // A padded 6, by request 10.
+    assert_eq!(body(V, 0, "00 FB 86 00 0B"), "no 32 2");
     assert_eq!(body(V, 0, "00 FB 80 80 80 80 80 00 0B"), "no 2 2");
     assert_eq!(body(V, 0, "00 FB"), "no 1 2");
 }
 
 #[test]
 fn reading_3_heap_codes() {
-    assert_eq!(section("01 5F 01 63 F0 7F 00"), "no 3 4");
+    // A padded -16, by request 10; -65 needs two bytes.
+    assert_eq!(section("01 5F 01 63 F0 7F 00"), "no 32 4");
+    assert_eq!(section("01 5F 01 63 BF 7F 00"), "no 3 4");
     assert_eq!(section("01 5F 01 63 80 80 80 80 60 00"), "no 2 4");
     // Exact 112, which is out of reach.
     assert_eq!(section("01 5F 01 63 62 70 00"), "no 6 0");

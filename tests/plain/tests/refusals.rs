@@ -23,9 +23,9 @@ fn refusal_2() {
     assert_eq!(section("01 50 80 80 80 80 80 00 5F 00"), "no 2 2");
     assert_eq!(body(V, 0, "00 41 80 80 80 80 08 1A 0B"), "no 2 2");
     assert_eq!(body(V, 0, "00 41 FF FF FF FF 77 1A 0B"), "no 2 2");
-    // The ends of the range, padded as far as they go.
+    // The ends of the range; 0 in as many bytes is padded.
     assert_eq!(body(V, 0, "00 41 FF FF FF FF 07 1A 41 80 80 80 80 78 1A 0B"), "yes 5");
-    assert_eq!(section("80 80 80 80 00"), "yes 0");
+    assert_eq!(section("80 80 80 80 00"), "no 32 0");
 }
 
 #[test]

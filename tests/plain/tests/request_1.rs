@@ -54,9 +54,11 @@ fn i64_constants() {
     assert_eq!(result(&format!("{nine} FF 7F")), "no 2 2");
     assert_eq!(result("7F"), "done 2 [i64:-1]");
     assert_eq!(result("FF 00"), "done 2 [i64:127]");
-    // Bit 63 in the tenth byte alone, with nothing and with all below it.
-    assert_eq!(result(&format!("{} 7F", times(9, "FF"))), "done 2 [i64:-1]");
-    assert_eq!(result(&format!("{nine} 00")), "done 2 [i64:0]");
+    // Bit 63 in the tenth byte alone, with nothing and with all below it: -1 and 0, which
+    // request 10 wants in one byte.
+    assert_eq!(result(&format!("{} 7F", times(9, "FF"))), "no 32 2");
+    assert_eq!(result(&format!("{nine} 00")), "no 32 2");
+    assert_eq!(result("00"), "done 2 [i64:0]");
 }
 
 #[test]

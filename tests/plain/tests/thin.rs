@@ -4,11 +4,11 @@ mod common;
 use common::*;
 
 /// A section of this definition after so many empty groups of two bytes and, where it
-/// is asked for, one of three.
+/// is asked for, a function of three.
 fn after_empty(groups: usize, three: bool, definition: &str) -> String {
     let count = groups + usize::from(three) + 1;
     let count = format!("{:02X} {:02X}", count & 0x7F | 0x80, count >> 7);
-    let three = if three { "4E 80 00" } else { "" };
+    let three = if three { "60 00 00" } else { "" };
     format!("{count} {} {three} {definition}", times(groups, "4E 00"))
 }
 
@@ -16,11 +16,16 @@ fn row_of_last(start: usize, end: usize) -> String {
     format!("yes 1 struct final super=- describes=- descriptor=- {start}..{end}")
 }
 
+fn rows_after_function(start: usize, end: usize) -> String {
+    let function = format!("func final super=- describes=- descriptor=- {}..{start}", start - 3);
+    format!("yes 2 {function};struct final super=- describes=- descriptor=- {start}..{end}")
+}
+
 #[test]
 fn ends_above_16_383() {
-    assert_eq!(section(&after_empty(8188, true, "5F 00")), row_of_last(16_381, 16_383));
+    assert_eq!(section(&after_empty(8188, true, "5F 00")), rows_after_function(16_381, 16_383));
     assert_eq!(section(&after_empty(8190, false, "5F 00")), row_of_last(16_382, 16_384));
-    assert_eq!(section(&after_empty(8189, true, "5F 00")), row_of_last(16_383, 16_385));
+    assert_eq!(section(&after_empty(8189, true, "5F 00")), rows_after_function(16_383, 16_385));
     assert_eq!(section(&after_empty(8191, false, "5F 00")), row_of_last(16_384, 16_386));
     assert_eq!(section(&after_empty(16_382, false, "5F 00")), row_of_last(32_766, 32_768));
     assert_eq!(section(&after_empty(16_382, false, "5F 80 00")), "no 4 0");
@@ -33,6 +38,7 @@ fn ends_above_16_383() {
 fn faults_above_16_383() {
     assert_eq!(section(&after_empty(8190, false, "5F")), "no 1 16383");
     assert_eq!(section(&after_empty(8190, false, "5F 80 80 80 80 80")), "no 2 16383");
+    assert_eq!(section(&after_empty(8190, false, "5F 80 00")), "no 32 16383");
     assert_eq!(section(&after_empty(8191, false, "5E 00")), "no 3 16384");
     assert_eq!(section(&after_empty(8190, false, "5F 00 00")), "no 5 16384");
     assert_eq!(section(&after_empty(8190, false, "50 01 00 5F 00")), "no 7 0");
