@@ -32,7 +32,7 @@ fn every_kind_of_answer_is_there() {
         let refusals = (1..=13)
             .chain(20..=25)
             .chain(27..=29)
-            .chain([31])
+            .chain([31, 32])
             .map(|number| format!("no {number:>2}"));
         let traps = (41..=46).map(|number| format!("trap {number}"));
         for kind in refusals.chain(traps).chain(["yes".into(), "done".into(), "spent".into()]) {

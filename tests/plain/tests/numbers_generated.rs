@@ -41,7 +41,7 @@ fn parts(request: &str) -> Option<(Vec<u8>, u32, Vec<u8>)> {
 #[test]
 fn every_code_is_accepted_and_refused() {
     let mut counts = Counts::new();
-    for request in requests(21, COUNT, true).chain(requests(22, COUNT / 3, false)) {
+    for request in requests(24, COUNT, true).chain(requests(25, COUNT / 3, false)) {
         let Some((section, number, bytes)) = parts(&request) else {
             continue;
         };

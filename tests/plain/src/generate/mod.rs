@@ -22,8 +22,10 @@ pub mod thin_high;
 pub mod thin_lists;
 pub mod thin_nulls;
 pub mod thin_numbers;
+pub mod thin_padded;
 pub mod thin_rules;
 pub mod value_types;
+pub mod written;
 
 use crate::lines::hex;
 use crate::sizes;
@@ -51,7 +53,8 @@ pub fn requests(seed: u64, count: usize, small: bool) -> impl Iterator<Item = St
 
 fn request(random: &mut Random, small: bool) -> String {
     match random.below(1000) {
-        0..=219 => section_request(random, small),
+        0..=189 => section_request(random, small),
+        190..=219 => thin_padded::padded(random, small),
         220..=289 => type_request(random, small),
         290..=509 => body_request(random, small),
         510..=519 => at_size::room_request(random, small),

@@ -46,11 +46,18 @@ pub fn constant(random: &mut Random, kind: ValueType) -> Instruction {
 /// Of every length, or an edge.
 fn integer(random: &mut Random) -> i64 {
     let any = random.draw() as i64;
-    match random.below(4) {
+    match random.below(5) {
         0 | 1 => random.pick(&INTEGERS),
         2 => any >> random.below(64),
+        3 => at_a_length(random),
         _ => any,
     }
+}
+
+/// The last of a length or the first that needs one byte more, of either sign.
+fn at_a_length(random: &mut Random) -> i64 {
+    let half = 1 << (7 * random.between(1, 9) - 1);
+    random.pick(&[half - 1, half, -half, -half - 1])
 }
 
 fn float(random: &mut Random, format: Format) -> u64 {

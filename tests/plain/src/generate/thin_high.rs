@@ -80,23 +80,24 @@ fn body_naming(random: &mut Random, section: &[u8], end: usize, named: usize) ->
 /// Above it an end needs more than 14 bits.
 const HIGH: usize = 16_383;
 
-/// Empty groups or full structs, then three types; the last ends near 16,383, near the
-/// greatest place, or between.
+/// Full structs and empty groups, then three types; the last ends near 16,383, near the
+/// greatest place, or between. A function of three bytes makes its end odd or even.
 pub fn high_places(random: &mut Random) -> String {
     let most = sizes::INPUT_BYTES;
     let near = random.between(HIGH - 2, HIGH + 60);
     let end = random.pick(&[HIGH, HIGH + 1, near, near, most - 1, most, most, most + 1]);
     let end = if random.one_in(3) { random.between(HIGH, most) } else { end };
     let full = random.pick(&[0, 0, 1, 40, 120]);
-    let last = last_types(random, full);
+    let odd = random.below(2);
+    let last = last_types(random, full + odd);
     let mut writer = Writer::new(random);
     last.iter().for_each(|group| writer.group(group));
     let last_bytes = writer.bytes;
-    let before = full * FULL_STRUCT_BYTES + last_bytes.len();
-    let empty = empty_groups(random, end - COUNT_BYTES - before);
-    let count = padded_count(empty.len() + full + last.len());
-    let section = [&count[..], &full_struct().repeat(full), &empty.concat(), &last_bytes].concat();
-    let types = full + last.len();
+    let before = [&full_struct().repeat(full)[..], &FUNCTION.repeat(odd)].concat();
+    let empty = (end - COUNT_BYTES - before.len() - last_bytes.len()) / EMPTY_GROUP.len();
+    let count = count_of_groups(empty + full + odd + last.len());
+    let section = [&count[..], &before, &EMPTY_GROUP.repeat(empty), &last_bytes].concat();
+    let types = full + odd + last.len();
     if random.one_in(3) {
         let code = [Instruction::RefNull(Heap::Defined(types as u32 - 2)), Instruction::End];
         let body = body_of(random, &[], &code);
@@ -123,34 +124,19 @@ fn last_types(random: &mut Random, first: usize) -> Vec<Group> {
     alone(vec![upper, lower, open_function(Vec::new(), vec![result])])
 }
 
-const FULL_STRUCT_BYTES: usize = 2 + 2 * sizes::ENTRIES;
-
 /// 64 fields of two bytes each.
 fn full_struct() -> Vec<u8> {
     let fields = [0x7F, 0x01].repeat(sizes::ENTRIES);
     [&[0x5F, sizes::ENTRIES as u8], &fields[..]].concat()
 }
 
-/// Groups of no types that are so many bytes long together: each is 4E and a zero of
-/// one byte to five.
-fn empty_groups(random: &mut Random, length: usize) -> Vec<Vec<u8>> {
-    let usual = random.pick(&[2, 3, 6]);
-    let mut left = length;
-    let mut groups = Vec::new();
-    while left > 0 {
-        let bytes = if left <= 6 { left } else { usual.min(left - 2) };
-        let mut group = vec![0x80; bytes];
-        group[0] = 0x4E;
-        group[bytes - 1] = 0x00;
-        groups.push(group);
-        left -= bytes;
-    }
-    groups
-}
+const EMPTY_GROUP: [u8; 2] = [0x4E, 0x00];
+const FUNCTION: [u8; 3] = [0x60, 0x00, 0x00];
 
-/// The count of groups always takes this many bytes.
-const COUNT_BYTES: usize = 3;
+/// With an end above 16,383 there are 128 groups at least, and never 16,384, so that their
+/// count needs two bytes.
+const COUNT_BYTES: usize = 2;
 
-fn padded_count(count: usize) -> [u8; COUNT_BYTES] {
-    [count as u8 | 0x80, (count >> 7) as u8 | 0x80, (count >> 14) as u8]
+fn count_of_groups(count: usize) -> [u8; COUNT_BYTES] {
+    [count as u8 | 0x80, (count >> 7) as u8]
 }
