@@ -50,7 +50,7 @@ extern "C" {
 #define CHELBUGAN_TRAP 2  /* a run was stopped by an instruction */
 #define CHELBUGAN_SPENT 3 /* a run's budget was used up */
 
-/* The refusals: 1 to 14, 20 to 25, 27 to 29 and 31; there are no others (26 and 30 do not exist). Each with its place:
+/* The refusals: 1 to 14, 20 to 25, 27 to 29, 31 and 32; there are no others (26 and 30 do not exist). Each with its place:
  *   byte         an offset in the input at fault, the section or the body; a missing byte lies at the input's length
  *   instruction  the offset of its first byte in the body
  *   type         a type's number: the type of the section at fault
@@ -89,6 +89,7 @@ extern "C" {
 #define CHELBUGAN_REFUSAL_VALUES_LEFT 28           /* values left at an end; instruction */
 #define CHELBUGAN_REFUSAL_NO_DEFAULT 29            /* no default; instruction, or 0 for a run's parameters */
 #define CHELBUGAN_REFUSAL_ONLY_NULL 31             /* an operand would fit if it could not be null; instruction */
+#define CHELBUGAN_REFUSAL_PADDED 32                /* LEB number with more bytes than it needs; byte: its first */
 
 /* The traps: 41 to 46. A trap's place is that of the trapping instruction. */
 #define CHELBUGAN_TRAP_UNREACHABLE 41

@@ -21,7 +21,7 @@ fn told<T>(answer: Result<T, Cause>) -> Result<T, No> {
 #[test]
 fn causes_have_the_librarys_number_and_place() {
     let mut loader = Loader::new();
-    let mut seen = [0; 32];
+    let mut seen = [0; 33];
     for line in generate::requests(20_260_807, 12_000, false) {
         let parts: Vec<&str> = line.split(' ').collect();
         let of_section = bytes(parts[1]);
@@ -42,7 +42,7 @@ fn causes_have_the_librarys_number_and_place() {
             Ok(_) => assert!(!hex::is_text(&add_on.body), "{line}"),
         }
     }
-    for number in (1..=13).chain(20..=25).chain(27..=29).chain([31]) {
+    for number in (1..=13).chain(20..=25).chain(27..=29).chain(31..=32) {
         assert!(seen[number] > 0, "{number} never came up: {seen:?}");
     }
 }

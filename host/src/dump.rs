@@ -1,9 +1,9 @@
 //! A readable listing of a section's or a body's bytes, line by line with offsets. It judges nothing, and shows every byte:
-//! behind the one that fits nowhere, the rest as it is.
+//! behind the one that fits nowhere, the rest as it is. A padded number is listed, and the listing says so.
 
 use crate::hex;
 use crate::read::section::Line;
-use crate::read::{self, Fault};
+use crate::read::{self, Fault, Padded, Padding};
 use crate::syntax::{Instruction, Item, Placed, Plain};
 
 pub struct Listing {
@@ -23,12 +23,13 @@ const REST_A_LINE: usize = 16;
 const INDENT_AT_MOST: usize = 8;
 
 pub fn section(bytes: &[u8]) -> Listing {
-    let read::section::Section { lines, fault, .. } = read::section::read(bytes);
-    Listing { lines, fault }
+    let read::section::Section { lines, fault, padded, .. } =
+        read::section::read_with(bytes, Padding::Noted);
+    Listing { lines, fault }.with_remarks(bytes, &padded)
 }
 
 pub fn body(bytes: &[u8]) -> Listing {
-    let read::body::Body { parts, fault, .. } = read::body::read(bytes);
+    let read::body::Body { parts, fault, padded } = read::body::read_with(bytes, Padding::Noted);
     let mut lines = Vec::new();
     let mut frames = 1;
     for part in &parts {
@@ -45,7 +46,23 @@ pub fn body(bytes: &[u8]) -> Listing {
             frames += 1;
         }
     }
-    Listing { lines, fault }
+    Listing { lines, fault }.with_remarks(bytes, &padded)
+}
+
+impl Listing {
+    /// Behind what a line says, how each of its padded numbers would be written; so too where the listing breaks off.
+    fn with_remarks(mut self, bytes: &[u8], padded: &[Padded]) -> Listing {
+        for number in padded {
+            let remark = format!(" (padded: {})", number.mend(bytes));
+            let line = self.lines.iter_mut().find(|line| line.bytes.contains(&number.bytes.start));
+            match (line, &mut self.fault) {
+                (Some(line), _) => line.text += &remark,
+                (None, Some((_, fault))) => fault.why += &remark,
+                _ => (),
+            }
+        }
+        self
+    }
 }
 
 pub fn ends(part: &Placed<Item>) -> bool {

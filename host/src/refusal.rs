@@ -125,6 +125,8 @@ numbered! {
     NoDefault = 29, "there is no default";
     /// At the instruction.
     OnlyNull = 31, "an operand would fit if it could not be null";
+    /// At the number's first byte.
+    Padded = 32, "a number has more bytes than it needs";
 }
 
 numbered! {
@@ -170,6 +172,9 @@ mod tests {
             only_null.to_string(),
             "refusal 31 at 3: an operand would fit if it could not be null"
         );
+        let padded = Refusal { number: 32, place: 2 };
+        assert_eq!(padded.reason(), Some(Reason::Padded));
+        assert_eq!(padded.to_string(), "refusal 32 at 2: a number has more bytes than it needs");
         let absent = Refusal { number: 26, place: 7 };
         assert_eq!(absent.reason(), None);
         assert_eq!(absent.to_string(), "refusal 26 at 7, a number that is not known");

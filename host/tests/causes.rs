@@ -303,6 +303,51 @@ fn only_null() {
     assert!(!both.contains("only null"), "{both}");
 }
 
+/// 32: the number's bytes are marked, and its shortest writing is told.
+#[test]
+fn padded_numbers() {
+    let v = "01 60 00 00";
+    let of_sections = [
+        ("80 00", 0, "the count of groups", "write 80 00 as 00"),
+        ("01 4E 81 80 00 5F 00", 2, "the count of", "write 81 80 00 as 01"),
+        ("01 5F 01 63 F0 7F 00", 4, "", "write f0 7f as 70"),
+        ("01 5F 01 63 62 C0 00 00", 5, "", "write c0 00 as 40"),
+    ];
+    for (section, place, what, mend) in of_sections {
+        let said = no(&["check", section]);
+        assert!(said.starts_with(&format!("no: refusal 32 at byte {place}\n")), "{said}");
+        assert!(said.contains(what), "{said}");
+        told(&said, &format!("has more bytes than it needs: {mend}"), &[]);
+    }
+    let of_bodies = [
+        ("80 00 0B", 0, "write 80 00 as 00"),
+        ("01 81 00 7F 0B", 1, "write 81 00 as 01"),
+        ("00 0C 80 80 00 0B", 2, "write 80 80 00 as 00"),
+        ("00 41 FF 7F 1A 0B", 2, "write ff 7f as 7f"),
+        ("00 41 80 FF 7F 1A 0B", 2, "write 80 ff 7f as 80 7f"),
+        ("00 FB 90 00 0B", 2, "write 90 00 as 10"),
+    ];
+    for (body, place, mend) in of_bodies {
+        let said = no(&["check", v, body, "0"]);
+        assert!(
+            said.starts_with(&format!("no: refusal 32 at byte {place} of the body\n")),
+            "{said}"
+        );
+        told(&said, &format!("has more bytes than it needs: {mend}"), &[]);
+    }
+    let marked = no(&["check", "01 5F 81 80 00 7F 00"]);
+    assert!(marked.contains("01 5f 81 80 00 7f 00\n                ^^ ^^ ^^\n"), "{marked}");
+    // 127 and -128 need their two bytes.
+    yes(&["check", v, "00 41 FF 00 1A 41 80 7F 1A 0B", "0"]);
+    // A listing goes on and says so; print and assemble mend it.
+    let listed = yes(&["dump", "section", "81 00 5F 80 00"]);
+    assert!(listed.contains("1 group (padded: write 81 00 as 01)\n"), "{listed}");
+    assert!(listed.contains("(padded: write 80 00 as 00)\n"), "{listed}");
+    let printed = yes(&["print", "body", "80 00 41 80 00 1A 0B"]);
+    assert!(printed.starts_with(";; numbers of these bytes are padded, which the loader refuses"));
+    assert_eq!(yes(&["assemble", "body", &printed]), "00 41 00 1a 0b\n");
+}
+
 /// Where a local would have to be set.
 #[test]
 fn locals_and_labels() {
@@ -341,7 +386,7 @@ fn what_does_not_matter_is_left_out() {
 /// Every number: what it means, what its place is, the rule, an example and its mend.
 #[test]
 fn every_number_is_explained() {
-    let numbers = (1..=14).chain(20..=25).chain(27..=29).chain([31]).chain(41..=46);
+    let numbers = (1..=14).chain(20..=25).chain(27..=29).chain(31..=32).chain(41..=46);
     let list = yes(&["explain"]);
     for number in numbers.clone() {
         let said = yes(&["explain", &number.to_string()]);

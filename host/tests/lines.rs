@@ -207,12 +207,12 @@ fn shown_run(text: &str) -> Option<(String, String)> {
 /// The longest body and one byte more, each with the longest section: lines of some 131,000 characters.
 #[test]
 fn long_bodies() {
-    let section = format!("feff00600000{}", "4e00".repeat(16_381));
+    let section = format!("fe7f{}{}", "600000".repeat(2), "4e00".repeat(16_380));
     assert_eq!(section.len(), 2 * 32_768);
     let body = format!("00{}0b", "01".repeat(32_766));
     assert_eq!(body.len(), 2 * 32_768);
     let answered = answers(&format!(
-        "B {section} 0 {body}\nB {section} 0 {body}00\nB {section}00 0 {body}\nB {section} 1 {body}00\n"
+        "B {section} 0 {body}\nB {section} 0 {body}00\nB {section}00 0 {body}\nB {section} 2 {body}00\n"
     ));
     assert_eq!(answered, ["yes 32767", "no 4 0", "no 4 0", "no 4 0"]);
     let run = answers(&format!("R {section} 0 {body} 1000000\nR {section} 0 {body}00 1000000\n"));
@@ -224,11 +224,12 @@ fn long_bodies() {
 #[test]
 fn long_lines() {
     let groups = "4e00".repeat(16_382);
-    let longest = format!("feff00{groups}");
-    assert_eq!(longest.len(), 2 * 32_767);
+    let longest = format!("ff7f{groups}4e00");
+    assert_eq!(longest.len(), 2 * 32_768);
     let answered = answers(&format!(
-        "S {longest}\nS {longest}00\nS {longest}0000\nS {}\n",
+        "S {longest}\nS fe7f{groups}00\nS feff00{groups}\nS {longest}00\nS {}\n",
         "00".repeat(100_000)
     ));
-    assert_eq!(answered, ["yes 0", "no 5 32767", "no 4 0", "no 4 0"]);
+    // The third has a padded count.
+    assert_eq!(answered, ["yes 0", "no 5 32766", "no 32 0", "no 4 0", "no 4 0"]);
 }

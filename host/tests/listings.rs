@@ -4,6 +4,7 @@ mod common;
 
 use common::chelbugan;
 use plain::generate;
+use plain::refusal::NUMBER_PADDED;
 use plain::section::judge_section;
 use plain::section_reader::read_section;
 
@@ -28,17 +29,23 @@ fn listed_bytes(listing: &str) -> String {
     lines.flat_map(|line| line[8..].split(' ').take_while(is_pair)).collect()
 }
 
-/// A listing breaks off where the reading of the bytes ends with a fault, and nowhere else; it shows every byte, those behind
+/// A listing breaks off where the reading of the bytes ends with a fault, and nowhere else, padding apart; it shows every byte, those behind
 /// the fault too.
 #[test]
 fn a_listing_breaks_off_where_reading_does() {
-    let (mut whole, mut broken_off) = (0, 0);
-    for section in sections(11, 300) {
+    let (mut whole, mut broken_off, mut padded) = (0, 0, 0);
+    for section in sections(11, 400) {
         let said = chelbugan(&["dump", "section", &hex(&section)]);
         match read_section(&section) {
             Ok(_) => {
                 assert_eq!(said.status, 0, "{}\n{}", hex(&section), said.out);
                 whole += 1;
+            }
+            // A listing goes on behind a padded number, and says so.
+            Err(fault) if fault.number == NUMBER_PADDED => {
+                let at = |line: &&str| line.contains("(padded: write ");
+                assert!(said.out.lines().any(|line| at(&line)), "{}\n{}", hex(&section), said.out);
+                padded += 1;
             }
             Err(fault) => {
                 assert_eq!(said.status, 1, "{}\n{}", hex(&section), said.out);
@@ -53,7 +60,7 @@ fn a_listing_breaks_off_where_reading_does() {
         let bytes = if section.is_empty() { String::new() } else { hex(&section) };
         assert_eq!(listed_bytes(&said.out), bytes, "{}", said.out);
     }
-    assert!(whole > 100 && broken_off > 30, "{whole} and {broken_off}");
+    assert!(whole > 100 && broken_off > 30 && padded > 2, "{whole}, {broken_off}, {padded}");
 }
 
 /// Every refusal is told with its number and with its place as what it is, a byte or a type.
@@ -67,7 +74,8 @@ fn generated_refusals_are_explained() {
             continue;
         };
         // These sections are too small for a chain of 63 steps.
-        let place = if refusal.number <= 5 { "byte" } else { "type" };
+        let of_byte = refusal.number <= 5 || refusal.number == NUMBER_PADDED;
+        let place = if of_byte { "byte" } else { "type" };
         let wanted = format!("no: refusal {} at {place} {}\n", refusal.number, refusal.place);
         assert_eq!(said.status, 1, "{}", hex(&section));
         assert!(said.out.starts_with(&wanted), "{}\n{}", hex(&section), said.out);

@@ -32,10 +32,10 @@ fn fields_are_named_by_their_types() {
 /// Number, place, document 01's words, and the mark under the byte.
 #[test]
 fn a_byte_fault_is_marked() {
-    let said = no(&["check", "01 5F 01 63 F0 7F 00"]);
+    let said = no(&["check", "01 5F 01 63 BF 7F 00"]);
     assert!(said.starts_with("no: refusal 3 at byte 4\n"), "{said}");
-    assert!(said.contains("-16 is a negative number as a type's number"), "{said}");
-    assert_marked(&said, "01 5f 01 63 f0 7f 00", "f0");
+    assert!(said.contains("-65 is a negative number as a type's number"), "{said}");
+    assert_marked(&said, "01 5f 01 63 bf 7f 00", "bf");
 }
 
 #[test]

@@ -3,6 +3,8 @@
 use crate::hex;
 use std::ops::Range;
 
+const NUMBER_PADDED: u64 = 32;
+
 const BYTES_A_LINE: usize = 16;
 
 /// Lines of bytes that are shown before the fault, and at most of the fault itself.
@@ -43,6 +45,15 @@ fn marked_line(bytes: &[u8], from: usize, marked: &Range<usize>) -> String {
         text.push('\n');
     }
     text
+}
+
+/// The bytes of a byte fault: of a padded number all of its own, else the first.
+pub fn item_at(bytes: &[u8], place: usize, number: u64) -> Range<usize> {
+    let more = match number {
+        NUMBER_PADDED => bytes[place..].iter().take_while(|&&byte| byte >= 0x80).count(),
+        _ => 0,
+    };
+    place..place + more + 1
 }
 
 /// Bytes that are likely another thing than a section or a body.

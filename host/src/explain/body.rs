@@ -1,6 +1,6 @@
 //! The refusal of a body, or of its run, whose section was accepted.
 
-use super::around::{around, byte_remark};
+use super::around::{around, byte_remark, item_at};
 use super::{reason, shown_text, stacked, wrapped, Told};
 use crate::ask::{AddOn, No};
 use crate::dump;
@@ -13,6 +13,7 @@ const SIZE_EXCEEDED: u64 = 4;
 const BUFFER_TOO_SMALL: u64 = 14;
 const NOT_A_FUNCTION: u64 = 27;
 const NO_DEFAULT: u64 = 29;
+const NUMBER_PADDED: u64 = 32;
 
 /// What a refusal's place is.
 enum Place {
@@ -41,7 +42,7 @@ pub fn body_refusal(add_on: &AddOn, refusal: No) -> Told {
     let words = reason(refusal.number, cause.as_ref());
     let mut text = wrapped(&words);
     match place {
-        Place::Byte(at) => text += &around(body, at..at + 1),
+        Place::Byte(at) => text += &around(body, item_at(body, at, refusal.number)),
         Place::Part(index) => text += &part_text(body, &parts[index], cause.as_ref()),
         _ => (),
     }
@@ -69,7 +70,7 @@ fn place_of(body: &[u8], parts: &[Placed<Item>], refusal: No) -> Place {
         SIZE_EXCEEDED if body.len() > INPUT_BYTES => Place::WholeInput,
         SIZE_EXCEEDED if at == 0 => Place::Budget,
         NO_DEFAULT if at == 0 => Place::Parameters,
-        1..=3 | 5 => Place::Byte(at),
+        1..=3 | 5 | NUMBER_PADDED => Place::Byte(at),
         _ => parts
             .iter()
             .position(|part| part.bytes.start == at)

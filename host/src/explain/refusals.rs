@@ -36,7 +36,7 @@ pub use super::numbers::ENTRIES;
 use Case::{Body, Rows, Run, Section};
 
 /// The greatest number of a refusal; traps come after.
-const LAST_REFUSAL: u64 = 31;
+const LAST_REFUSAL: u64 = 32;
 
 impl Entry {
     pub fn is_trap(&self) -> bool {
@@ -61,7 +61,7 @@ pub fn title(number: u64) -> &'static str {
 }
 
 /// The numbers in words.
-pub const NUMBERS: &str = "refusals 1 to 14, 20 to 25, 27 to 29 and 31, and traps 41 to 46";
+pub const NUMBERS: &str = "refusals 1 to 14, 20 to 25, 27 to 29, 31 and 32, and traps 41 to 46";
 
 impl Case {
     /// As a person asks it.
@@ -130,7 +130,7 @@ For whoever got a no, or a trap, and has to mend an add-on. `chelbugan explain N
 made by `chelbugan explain --page`, and a test runs every example and every mend of it through the library.
 
 A refusal has a number and a place. The place is a byte's offset, from 0; or a type's number, from 0; or 0 where neither is \
-meant. Of an instruction it is the first byte. The numbers are 1 to 14, 20 to 25, 27 to 29 and 31; there is no 15 to 19, no 26 and no 30. \
+meant. Of an instruction it is the first byte. The numbers are 1 to 14, 20 to 25, 27 to 29, 31 and 32; there is no 15 to 19, no 26 and no 30. \
 Traps are 41 to 46: the add-on was accepted, and its trial run stopped there.
 
 | No. | When | Place |
@@ -228,7 +228,7 @@ mod tests {
     fn the_numbers_are_the_documents() {
         let numbers: Vec<u64> = ENTRIES.iter().map(|entry| entry.number).collect();
         let wanted: Vec<u64> =
-            (1..=14).chain(20..=25).chain(27..=29).chain([31]).chain(41..=46).collect();
+            (1..=14).chain(20..=25).chain(27..=29).chain(31..=32).chain(41..=46).collect();
         assert_eq!(numbers, wanted);
     }
 

@@ -1,11 +1,12 @@
 //! The refusal of a section.
 
-use super::around::{around, byte_remark};
+use super::around::{around, byte_remark, item_at};
 use super::{counted, reason, shown_text, wrapped, Told};
 use crate::ask::No;
 use crate::recheck::{self, Cause, Input, INPUT_BYTES};
 
 const SIZE_EXCEEDED: u64 = 4;
+const NUMBER_PADDED: u64 = 32;
 
 /// What a refusal's place is.
 #[derive(Clone, Copy)]
@@ -32,7 +33,7 @@ pub fn section_refusal(section: &[u8], refusal: No) -> Told {
     let words = reason(refusal.number, cause.as_ref());
     let mut text = wrapped(&words);
     match place {
-        Place::Byte(at) => text += &around(section, at..at + 1),
+        Place::Byte(at) => text += &around(section, item_at(section, at, refusal.number)),
         Place::Type(number) => text += &around_type(section, number),
         Place::WholeInput => (),
     }
@@ -64,7 +65,7 @@ fn place_of(section: &[u8], refusal: No) -> Place {
         SIZE_EXCEEDED if crate::read::section::read(section).fault.is_none() => {
             Place::Type(refusal.place)
         }
-        1..=5 => Place::Byte(refusal.place as usize),
+        1..=5 | NUMBER_PADDED => Place::Byte(refusal.place as usize),
         14 => Place::WholeInput,
         _ => Place::Type(refusal.place),
     }

@@ -1,7 +1,7 @@
 //! The parts of a body: locals, then instructions up to the last `end`.
 
 use super::instruction::instruction;
-use super::reader::{Fault, Reader};
+use super::reader::{Fault, Padded, Padding, Reader};
 use super::types;
 use crate::syntax::{Instruction, Item, Placed, Plain};
 
@@ -9,11 +9,17 @@ pub struct Body {
     pub parts: Vec<Placed<Item>>,
     /// Where the part begins that could not be read, and why; none where the whole body was.
     pub fault: Option<(usize, Fault)>,
-    pub padded: bool,
+    /// Of a reading that notes them.
+    pub padded: Vec<Padded>,
 }
 
+/// As the loader reads.
 pub fn read(bytes: &[u8]) -> Body {
-    let mut parts = Parts { reader: Reader::new(bytes), read: Vec::new(), from: 0 };
+    read_with(bytes, Padding::Refused)
+}
+
+pub fn read_with(bytes: &[u8], padding: Padding) -> Body {
+    let mut parts = Parts { reader: Reader::new(bytes, padding), read: Vec::new(), from: 0 };
     let fault = parts.body().err();
     let from = parts.from;
     Body {

@@ -1,5 +1,8 @@
 //! Bytes, LEB128 numbers and floats, one after the other.
 
+use crate::hex;
+use std::ops::Range;
+
 /// Where reading breaks off, and why.
 #[derive(Clone, Debug)]
 pub struct Fault {
@@ -20,20 +23,61 @@ pub const NUMBER_TOO_LONG: u64 = 2;
 pub const NOT_LISTED: u64 = 3;
 pub const SIZE_EXCEEDED: u64 = 4;
 pub const BYTES_LEFT_OVER: u64 = 5;
+pub const NUMBER_PADDED: u64 = 32;
+
+/// What a number is that stands in more bytes than it needs.
+#[derive(Clone, Copy, Debug, PartialEq, Eq)]
+pub enum Padding {
+    /// A fault, as it is for the loader.
+    Refused,
+    /// Read, and kept in `padded`.
+    Noted,
+}
+
+/// A number that stands in more bytes than it needs, and those that would do.
+#[derive(Clone, Debug)]
+pub struct Padded {
+    pub bytes: Range<usize>,
+    pub shortest: Vec<u8>,
+}
 
 pub struct Reader<'a> {
     pub bytes: &'a [u8],
     pub place: usize,
-    /// Some number stood in more bytes than it needs.
-    pub padded: bool,
+    padding: Padding,
+    pub padded: Vec<Padded>,
 }
 
-/// The bits of an unsigned number.
+/// The bits of an unsigned number, and those of a number in each byte.
 const UNSIGNED_BITS: u32 = 32;
+const BYTE_BITS: u32 = 7;
+
+#[derive(Clone, Copy, PartialEq, Eq)]
+enum Sign {
+    Unsigned,
+    Signed,
+}
+
+impl Sign {
+    /// What so many bits say.
+    fn value(self, bits: u128, count: u32) -> i128 {
+        match self {
+            Sign::Unsigned => bits as i128,
+            Sign::Signed => (bits << (128 - count)) as i128 >> (128 - count),
+        }
+    }
+
+    fn fits(self, value: i128, bits: u32) -> bool {
+        match self {
+            Sign::Unsigned => (0..1 << bits).contains(&value),
+            Sign::Signed => (-(1 << (bits - 1))..1 << (bits - 1)).contains(&value),
+        }
+    }
+}
 
 impl<'a> Reader<'a> {
-    pub fn new(bytes: &'a [u8]) -> Reader<'a> {
-        Reader { bytes, place: 0, padded: false }
+    pub fn new(bytes: &'a [u8], padding: Padding) -> Reader<'a> {
+        Reader { bytes, place: 0, padding, padded: Vec::new() }
     }
 
     pub fn peek(&self) -> Option<u8> {
@@ -57,23 +101,40 @@ impl<'a> Reader<'a> {
     }
 
     pub fn unsigned(&mut self, what: &str) -> Result<u32, Fault> {
-        let start = self.place;
-        let (value, length) = self.leb(UNSIGNED_BITS, what)?;
-        self.padded |= length > 1 && value >> (7 * (length - 1)) == 0;
-        u32::try_from(value).map_err(|_| out_of_range(start, what, "32 bits"))
+        self.number(UNSIGNED_BITS, Sign::Unsigned, what).map(|number| number as u32)
     }
 
     /// A number of so many bits with a sign.
     pub fn signed(&mut self, bits: u32, what: &str) -> Result<i64, Fault> {
+        self.number(bits, Sign::Signed, what).map(|number| number as i64)
+    }
+
+    /// 1 and 2, then 32.
+    fn number(&mut self, bits: u32, sign: Sign, what: &str) -> Result<i128, Fault> {
         let start = self.place;
-        let (value, length) = self.leb(bits, what)?;
-        let width = 7 * length as u32;
-        let value = (value << (128 - width)) as i128 >> (128 - width);
-        self.padded |= length > 1 && fits(value, width - 7);
-        match fits(value, bits) {
-            true => Ok(value as i64),
-            false => Err(out_of_range(start, what, &format!("{bits} bits with a sign"))),
+        let (sevens, length) = self.leb(bits, what)?;
+        let value = sign.value(sevens, BYTE_BITS * length);
+        if !sign.fits(value, bits) {
+            return Err(out_of_range(start, what, bits, sign));
         }
+        let needed = (1..length).find(|&fewer| sign.fits(value, BYTE_BITS * fewer));
+        if let Some(needed) = needed {
+            self.found_padded(start, needed as usize, what)?;
+        }
+        Ok(value)
+    }
+
+    /// The number that was read needs so many of its bytes.
+    fn found_padded(&mut self, start: usize, needed: usize, what: &str) -> Result<(), Fault> {
+        let mut shortest = self.bytes[start..start + needed].to_vec();
+        shortest[needed - 1] &= 0x7F;
+        let padded = Padded { bytes: start..self.place, shortest };
+        if self.padding == Padding::Refused {
+            let why = format!("{what} has more bytes than it needs: {}", padded.mend(self.bytes));
+            return Err(Fault::new(NUMBER_PADDED, start, why));
+        }
+        self.padded.push(padded);
+        Ok(())
     }
 
     /// So many bytes that are one item.
@@ -102,14 +163,14 @@ impl<'a> Reader<'a> {
     }
 
     /// The number's bits, and how many bytes they stood in; of so many bits, seven a byte.
-    fn leb(&mut self, bits: u32, what: &str) -> Result<(u128, usize), Fault> {
+    fn leb(&mut self, bits: u32, what: &str) -> Result<(u128, u32), Fault> {
         let start = self.place;
-        let most = bits.div_ceil(7) as usize;
+        let most = bits.div_ceil(BYTE_BITS);
         let mut value = 0;
         for index in 0..most {
-            let byte = self.peek().ok_or_else(|| bytes_end(start, index, what))?;
+            let byte = self.peek().ok_or_else(|| bytes_end(start, index as usize, what))?;
             self.place += 1;
-            value |= u128::from(byte & 0x7F) << (7 * index);
+            value |= u128::from(byte & 0x7F) << (BYTE_BITS * index);
             if byte < 0x80 {
                 return Ok((value, index + 1));
             }
@@ -128,11 +189,16 @@ fn bytes_end(start: usize, there: usize, what: &str) -> Fault {
     Fault::new(BYTES_END, start, why)
 }
 
-fn fits(value: i128, bits: u32) -> bool {
-    let half = 1i128 << (bits - 1);
-    (-half..half).contains(&value)
+fn out_of_range(start: usize, what: &str, bits: u32, sign: Sign) -> Fault {
+    let with_sign = if sign == Sign::Signed { " with a sign" } else { "" };
+    let why = format!("{what} is out of the range of {bits} bits{with_sign}");
+    Fault::new(NUMBER_TOO_LONG, start, why)
 }
 
-fn out_of_range(start: usize, what: &str, bits: &str) -> Fault {
-    Fault::new(NUMBER_TOO_LONG, start, format!("{what} is out of the range of {bits}"))
+impl Padded {
+    /// "write 80 00 as 00"
+    pub fn mend(&self, bytes: &[u8]) -> String {
+        let written = hex::spaced(&bytes[self.bytes.clone()]);
+        format!("write {written} as {}", hex::spaced(&self.shortest))
+    }
 }

@@ -1,6 +1,6 @@
 //! The parts of a section: groups, definitions, fields; and a line of the listing for each.
 
-use super::reader::{Fault, Reader, BYTES_END, NOT_LISTED, SIZE_EXCEEDED};
+use super::reader::{Fault, Padded, Padding, Reader, BYTES_END, NOT_LISTED, SIZE_EXCEEDED};
 use super::types;
 use crate::syntax::{Form, Front, Placed, Type};
 use std::fmt::Display;
@@ -16,7 +16,8 @@ pub struct Section {
     pub lines: Vec<Line>,
     /// Where the part begins that could not be read, and why; none where the whole section was.
     pub fault: Option<(usize, Fault)>,
-    pub padded: bool,
+    /// Of a reading that notes them.
+    pub padded: Vec<Padded>,
 }
 
 /// The types of a group; one definition alone is a group without 4E.
@@ -31,9 +32,14 @@ pub struct Line {
     pub text: String,
 }
 
+/// As the loader reads.
 pub fn read(bytes: &[u8]) -> Section {
+    read_with(bytes, Padding::Refused)
+}
+
+pub fn read_with(bytes: &[u8], padding: Padding) -> Section {
     let mut parts = Parts {
-        reader: Reader::new(bytes),
+        reader: Reader::new(bytes, padding),
         groups: Vec::new(),
         types: Vec::new(),
         lines: Vec::new(),

@@ -1,6 +1,7 @@
 //! Sections and bodies in WebAssembly's text: printed from bytes, and assembled back. Nothing is judged.
 //!
-//! The text says all that the bytes say but for padding of numbers: bytes without padding come back as they were.
+//! The text says all that the bytes say but for padding of numbers, which the loader refuses: bytes without padding come
+//! back as they were, and padded ones mended.
 
 mod assemble;
 mod encode;

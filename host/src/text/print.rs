@@ -1,7 +1,7 @@
 //! From bytes to text.
 
 use crate::dump::{ends, opens};
-use crate::read::{self, Fault};
+use crate::read::{self, Fault, Padding};
 use crate::syntax::{Abstract, Field, Form, Heap, Instruction, Item, Placed, Type, ValueType};
 
 /// Blocks inside one another beyond these are not moved further to the right.
@@ -11,12 +11,12 @@ const INDENT_AT_MOST: usize = 8;
 pub const WRITTEN_OUT: u32 = 16;
 
 pub fn section(bytes: &[u8]) -> Result<String, Fault> {
-    let read = read::section::read(bytes);
+    let read = read::section::read_with(bytes, Padding::Noted);
     if let Some((_, fault)) = read.fault {
         return Err(fault);
     }
     let printer = Printer { bytes, count: read.types.len() };
-    let mut text = remark(read.padded).to_string();
+    let mut text = remark(!read.padded.is_empty()).to_string();
     for group in &read.groups {
         let members = group.members.clone();
         let lines: Vec<String> =
@@ -31,12 +31,12 @@ pub fn section(bytes: &[u8]) -> Result<String, Fault> {
 }
 
 pub fn body(bytes: &[u8]) -> Result<String, Fault> {
-    let read = read::body::read(bytes);
+    let read = read::body::read_with(bytes, Padding::Noted);
     if let Some((_, fault)) = read.fault {
         return Err(fault);
     }
     let printer = Printer { bytes, count: 0 };
-    let mut text = format!("{}(func\n", remark(read.padded));
+    let mut text = format!("{}(func\n", remark(!read.padded.is_empty()));
     let mut frames = 1;
     for (index, part) in read.parts.iter().enumerate() {
         frames -= ends(part) as usize;
@@ -54,7 +54,7 @@ pub fn body(bytes: &[u8]) -> Result<String, Fault> {
 /// What the text does not say.
 fn remark(padded: bool) -> &'static str {
     match padded {
-        true => ";; numbers of these bytes are padded; assembled they are shorter\n",
+        true => ";; numbers of these bytes are padded, which the loader refuses; assembled they are not\n",
         false => "",
     }
 }

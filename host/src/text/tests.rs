@@ -2,6 +2,7 @@
 
 use super::*;
 use crate::hex::read_text;
+use crate::read::Padding;
 use crate::{dump, read};
 use plain::generate;
 
@@ -11,7 +12,8 @@ fn bytes(text: &str) -> Vec<u8> {
 
 type Print = fn(&[u8]) -> Result<String, read::Fault>;
 
-/// Printed and assembled: the same bytes where no number is padded, and always the same text.
+/// Printed and assembled: the same bytes where no number is padded, bytes without padding where one is, and always the same
+/// text.
 fn held(bytes: &[u8], padded: bool, print: Print, is_section: bool) {
     let text = print(bytes).expect("it can be read");
     let assemble = if is_section { assemble_section } else { assemble_body };
@@ -21,11 +23,21 @@ fn held(bytes: &[u8], padded: bool, print: Print, is_section: bool) {
     };
     if padded {
         assert!(back.len() < bytes.len());
+        assert!(!is_padded(&back, is_section));
         let again = print(&back).expect("it can be read");
         assert_eq!(text.split_once('\n').map(|(_, rest)| rest), Some(again.as_str()));
     } else {
         assert_eq!(back, bytes, "{text}");
     }
+}
+
+/// Whether the loader would say 32 of it, were it all that is wrong.
+fn is_padded(bytes: &[u8], is_section: bool) -> bool {
+    let padded = match is_section {
+        true => read::section::read_with(bytes, Padding::Noted).padded,
+        false => read::body::read_with(bytes, Padding::Noted).padded,
+    };
+    !padded.is_empty()
 }
 
 #[test]
@@ -34,19 +46,19 @@ fn printed_and_assembled_bytes_are_the_same() {
     for line in generate::requests(20_260_808, 6_000, false) {
         let parts: Vec<&str> = line.split(' ').collect();
         let section = bytes(parts[1]);
-        let read = read::section::read(&section);
-        if read.fault.is_none() {
-            held(&section, read.padded, print_section, true);
-            counts[read.padded as usize] += 1;
+        if read::section::read_with(&section, Padding::Noted).fault.is_none() {
+            let padded = is_padded(&section, true);
+            held(&section, padded, print_section, true);
+            counts[padded as usize] += 1;
         }
         let Some(body) = parts.get(3).map(|text| bytes(text)) else { continue };
-        let read = read::body::read(&body);
-        if read.fault.is_none() {
-            held(&body, read.padded, print_body, false);
-            counts[2 + read.padded as usize] += 1;
+        if read::body::read_with(&body, Padding::Noted).fault.is_none() {
+            let padded = is_padded(&body, false);
+            held(&body, padded, print_body, false);
+            counts[2 + padded as usize] += 1;
         }
     }
-    assert!(counts.iter().all(|&count| count > 300), "{counts:?}");
+    assert!(counts.iter().all(|&count| count > 30), "{counts:?}");
 }
 
 fn section_of(text: &str) -> Vec<u8> {

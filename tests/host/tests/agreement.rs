@@ -10,7 +10,7 @@ const SEED: u64 = 20260101;
 const COUNT: usize = 16_000;
 
 /// What a section is refused by, and what a body is refused by besides; 14 is for tests/memory.rs.
-const OF_SECTIONS: [u64; 13] = [1, 2, 3, 4, 5, 6, 7, 8, 9, 10, 11, 12, 13];
+const OF_SECTIONS: [u64; 14] = [1, 2, 3, 4, 5, 6, 7, 8, 9, 10, 11, 12, 13, 32];
 const OF_BODIES: [u64; 10] = [20, 21, 22, 23, 24, 25, 27, 28, 29, 31];
 const TRAPS: [u64; 6] = [41, 42, 43, 44, 45, 46];
 

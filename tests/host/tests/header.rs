@@ -86,7 +86,7 @@ fn refusals_and_traps_are_the_definitions() {
     let all = numbers_of("scope/specs/Refusals.antt");
     let (traps, refusals): (Vec<_>, Vec<_>) =
         all.into_iter().partition(|(name, _)| name.starts_with("TRAP_"));
-    assert_eq!((refusals.len(), traps.len()), (24, 6));
+    assert_eq!((refusals.len(), traps.len()), (25, 6));
     assert_eq!(constants("CHELBUGAN_REFUSAL_"), refusals);
     let traps: Vec<(String, u64)> =
         traps.into_iter().map(|(name, number)| (name.replacen("TRAP_", "", 1), number)).collect();
