@@ -134,6 +134,6 @@ fn leb(number: usize) -> Vec<u8> {
 fn heap(number: usize) -> Vec<u8> {
     match number < 0x40 {
         true => vec![number as u8],
-        false => vec![(number % 0x80) as u8 | 0x80, (number / 0x80) as u8],
+        false => [vec![(number % 0x80) as u8 | 0x80], heap(number / 0x80)].concat(),
     }
 }

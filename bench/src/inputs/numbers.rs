@@ -1,23 +1,27 @@
-//! Sections and bodies of one shape whose LEB numbers are written in three ways: in one byte, in two because they need two,
-//! and padded to five. Each number is counted as it is written. All are accepted.
+//! Sections and bodies of one shape whose LEB numbers are of three lengths: one byte, two, and in bodies five where a limit
+//! allows it, which is of constants alone. No number is padded. All are accepted.
 
 use super::{assert_filled, heap, leb, Input, Numbers, Size, MOST_BYTES};
 
-const WAYS: [(&str, Way); 3] = [
+const OF_SECTIONS: [(&str, Way); 2] =
+    [("one-byte numbers", Way::OneByte), ("two-byte numbers", Way::TwoBytes)];
+const OF_BODIES: [(&str, Way); 3] = [
     ("one-byte numbers", Way::OneByte),
     ("two-byte numbers", Way::TwoBytes),
-    ("padded numbers", Way::Padded),
+    ("five-byte constants", Way::FiveByteConstants),
 ];
 
 #[derive(Clone, Copy)]
 enum Way {
     OneByte,
     TwoBytes,
-    Padded,
+    FiveByteConstants,
 }
 
 /// The lowest number that needs two bytes whether it has a sign or not.
 const TWO_BYTES: usize = 0x80;
+/// The lowest number that needs five with a sign.
+const FIVE_BYTES: usize = 1 << 27;
 /// Types and locals that are named, from a way's lowest on.
 const NAMED: usize = 16;
 /// The greatest length of a number.
@@ -28,13 +32,13 @@ const ENTRIES: usize = 64;
 const SIZE: Size = Size::Kilobytes(32);
 
 pub fn inputs() -> Vec<Input> {
-    let sections = WAYS.map(|(kind, way)| of_section(kind, way));
-    let bodies = WAYS.map(|(kind, way)| of_body(kind, way));
+    let sections = OF_SECTIONS.map(|(kind, way)| of_section(kind, way));
+    let bodies = OF_BODIES.map(|(kind, way)| of_body(kind, way));
     sections.into_iter().chain(bodies).collect()
 }
 
 fn of_section(kind: &'static str, way: Way) -> Input {
-    let (Part { bytes: section, numbers, .. }, types) = section(way, MOST_BYTES);
+    let (Part { bytes: section, numbers }, types) = section(way, MOST_BYTES);
     assert_filled(kind, section.len(), MOST_BYTES);
     let (answer, numbers) = (Ok(types), Some(numbers));
     Input { kind, size: SIZE, section, body: None, budget: None, answer, numbers }
@@ -42,7 +46,7 @@ fn of_section(kind: &'static str, way: Way) -> Input {
 
 /// The section's own numbers are not counted.
 fn of_body(kind: &'static str, way: Way) -> Input {
-    let (Part { bytes: body, numbers, .. }, instructions) = body(way, MOST_BYTES);
+    let (Part { bytes: body, numbers }, instructions) = body(way, MOST_BYTES);
     assert_filled(kind, body.len(), MOST_BYTES);
     let (section, function) = structs_and_function();
     let (answer, numbers) = (Ok(instructions), Some(numbers));
@@ -51,38 +55,30 @@ fn of_body(kind: &'static str, way: Way) -> Input {
 }
 
 impl Way {
-    /// The lowest type and local that is named, and the lowest constant.
+    /// The lowest type and local that is named.
     fn lowest(self) -> usize {
         match self {
             Way::TwoBytes => TWO_BYTES,
-            Way::OneByte | Way::Padded => 0,
+            Way::OneByte | Way::FiveByteConstants => 0,
         }
     }
 
-    fn written(self, shortest: Vec<u8>) -> Vec<u8> {
+    fn lowest_constant(self) -> usize {
         match self {
-            Way::Padded => padded(shortest),
-            Way::OneByte | Way::TwoBytes => shortest,
+            Way::FiveByteConstants => FIVE_BYTES,
+            Way::OneByte | Way::TwoBytes => self.lowest(),
         }
     }
 
     /// What numbers may follow.
     fn codes(self, codes: &[u8]) -> Part {
-        Part { way: self, bytes: codes.to_vec(), numbers: Numbers::default() }
+        Part { bytes: codes.to_vec(), numbers: Numbers::default() }
     }
-}
-
-/// All bytes but the last say that one more follows.
-fn padded(mut number: Vec<u8>) -> Vec<u8> {
-    number.iter_mut().for_each(|byte| *byte |= 0x80);
-    number.resize(LONGEST - 1, 0x80);
-    [number, vec![0x00]].concat()
 }
 
 /// A part of an input, and the numbers in it.
 #[derive(Clone)]
 struct Part {
-    way: Way,
     bytes: Vec<u8>,
     numbers: Numbers,
 }
@@ -102,8 +98,7 @@ impl Part {
         self.push(heap(number))
     }
 
-    fn push(mut self, shortest: Vec<u8>) -> Part {
-        let number = self.way.written(shortest);
+    fn push(mut self, number: Vec<u8>) -> Part {
         self.numbers.all += 1;
         self.numbers.of_one_byte += usize::from(number.len() == 1);
         self.bytes.extend(number);
@@ -180,7 +175,7 @@ fn locals(way: Way) -> Part {
 fn code(way: Way) -> (Part, usize) {
     let lowest = way.lowest();
     let (object, other) = (lowest + NAMED / 2, lowest + NAMED - 1);
-    let constant = || way.codes(&[0x41]).signed(lowest + 7);
+    let constant = || way.codes(&[0x41]).signed(way.lowest_constant() + 7);
     let get = |local| way.codes(&[0x20]).number(local);
     let set = |local| way.codes(&[0x21]).number(local);
     let prefixed = |number| way.codes(&[0xFB]).number(number);
