@@ -97,13 +97,13 @@ module _ {A : Type 0} {value : ℕ → ℕ → A} {holds : ℕ → A → Bool} {
   answer r = inRange width at r value holds
 
   -- the bits that were found are a writing of their value
-  lying : (v k next : ℕ) → BitsFound (greatestLength width) s at v k next → (l : Lies W Range width s at) × (l .value ≡ value v k) × (k ≡ length (l .bytes))
+  lying : (v k next : ℕ) → BitsFound (greatestLength width) s at v k next → (l : Lies W width s at) × (l .value ≡ value v k) × (k ≡ length (l .bytes))
   lying v k next f =
       let same : value v (length (f .bytes)) ≡ value v k = rw (f .count) in
       (record { bytes = f .bytes; next = next; value = value v (length (f .bytes)); lies = f .lies; writes = kind .meant (f .writes); short = f .short }, same, f .count)
 
   -- and the other way round
-  lain : (l : Lies W Range width s at) → (v : ℕ) × (bitsAt (greatestLength width) s at ≡ bits v (length (l .bytes)) (l .next)) × (value v (length (l .bytes)) ≡ l .value)
+  lain : (l : Lies W width s at) → (v : ℕ) × (bitsAt (greatestLength width) s at ≡ bits v (length (l .bytes)) (l .next)) × (value v (length (l .bytes)) ≡ l .value)
   lain l =
       let (v, sevens, meant) = kind .means (l .writes) in
       (v, bits-read (greatestLength width) (l .lies) sevens (l .short), meant)
@@ -115,10 +115,10 @@ module _ {A : Type 0} {value : ℕ → ℕ → A} {holds : ℕ → A → Bool} {
   unranged x true e never = absurd (never (kind .in-range width x .0 e))
   unranged x false e never = refl
 
-  spared : (l : Lies W Range width s at) → (ltb 1 (length (l .bytes)) && holds (7 * (length (l .bytes) - 1)) (l .value)) ≡ true → ¬ Shortest W (l .bytes) (l .value)
+  spared : (l : Lies W width s at) → (ltb 1 (length (l .bytes)) && holds (7 * (length (l .bytes) - 1)) (l .value)) ≡ true → ¬ Shortest W (l .bytes) (l .value)
   spared l e least = false≢true (sym (shortest-needed kind (l .writes) least) ∙ e)
 
-  unspared : (l : Lies W Range width s at) (t : Bool) → (ltb 1 (length (l .bytes)) && holds (7 * (length (l .bytes) - 1)) (l .value)) ≡ t → ¬ Shortest W (l .bytes) (l .value) → t ≡ true
+  unspared : (l : Lies W width s at) (t : Bool) → (ltb 1 (length (l .bytes)) && holds (7 * (length (l .bytes) - 1)) (l .value)) ≡ t → ¬ Shortest W (l .bytes) (l .value) → t ≡ true
   unspared l true e never = refl
   unspared l false e never = absurd (never (needed-shortest kind (l .writes) e))
 
@@ -141,7 +141,7 @@ module _ {A : Type 0} {value : ℕ → ℕ → A} {holds : ℕ → A → Bool} {
       let (l, same, count) = lying v k next (bits-found (greatestLength width) s at e) in
       go l same count (holds width (value v k)) refl (ltb 1 k && holds (7 * (k - 1)) (value v k)) refl f
     where
-      go : (l : Lies W Range width s at) → l .value ≡ value v k → k ≡ length (l .bytes) → (t : Bool) → holds width (value v k) ≡ t → (u : Bool) → (ltb 1 k && holds (7 * (k - 1)) (value v k)) ≡ u
+      go : (l : Lies W width s at) → l .value ≡ value v k → k ≡ length (l .bytes) → (t : Bool) → holds width (value v k) ≡ t → (u : Bool) → (ltb 1 k && holds (7 * (k - 1)) (value v k)) ≡ u
           → cond t (cond u (refused padded at) (got (value v k) next)) (refused badNumber at) ≡ refused n p → C
       go l same count true q false test g = impossible cc
       go l same count false q u test g =

@@ -156,7 +156,7 @@ whole-again {w} (negative {v = v} sevens high) k e =
     let half = halves k in
     let (u, other, size) = write k (2 ^ (7 * suc k) - (2 ^ (7 * length w) - v)) (omega arith) in
     let same : 2 ^ (7 * length u) - (2 ^ (7 * suc k) - (2 ^ (7 * length w) - v)) ≡ 2 ^ (7 * length w) - v = rw size (omega arith) in
-    (u, rw same at (negative other (rw size (omega arith))), size)
+    (u, rw same at (negative {w = u} other (rw size (omega arith))), size)
 
 pub whole-kind : Kind signed-of withinSigned Twos WholeRange
 whole-kind =

@@ -25,22 +25,22 @@ pub record EndsInside (width : ℕ) (s : List ℕ) (at : ℕ) : Type 0 where
   pub all : GoOn s at many
   pub ends : getElem? s (at + many) ≡ none
 
-module _ {A : Type 0} (W : List ℕ → A → Type 0) (Range : ℕ → A → Type 0) (width : ℕ) (s : List ℕ) (at : ℕ) where
-  -- a writing within the greatest length lies there, whether it needs its bytes or not
-  pub record Lies : Type 0 where
-    pub bytes : List ℕ
-    pub next : ℕ
-    pub value : A
-    pub lies : Between s at bytes next
-    pub writes : W bytes value
-    pub short : length bytes ≤ greatestLength width
+-- a writing within the greatest length lies there, whether it needs its bytes or not
+pub record Lies {A : Type 0} (W : List ℕ → A → Type 0) (width : ℕ) (s : List ℕ) (at : ℕ) : Type 0 where
+  pub bytes : List ℕ
+  pub next : ℕ
+  pub value : A
+  pub lies : Between s at bytes next
+  pub writes : W bytes value
+  pub short : length bytes ≤ greatestLength width
 
+module _ {A : Type 0} (W : List ℕ → A → Type 0) (Range : ℕ → A → Type 0) (width : ℕ) (s : List ℕ) (at : ℕ) where
   pub data OutOfRange : Type 0 where
-    out-of-range : (l : Lies) → ¬ Range width (l .value) → OutOfRange
+    out-of-range : (l : Lies W width s at) → ¬ Range width (l .value) → OutOfRange
 
   -- in range, and a shorter writing has this value
   pub data HasSpare : Type 0 where
-    has-spare : (l : Lies) → Range width (l .value) → ¬ Shortest W (l .bytes) (l .value) → HasSpare
+    has-spare : (l : Lies W width s at) → Range width (l .value) → ¬ Shortest W (l .bytes) (l .value) → HasSpare
 
 pub record NumberFaults {A : Type 0} (W : List ℕ → A → Type 0) (Range : ℕ → A → Type 0) (read : ℕ → Reader A) : Type 0 where
   pub ends : (width : ℕ) (s : List ℕ) (at : ℕ) → (read width s at ≡ refused bytesEnd at) ↔ EndsInside width s at

@@ -1,6 +1,6 @@
 -- `number::minus_of` meets its contract: a byte to spare, or none.
 use borrow.Author.Needs.{needs}
-use Rattle.number.proofs.Needed.{sign-of-exits}
+use Rattle.number.proofs.Needed.{sign-of-exits, minus-needed, minus-padded}
 use Rattle.number.proofs.minus_of.Statement.{statement}
 use Rattle.number.proofs.minus_of.Tie as tie
 
@@ -11,10 +11,10 @@ spare-requires : tie.Need-spare-requires
 spare-requires c κs = search (sign-of-exits, needs)
 
 returns : tie.Need-returns
-returns c = search (sign-of-exits, needs)
+returns c = search (minus-padded, needs)
 
 returns-2 : tie.Need-returns-2
-returns-2 c = search (sign-of-exits, needs)
+returns-2 c = search (minus-needed, needs)
 
 pub minus-of-spec : {M : Type 1} → statement M
 minus-of-spec = tie.close (tie.spec sub-spare spare-requires returns returns-2)

@@ -1,6 +1,6 @@
 -- `number::plus_of` meets its contract: a byte to spare, or none.
 use borrow.Author.Needs.{needs}
-use Rattle.number.proofs.Needed.{sign-of-exits}
+use Rattle.number.proofs.Needed.{sign-of-exits, plus-needed, plus-padded}
 use Rattle.number.proofs.plus_of.Statement.{statement}
 use Rattle.number.proofs.plus_of.Tie as tie
 
@@ -8,10 +8,10 @@ spare-requires : tie.Need-spare-requires
 spare-requires c κs = search (sign-of-exits, needs)
 
 returns : tie.Need-returns
-returns c = search (sign-of-exits, needs)
+returns c = search (plus-padded, needs)
 
 returns-2 : tie.Need-returns-2
-returns-2 c = search (sign-of-exits, needs)
+returns-2 c = search (plus-needed, needs)
 
 pub plus-of-spec : {M : Type 1} → statement M
 plus-of-spec = tie.close (tie.spec spare-requires returns returns-2)

@@ -1,6 +1,6 @@
 -- `number::tenth_at` meets its contract: each of the two bytes that may stand there, and all others.
 use borrow.Author.Needs.{needs}
-use Rattle.number.proofs.Wide.{tenth-exits}
+use Rattle.number.proofs.Wide.{tenth-exits, tenth-minus, tenth-plus}
 use Rattle.number.proofs.tenth_at.Statement.{statement}
 use Rattle.number.proofs.tenth_at.Tie as tie
 
@@ -23,7 +23,7 @@ plus-of-requires : tie.Need-plus-of-requires
 plus-of-requires c κs = search (tenth-exits, needs)
 
 returns-2 : tie.Need-returns-2
-returns-2 c = search (tenth-exits, needs)
+returns-2 c = search (tenth-plus, needs)
 
 sub-minus-of : tie.Need-sub-minus-of
 sub-minus-of c = search (tenth-exits, needs)
@@ -35,7 +35,7 @@ minus-of-requires : tie.Need-minus-of-requires
 minus-of-requires c κs = search (tenth-exits, needs)
 
 returns-3 : tie.Need-returns-3
-returns-3 c = search (tenth-exits, needs)
+returns-3 c = search (tenth-minus, needs)
 
 returns-4 : tie.Need-returns-4
 returns-4 c = search (tenth-exits, needs)
