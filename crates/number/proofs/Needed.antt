@@ -83,8 +83,6 @@ module _ (at v k n : ℕ) where
 pub few-counts : {v k : ℕ} → Few 9 v k → Counts k
 few-counts few = let h = few .few in record { some = few .some; few = omega arith }
 
-pub ruleset natural-of-exits = (natural-beyond, natural-padded, natural-fits, few-counts)
-
 -- plus_of, minus_of
 
 module _ (at v k n : ℕ) {t : Bool} where
@@ -108,4 +106,4 @@ below-counts b = b .counts
 pub below-one : {v k : ℕ} → Below v k → 1 ≤ v
 below-one b = b .negative
 
-pub ruleset sign-of-exits = (plus-padded, plus-needed, minus-padded, minus-needed, below-counts, below-one)
+pub ruleset below-bounds = (below-counts, below-one)

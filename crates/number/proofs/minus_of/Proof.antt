@@ -1,14 +1,14 @@
 -- `number::minus_of` meets its contract: a byte to spare, or none.
 use borrow.Author.Needs.{needs}
-use Rattle.number.proofs.Needed.{sign-of-exits, minus-needed, minus-padded}
+use Rattle.number.proofs.Needed.{below-bounds, minus-needed, minus-padded}
 use Rattle.number.proofs.minus_of.Statement.{statement}
 use Rattle.number.proofs.minus_of.Tie as tie
 
 sub-spare : tie.Need-sub-spare
-sub-spare c = search (sign-of-exits, needs)
+sub-spare c = search (below-bounds, needs)
 
 spare-requires : tie.Need-spare-requires
-spare-requires c κs = search (sign-of-exits, needs)
+spare-requires c κs = search (below-bounds, needs)
 
 returns : tie.Need-returns
 returns c = search (minus-padded, needs)

@@ -1,6 +1,6 @@
 -- `number::natural_of` meets its contract: the range, then a byte to spare.
 use borrow.Author.Needs.{needs}
-use Rattle.number.proofs.Needed.{natural-of-exits, natural-beyond, natural-fits, natural-padded}
+use Rattle.number.proofs.Needed.{few-counts, natural-beyond, natural-fits, natural-padded}
 use Rattle.number.proofs.natural_of.Statement.{statement}
 use Rattle.number.proofs.natural_of.Tie as tie
 
@@ -8,7 +8,7 @@ returns : tie.Need-returns
 returns c = search (natural-beyond, needs)
 
 spare-requires : tie.Need-spare-requires
-spare-requires c κs = search (natural-of-exits, needs)
+spare-requires c κs = search (few-counts, needs)
 
 returns-2 : tie.Need-returns-2
 returns-2 c = search (natural-padded, needs)

@@ -1,11 +1,11 @@
 -- `number::plus_of` meets its contract: a byte to spare, or none.
 use borrow.Author.Needs.{needs}
-use Rattle.number.proofs.Needed.{sign-of-exits, plus-needed, plus-padded}
+use Rattle.number.proofs.Needed.{plus-needed, plus-padded}
 use Rattle.number.proofs.plus_of.Statement.{statement}
 use Rattle.number.proofs.plus_of.Tie as tie
 
 spare-requires : tie.Need-spare-requires
-spare-requires c κs = search (sign-of-exits, needs)
+spare-requires c κs = search needs
 
 returns : tie.Need-returns
 returns c = search (plus-padded, needs)
