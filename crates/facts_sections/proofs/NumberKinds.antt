@@ -43,19 +43,6 @@ pub spare-of : {A : Type 0} (holds : ℕ → A → Bool) (x : A) {k j : ℕ} {t 
 spare-of holds x e test = rw e at test
 
 module _ {A : Type 0} {value : ℕ → ℕ → A} {holds : ℕ → A → Bool} {W : List ℕ → A → Type 0} {Range : ℕ → A → Type 0} (kind : Kind value holds W Range) {w : List ℕ} {x : A} (writes : W w x) where
-  pub needed-shortest : (ltb 1 (length w) && holds (7 * (length w - 1)) x) ≡ false → Shortest W w x
-  needed-shortest e = none-shorter (λ u other. go u other (leb (length w) (length u)) refl)
-    where
-      go : (u : List ℕ) → W u x → (t : Bool) → leb (length w) (length u) ≡ t → length w ≤ length u
-      go u other true q = leb-true (length w) (length u) q
-      go u other false q =
-          let shorter : length u < length w = leb-false (length w) (length u) q in
-          let one : 1 ≤ length u = sevens-some (kind .means other .1) in
-          let more : ltb 1 (length w) ≡ true = lt-ltb 1 (length w) (omega arith) in
-          let held : holds (7 * (length w - 1)) x ≡ true = kind .wider x {m = 7 * length u} (omega arith) (kind .held other) in
-          let spare : (true && true) ≡ false = rw (more, held) at e in
-          absurd (false≢true (sym spare))
-
   pub shortest-needed : Shortest W w x → (ltb 1 (length w) && holds (7 * (length w - 1)) x) ≡ false
   shortest-needed (none-shorter least) = go (ltb 1 (length w) && holds (7 * (length w - 1)) x) refl
     where
@@ -68,6 +55,19 @@ module _ {A : Type 0} {value : ℕ → ℕ → A} {holds : ℕ → A → Bool} {
           let (u, other, size) = kind .again writes (length w - 2) (rw count at held) in
           let no-less : length w ≤ length u = least u other in
           absurd (omega arith)
+
+  pub needed-shortest : (ltb 1 (length w) && holds (7 * (length w - 1)) x) ≡ false → Shortest W w x
+  needed-shortest e = none-shorter (λ u other. go u other (leb (length w) (length u)) refl)
+    where
+      go : (u : List ℕ) → W u x → (t : Bool) → leb (length w) (length u) ≡ t → length w ≤ length u
+      go u other true q = leb-true (length w) (length u) q
+      go u other false q =
+          let shorter : length u < length w = leb-false (length w) (length u) q in
+          let one : 1 ≤ length u = sevens-some (kind .means other .1) in
+          let more : ltb 1 (length w) ≡ true = lt-ltb 1 (length w) (omega arith) in
+          let held : holds (7 * (length w - 1)) x ≡ true = kind .wider x {m = 7 * length u} (omega arith) (kind .held other) in
+          let spare : (true && true) ≡ false = rw (more, held) at e in
+          absurd (false≢true (sym spare))
 
 -- The bits of bytes
 
