@@ -40,8 +40,8 @@ extern "C" {
 /* The version of this header: 10,000 times the first number, 100 times the second, and the third. chelbugan_version() is the
  * archive's. Where the first numbers are equal the calls have one shape, and what this header names means the same; the second
  * number changes with what is accepted, the third with which refusal is told. */
-#define CHELBUGAN_VERSION 10201
-#define CHELBUGAN_VERSION_TEXT "1.2.1"
+#define CHELBUGAN_VERSION 10300
+#define CHELBUGAN_VERSION_TEXT "1.3.0"
 
 /* What each call returns: 0 is a refusal, everything else is a yes. Only a trial run has more than one. */
 #define CHELBUGAN_NO 0
@@ -209,7 +209,7 @@ extern "C" {
 /* The version of the archive, as CHELBUGAN_VERSION has the header's. A host that takes an archive as it comes asks it first.
  *
  *   if (chelbugan_version() / 10000 == CHELBUGAN_VERSION / 10000)
- *       printf("version %llu\n", (unsigned long long)chelbugan_version());   // version 10201
+ *       printf("version %llu\n", (unsigned long long)chelbugan_version());   // version 10300
  */
 uint64_t chelbugan_version(void);
 

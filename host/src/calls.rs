@@ -42,7 +42,7 @@ const SPENT: u64 = 3;
 
 /// The library's version that this wrapper is written for, as [`version`] tells it. The first number is that of the calls'
 /// shape.
-pub const VERSION: u64 = 10_201;
+pub const VERSION: u64 = 10_300;
 
 /// Where the bytes of a definition begin in the section, and the place after them.
 #[derive(Clone, Copy, Debug, PartialEq, Eq)]

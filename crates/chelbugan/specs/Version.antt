@@ -1,4 +1,4 @@
--- Which calls these are, and what they accept: 1.2.1, as one number. The second number counts the requests that changed what is
+-- Which calls these are, and what they accept: 1.3.0, as one number. The second number counts the requests that changed what is
 -- accepted; the third, those that since then changed only which refusal is told.
 use Prim.Native.Nat.{ℕ, _+_, _*_}
 
@@ -6,10 +6,10 @@ abbrev pub major : ℕ
 major = 1
 
 abbrev pub minor : ℕ
-minor = 2
+minor = 3
 
 abbrev pub patch : ℕ
-patch = 1
+patch = 0
 
 abbrev pub version : ℕ
 version = 10_000 * major + 100 * minor + patch

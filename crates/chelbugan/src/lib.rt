@@ -6,12 +6,12 @@ ghost use Rattle.run_buffers.specs.States.{stateOf, memory};
 ghost use Rattle.chelbugan_told.specs.Told.{SectionTold, TypeTold, BodyTold, RunTold};
 ghost use Rattle.chelbugan.specs.Version.{version};
 
-// 1.2.1: two requests of document 02 changed what is accepted, 4 and then 1; since then one changed which refusal is told, 9
+// 1.3.0: three requests of document 02 changed what is accepted, 4, 1 and then 10
 const MAJOR: u64 = 1;
 
-const MINOR: u64 = 2;
+const MINOR: u64 = 3;
 
-const PATCH: u64 = 1;
+const PATCH: u64 = 0;
 
 // Which calls these are, as 10,000 times the first number, 100 times the second and the third.
 #[no_mangle]

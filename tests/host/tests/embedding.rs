@@ -110,7 +110,7 @@ fn the_host_in_c_with_what_is_installed() {
     assert!(made.status.success(), "{}", String::from_utf8_lossy(&made.stderr));
     let prefix = below.join("opt/some");
     let words = std::fs::read_to_string(prefix.join("lib/pkgconfig/chelbugan.pc")).expect("it");
-    assert!(words.contains("\nVersion: 1.2.1\n"), "{words}");
+    assert!(words.contains("\nVersion: 1.3.0\n"), "{words}");
     let flags = |name: &str| {
         let line = words.lines().find_map(|line| line.strip_prefix(name)).expect("the flags");
         let line = line

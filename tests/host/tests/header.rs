@@ -359,6 +359,6 @@ fn examples_print_what_they_say() {
         .status();
     assert!(compiled.expect("a C compiler").success());
     let said = Command::new(&built).output().expect("the examples run");
-    let wanted = b"version 10201\n1 types\n\x5F\x01\x7F\x002 instructions\n2 steps, i32 7\n";
+    let wanted = b"version 10300\n1 types\n\x5F\x01\x7F\x002 instructions\n2 steps, i32 7\n";
     assert_eq!(said.stdout, wanted, "{}", String::from_utf8_lossy(&said.stdout));
 }
