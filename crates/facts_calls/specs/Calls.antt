@@ -43,8 +43,8 @@ module _ {s rows codes rows′ codes′ : List ℕ} {r : Verdict} where
     pub only : (place : ℕ) → r ≡ Verdict.the-variants.Refused bufferTooSmall place → TableShort rows codes × (place ≡ 0)
     -- any other no exactly when the bytes, or the rules' first fault, say it
     pub refused : (number place : ℕ) → TableSuffices rows codes → (r ≡ Verdict.the-variants.Refused number place) ↔ Refused s number place
-    -- "A section's byte faults (1 to 5)": where nothing is written, at a byte or at the input's length; 4 and 6 to 13 at the number
-    -- of one of its types
+    -- "A section's byte faults (1 to 5)", and 32: where nothing is written, at a byte or at the input's length; 4 and 6 to 13 at
+    -- the number of one of its types
     pub places : (number place : ℕ) → TableSuffices rows codes → r ≡ Verdict.the-variants.Refused number place → SaysNo s number place
     -- "Every refusal zeroes all memory lent for writing."
     pub wipes : (number place : ℕ) → r ≡ Verdict.the-variants.Refused number place → (rows′ ≡ wiped rows) × (codes′ ≡ wiped codes)

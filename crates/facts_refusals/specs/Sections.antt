@@ -1,5 +1,5 @@
--- What the no to a section says. "A section's byte faults (1 to 5) come before its rules." "Places are byte offsets; a missing
--- byte lies at the input's length. .. a type number is that of the type at fault."
+-- What the no to a section says. "A section's byte faults (1 to 5) come before its rules", and 32 of request 10 of document 02 with
+-- them. "Places are byte offsets; a missing byte lies at the input's length. .. a type number is that of the type at fault."
 use Prim.Native.Nat.{ℕ, _≤_, _<_}
 use mathlib.Core.Path.{_≡_}
 use mathlib.Core.Logic.{_↔_}
@@ -23,8 +23,8 @@ Unwritten s = (gs : List Group) → WritesSection s gs → WithinSizes s gs → 
 abbrev pub BytesRefused : List ℕ → Type 0
 BytesRefused s = (number : ℕ) × (place : ℕ) × (readSection s ≡ refused number place)
 
--- Why a section is refused: its bytes write nothing, and the fault is one of 1 to 5 at a byte or at the input's length; or
--- they write types, and the fault is the first of their rules, at the number of one of these types.
+-- Why a section is refused: its bytes write nothing, and the fault is one of 1 to 5 or 32 at a byte or at the input's length;
+-- or they write types, and the fault is the first of their rules, at the number of one of these types.
 pub data SaysNo (s : List ℕ) (number place : ℕ) : Type 1 where
   of-bytes : Unwritten s → ByteFault number → place ≤ length s → SaysNo s number place
   of-rules : {gs : List Group} → WritesSection s gs → WithinSizes s gs → FirstFault (typesOf (joined gs)) (length (joined gs)) number place
@@ -33,6 +33,6 @@ pub data SaysNo (s : List ℕ) (number place : ℕ) : Type 1 where
 pub record SectionRefusals : Type 1 where
   -- refused for bytes exactly when no list within the sizes has these bytes as its writing
   pub unwritten : (s : List ℕ) → BytesRefused s ↔ Unwritten s
-  -- "byte faults (1 to 5)"; the place lies inside the input or at its length
+  -- "byte faults (1 to 5)" and 32; the place lies inside the input or at its length
   pub byteFaults : (s : List ℕ) (number place : ℕ) → readSection s ≡ refused number place → ByteFault number × (place ≤ length s)
   pub saysNo : (s : List ℕ) (number place : ℕ) → judgeSection s ≡ rejected number place → SaysNo s number place

@@ -1,5 +1,5 @@
-// Reading LEB128 numbers of 32, 33 and 64 bits, and the bytes of floats: the items of which all else is made. Each answer is
-// that of scope's definition (specs/Answers.antt), on any bytes and at any place.
+// Reading LEB128 numbers of 32, 33 and 64 bits, none of them padded, and the bytes of floats: the items of which all else is
+// made. Each answer is that of scope's definition (specs/Answers.antt), on any bytes and at any place.
 use scope::refusals;
 ghost use Prim.Native.Nat.{_-_, _*_, _<_, _^_};
 ghost use mathlib.Core.Path.{_≡_};

@@ -1,6 +1,6 @@
 -- The section's verdict: which refusal, which place, in document 01's order; and asking a section for a type by number.
 -- "A section's byte faults (1 to 5) come before its rules; then, type by type, 6, 7 and the chain; then, type by type
--- again, 8 to 13 in rising number."
+-- again, 8 to 13 in rising number." 32 of request 10 of document 02 is a byte fault too.
 use Prim.Native.Nat.{ℕ, zero, suc, _+_, _-_}
 use mathlib.Core.Bool.{Bool, cond}
 use mathlib.Core.Option.{Option, none, some}
