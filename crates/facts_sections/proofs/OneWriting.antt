@@ -221,7 +221,7 @@ section-one ways ws us (a-section {w = w} n gs) (a-section {w = u} m ks) =
     ap₂ (λ (a b : List ℕ). a ++ b) count (groups-one (ap length count) ways rest more gs ks)
 
 pub one-writing : OneWriting
-one-writing = record { naturals = natural-one; wholes = whole-one; heaps = heap-one; values = val-one; either = (either-way, either-back); sections = section-one }
+one-writing = record { naturals = natural-one; wholes = whole-one; heaps = heap-one; clauses = clause-one; values = val-one; either = (either-way, either-back); sections = section-one }
 
 -- how far that goes
 

@@ -7,14 +7,14 @@ use Prim.Native.Nat.{ℕ, _<_}
 use mathlib.Core.Path.{_≡_}
 use mathlib.Core.Logic.{_⊎_, _↔_}
 use mathlib.Core.Bool.{true, false}
-use mathlib.Core.Option.{none}
+use mathlib.Core.Option.{Option, none}
 use mathlib.Core.List.{List, [], _∷_, map}
 use Rattle.scope.specs.Reading.{Read, got, then}
 use Rattle.scope.specs.Numbers.{Whole}
 use Rattle.scope.specs.Abstract.{Abstract, row}
 use Rattle.scope.specs.Syntax.{Heap, abstract, defined, exact, i32, Number, Val, num, ref, Field, Form, struct, func, Definition, Group}
 use Rattle.scope.specs.Sections.{readSection}
-use Rattle.facts_sections.specs.Writing.{Unsigned, Signed, WritesHeap, WritesVal, WritesSection}
+use Rattle.facts_sections.specs.Writing.{Unsigned, Signed, WritesHeap, WritesVal, WritesClause, WritesSection}
 
 pub data All {A : Type 0} (P : A → Type 0) : List A → Type 0 where
   none-left : All P []
@@ -41,6 +41,7 @@ pub record OneWriting : Type 0 where
   pub naturals : (width : ℕ) {w u : List ℕ} {v : ℕ} → Bytes w → Bytes u → Unsigned width w v → Unsigned width u v → w ≡ u
   pub wholes : (width : ℕ) {w u : List ℕ} {v : Whole} → Bytes w → Bytes u → Signed width w v → Signed width u v → w ≡ u
   pub heaps : {w u : List ℕ} {h : Heap} → Bytes w → Bytes u → WritesHeap w h → WritesHeap u h → w ≡ u
+  pub clauses : (code : ℕ) {w u : List ℕ} {x : Option ℕ} → Bytes w → Bytes u → WritesClause code w x → WritesClause code u x → w ≡ u
   pub values : {w u : List ℕ} {v : Val} → OneWay v → Bytes w → Bytes u → WritesVal w v → WritesVal u v → w ≡ u
   -- the exception, whole
   pub either : {w : List ℕ} {a : Abstract} → WritesVal w (ref true (abstract a)) ↔ ((w ≡ row a .code ∷ []) ⊎ (w ≡ 0x63 ∷ row a .code ∷ []))
