@@ -109,6 +109,7 @@ module _ {most : ℕ} (fit : MostBytes most) {s : List ℕ} {at value weight nex
   pub part-last : {r : Byte} {b : ℕ} → ByteAt s next r → r ≡ Byte.the-variants.Is b → b < 128 → BitsRead most s at (Leb.the-variants.Bits (value + weight * b) (count + 1) (next + 1))
   part-last {r} {b} a e h =
       record {
+        one = λ v n q. impossible cc;
         ended = λ v k n q.
             let same : value + weight * b ≡ v = cc in
             let many : count + 1 ≡ k = cc in
@@ -127,6 +128,7 @@ module _ {most : ℕ} (fit : MostBytes most) {s : List ℕ} {at value weight nex
   pub part-cut : {r : Byte} → ByteAt s next r → r ≡ Byte.the-variants.Missing → BitsRead most s at Leb.the-variants.Cut
   part-cut {r} a e =
       record {
+        one = λ v n q. impossible cc;
         ended = λ v k n q. impossible cc;
         lacking = λ q more.
             p .same more
@@ -179,6 +181,7 @@ module _ {s : List ℕ} {at b most : ℕ} (g : GoesOn s at b most) where
 pub part-long : {most : ℕ} {s : List ℕ} {at value weight next count : ℕ} → Part most s at value weight next count → most ≤ count → BitsRead most s at (Leb.the-variants.Long value next)
 part-long {most} {s} {at} {value} {weight} {next} {count} p h =
     record {
+      one = λ v n q. impossible cc;
       ended = λ v k n q. impossible cc;
       lacking = λ q. impossible cc;
       going = λ v n q.

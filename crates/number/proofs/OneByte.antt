@@ -18,17 +18,14 @@ module _ {most : ℕ} (fit : MostBytes most) {s : List ℕ} {at : ℕ} {r : Byte
   room : (more : ℕ) → most + more ≡ suc (most + more - 1)
   room more = let h : 1 ≤ most = fit .some in omega arith
 
-  pub one-byte : {b : ℕ} → r ≡ Byte.the-variants.Is b → b < 128 → BitsRead most s at (Leb.the-variants.Bits b 1 (at + 1))
+  pub one-byte : {b : ℕ} → r ≡ Byte.the-variants.Is b → b < 128 → BitsRead most s at (Leb.the-variants.One b (at + 1))
   one-byte {b} e h =
       record {
-        ended = λ v k n q.
+        one = λ v n q.
             let value : b ≡ v = cc in
-            let count : 1 ≡ k = cc in
             let after : at + 1 ≡ n = cc in
-            rw (← value, ← count, ← after) (
-              record { some = omega arith; few = fit .some; seven = omega arith },
-              λ more. ap (λ (x : ℕ). bitsAt x s at) (room more) ∙ bits-last (most + more - 1) s at (byte-got (getElem? s at) (a .is) e) h,
-            );
+            rw (← value, ← after) (h, λ more. ap (λ (x : ℕ). bitsAt x s at) (room more) ∙ bits-last (most + more - 1) s at (byte-got (getElem? s at) (a .is) e) h);
+        ended = λ v k n q. impossible cc;
         lacking = λ q. impossible cc;
         going = λ v n q. impossible cc;
       }
@@ -36,6 +33,7 @@ module _ {most : ℕ} (fit : MostBytes most) {s : List ℕ} {at : ℕ} {r : Byte
   pub no-byte : r ≡ Byte.the-variants.Missing → BitsRead most s at Leb.the-variants.Cut
   no-byte e =
       record {
+        one = λ v n q. impossible cc;
         ended = λ v k n q. impossible cc;
         lacking = λ q more. ap (λ (x : ℕ). bitsAt x s at) (room more) ∙ bits-cut (most + more - 1) s at (byte-none (getElem? s at) (a .is) e);
         going = λ v n q. impossible cc;

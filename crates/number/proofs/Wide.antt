@@ -8,6 +8,7 @@ use lib.ListN.{getElem?}
 use lib.Dec.{ltb, lit≤}
 use borrow.Author.Tests.{lt-ltb, le-ltb, le-leb, lt-leb, ltb-true, ltb-false}
 use Rattle.scope.specs.Refusals.{bytesEnd, badNumber}
+use Rattle.scope.specs.Reading.{got}
 use Rattle.scope.specs.Numbers.{Bits, bits, bitsAt, unlessPadded, inRange, plus, minus, signed-of, withinSigned, signed, s64}
 use Rattle.number.specs.declared.Byte.{Byte}
 use Rattle.number.specs.declared.Byte
@@ -17,12 +18,16 @@ use Rattle.number.specs.declared.Integer.{Integer}
 use Rattle.number.specs.declared.Integer
 use Rattle.number.specs.Answers.{above, ByteAt, MostBytes, Counts, Below, BitsRead, integerIs, rangeOf, Tenth}
 use Rattle.number.proofs.Bits.{byte-got, byte-none, bits-last, bits-more, bits-cut, next-fits}
-use Rattle.number.proofs.Ranges.{range-is, few-bits}
+use Rattle.number.proofs.Ranges.{byte-range, range-is, one-low, few-bits}
 
 pub nine-bytes : MostBytes 9
 nine-bytes = record { some = lit≤ tt; fit = lit≤ tt }
 
 module _ {s : List ℕ} {at : ℕ} {r : Leb} (a : BitsRead 9 s at r) where
+  pub wide-one : {v n : ℕ} {q : Integer} → r ≡ Leb.the-variants.One v n → q ≡ integerIs (got (signed-of v 1) n) → q ≡ integerIs (s64 s at)
+  unfolding signed
+  wide-one {v} {n} e f = f ∙ ap integerIs (sym (byte-range at (2 ^ 63) 64 refl (lit≤ tt) v n (a .one v n e .0)) ∙ ap (λ (o : Bits). inRange 64 at o signed-of withinSigned) (sym (a .one v n e .1 1)))
+
   pub wide-got : {v k n : ℕ} {q : Integer} → r ≡ Leb.the-variants.Bits v k n → q ≡ integerIs (rangeOf at (2 ^ 63) v k n) → q ≡ integerIs (s64 s at)
   unfolding signed
   wide-got {v} {k} {n} e f = f ∙ ap integerIs (range-is at (2 ^ 63) 64 refl v k n ∙ ap (λ (o : Bits). inRange 64 at o signed-of withinSigned) (sym (a .ended v k n e .1 1)))
@@ -37,7 +42,7 @@ module _ {s : List ℕ} {at : ℕ} {r : Leb} (a : BitsRead 9 s at r) where
   pub wide-tenth : {low next : ℕ} {q : Integer} → r ≡ Leb.the-variants.Long low next → Tenth s at low next q → q ≡ integerIs (s64 s at)
   wide-tenth {low} {next} e f = f .is (a .going low next e .0) (a .going low next e .1 1)
 
-pub ruleset wide-exits = (wide-got, wide-cut, wide-low, wide-tenth, few-bits, nine-bytes)
+pub ruleset wide-exits = (wide-one, wide-got, wide-cut, wide-low, wide-tenth, one-low, few-bits, nine-bytes)
 
 -- the tenth byte
 

@@ -79,9 +79,10 @@ pub record Below (v k : ℕ) : Type 0 where
 abbrev pub hasSpare : ℕ → ℕ → Bool
 hasSpare n k = ltb 1 k && ltb n (2 ^ (7 * (k - 1) - 1))
 
--- The bits that end within `most` bytes, whatever a number's greatest length beyond that is; bytes that end first; or bytes
+-- A number of one byte; the bits that end within `most` bytes, whatever a number's greatest length beyond that is; bytes that end first; or bytes
 -- that all go on: their bits lie below what follows.
 pub record BitsRead (most : ℕ) (s : List ℕ) (at : ℕ) (r : Leb) : Type 0 where
+  pub one : (v next : ℕ) → r ≡ Leb.the-variants.One v next → (v < 2 ^ 7) × ((more : ℕ) → bitsAt (most + more) s at ≡ bits v 1 next)
   pub ended : (v k next : ℕ) → r ≡ Leb.the-variants.Bits v k next → Few most v k × ((more : ℕ) → bitsAt (most + more) s at ≡ bits v k next)
   pub lacking : r ≡ Leb.the-variants.Cut → (more : ℕ) → bitsAt (most + more) s at ≡ cut
   pub going : (v next : ℕ) → r ≡ Leb.the-variants.Long v next
@@ -122,7 +123,7 @@ rangeOf at half v k next = cond (inHalf half (signed-of v k)) (unlessPadded at k
 
 -- one statement for every width of five bytes
 pub record SignedRead (s : List ℕ) (at half : ℕ) (r : Integer) : Type 0 where
-  pub is : (width : ℕ) → greatestLength width ≡ 5 → half ≡ 2 ^ (width - 1) → r ≡ integerIs (signed width s at)
+  pub is : (width : ℕ) → greatestLength width ≡ 5 → half ≡ 2 ^ (width - 1) → 2 ^ 6 ≤ half → r ≡ integerIs (signed width s at)
 
 -- the bits `low` of nine bytes that go on, and a tenth byte at `next`, as a number of 64 bits
 pub record Tenth (s : List ℕ) (at low next : ℕ) (r : Integer) : Type 0 where

@@ -4,11 +4,15 @@ use scope::refusals;
 ghost use Prim.Native.Nat.{_-_, _*_, _<_, _^_};
 ghost use mathlib.Core.Path.{_≡_};
 ghost use lib.ListN.{length};
-ghost use Rattle.scope.specs.Numbers.{plus, minus, withinSigned, unlessPadded, u32, s32, s33, s64, floatBytes, float32, float64};
+ghost use Rattle.scope.specs.Reading.{got};
+ghost use Rattle.scope.specs.Numbers.{plus, minus, signed-of, withinSigned, unlessPadded, u32, s32, s33, s64, floatBytes, float32, float64};
 ghost use Rattle.number.specs.Answers.{ByteAt, ByteIs, MostBytes, GoesOn, Few, Counts, Below, FloatLength, BitsRead, naturalIs, FloatRead, SignWeight, hasSpare, naturalOf, rangeOf, SignedRead, Tenth, integerIs};
 
 // The first number that is more than one byte.
 const TWO_BYTES: u64 = 128;
+
+// The first byte whose sign is set.
+const SIGN: u64 = 64;
 
 // The first number that is no u32.
 const U32_LIMIT: u64 = 4294967296;
@@ -51,9 +55,11 @@ pub fn byte_at(s: &[u8], at: usize) -> Byte
     }
 }
 
-// The bits of a number's first bytes: their value, how many bytes they take, the place after; or the bytes end before the
-// number does; or it goes on beyond them, with the value of their bits and the place after.
+// A number of one byte and the place after it. Or the bits of a number's first bytes: their value, how many bytes they take, the
+// place after; or the bytes end before the number does; or it goes on beyond them, with the value of their bits and the place
+// after.
 pub enum Leb {
+    One(u64, usize),
     Bits(u64, u64, usize),
     Cut,
     Long(u64, usize),
@@ -84,7 +90,7 @@ fn leb_loop(s: &[u8], at: usize, first: u64, most: u64) -> Leb
     Leb::Long(value, next)
 }
 
-// Most numbers are one byte: that case first, the loop for all others.
+// Most numbers are one byte: that case first, the loop for all others. One byte is never to spare.
 fn leb_at(s: &[u8], at: usize, most: u64) -> Leb
     requires { ⌜ MostBytes most ⌝ }
     ensures { λ r. ⌜ BitsRead most (now (s .entry)) at r ⌝ }
@@ -94,7 +100,7 @@ fn leb_at(s: &[u8], at: usize, most: u64) -> Leb
         return Leb::Cut;
     };
     if b < TWO_BYTES {
-        return Leb::Bits(b, 1, at + 1);
+        return Leb::One(b, at + 1);
     }
     leb_loop(s, at, b, most)
 }
@@ -154,6 +160,7 @@ pub fn u32_at(s: &[u8], at: usize) -> Natural
 {
     let read = leb_at(s, at, FIVE);
     match read {
+        Leb::One(value, next) => Natural::Is(value, next),
         Leb::Bits(value, count, next) => natural_of(value, count, next, at),
         Leb::Cut => Natural::Refused(refusals::BYTES_END, at),
         Leb::Long(_, _) => Natural::Refused(refusals::BAD_NUMBER, at),
@@ -208,12 +215,24 @@ fn signed_of(value: u64, count: u64, next: usize, at: usize, half: u64) -> Integ
     Integer::Refused(refusals::BAD_NUMBER, at)
 }
 
+// One byte as a whole number: its highest bit is the sign.
+fn signed_byte(b: u64, next: usize) -> Integer
+    requires { ⌜ b < 2 ^ 7 ⌝ }
+    ensures { λ r. ⌜ r ≡ integerIs (got (signed-of b 1) next) ⌝ }
+{
+    if b < SIGN {
+        return Integer::Plus(b, next);
+    }
+    Integer::Minus(TWO_BYTES - b, next)
+}
+
 // A whole number of a width of five bytes, in the range from -half up to half.
 fn signed_at(s: &[u8], at: usize, half: u64) -> Integer
     ensures { λ r. ⌜ SignedRead (now (s .entry)) at half r ⌝ }
 {
     let read = leb_at(s, at, FIVE);
     match read {
+        Leb::One(b, next) => signed_byte(b, next),
         Leb::Bits(value, count, next) => signed_of(value, count, next, at, half),
         Leb::Cut => Integer::Refused(refusals::BYTES_END, at),
         Leb::Long(_, _) => Integer::Refused(refusals::BAD_NUMBER, at),
@@ -256,6 +275,7 @@ pub fn s64_at(s: &[u8], at: usize) -> Integer
 {
     let read = leb_at(s, at, NINE);
     match read {
+        Leb::One(b, next) => signed_byte(b, next),
         Leb::Bits(value, count, next) => signed_of(value, count, next, at, S64_HALF),
         Leb::Cut => Integer::Refused(refusals::BYTES_END, at),
         Leb::Long(low, next) => tenth_at(s, at, low, next),
