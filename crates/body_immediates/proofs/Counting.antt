@@ -11,13 +11,12 @@ use Rattle.number.specs.declared.Natural
 use Rattle.number.specs.declared.Integer.{Integer}
 use Rattle.number.specs.declared.Integer
 use Rattle.number.specs.Answers.{naturalIs, FloatRead, integerIs}
-use Rattle.number.proofs.Laws.{natural-got, natural-refused, integer-plus, integer-minus, integer-refused, signed-small, signed-least}
+use Rattle.number.proofs.Laws.{natural-got, natural-refused, integer-plus, integer-minus, integer-refused, signed-small, signed-least, signed-more}
 use Rattle.type_table.specs.Kept.{kept}
 use Rattle.body_immediates.specs.declared.Instruction.{Instruction}
 use Rattle.body_immediates.specs.declared.Instruction
 use Rattle.body_immediates.specs.declared.InstructionRead.{InstructionRead}
 use Rattle.body_immediates.specs.declared.InstructionRead
-use Rattle.body_immediates.proofs.Signs.{signed-more}
 use Rattle.body_immediates.specs.Coding.{operationOf, instructionOf, instructionIs, numbered, numberedAt, constantAt, wideAt, float32ConstAt, float64ConstAt, typed, typedAt, fieldedAt}
 
 -- numbered_at

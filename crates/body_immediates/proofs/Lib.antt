@@ -1,4 +1,3 @@
-pub mod Signs
 pub mod Counting
 pub mod Typing
 pub mod Laws

@@ -1,92 +1,29 @@
--- Every instruction that is read is proper. A number of k bytes of seven bits is below 2 ^ (7 k), so one below zero is not
--- minus 0, and its pattern fits; a float's n bytes are below 256 ^ n; a numeric code is read where the ranges know it, and so it
+-- Every instruction that is read is proper. A number below zero is not minus 0, so its pattern fits; a float's n bytes are below 256 ^ n; a numeric code is read where the ranges know it, and so it
 -- is in the list. All other rows of the two tables of codes have nothing to show.
-use Prim.Native.Nat.{ℕ, zero, suc, _+_, _-_, _*_, _^_, _%_, _<_, _≤_}
+use Prim.Native.Nat.{ℕ, zero, suc, _+_, _-_, _*_, _^_, _<_}
 use native.Mathlib.Omega.{arith}
-use native.Mathlib.Nat.{pow-suc, mod-lt}
-use lib.Pow.{pow-add}
-use mathlib.Core.Path.{_≡_, refl, ap, _∙_, subst}
-use mathlib.Core.Bool.{Bool, true, false, cond, _&&_}
+use native.Mathlib.Nat.{pow-suc}
+use mathlib.Core.Path.{_≡_, refl, subst}
+use mathlib.Core.Bool.{Bool, true, false, cond}
 use mathlib.Core.Option.{Option, none, some}
 use mathlib.Core.List.{List, [], _∷_}
 use lib.ListN.{getElem?}
-use lib.Dec.{eqb, ltb, lit<}
-use borrow.Author.Tests.{ltb-true, leb-true}
+use lib.Dec.{eqb}
 use Rattle.scope.specs.Reading.{Read, got, refused, Reader, given, onByte}
-use Rattle.scope.specs.Refusals.{bytesEnd, badNumber, padded}
-use Rattle.scope.specs.Numbers.{Bits, bits, cut, long, under, bitsAt, greatestLength, unlessPadded, inRange, Whole, plus, minus, signed-of, withinSigned, signed, bits32, bits64, littleEndian, floatBytes, u32, s32, s64, float32, float64}
+use Rattle.scope.specs.Refusals.{bytesEnd}
+use Rattle.scope.specs.Numbers.{Whole, bits32, bits64, littleEndian, floatBytes, u32, s32, s64, float32, float64}
 use Rattle.scope.specs.Syntax.{Val}
 use Rattle.scope.specs.Sections.{heapAt}
 use Rattle.scope.specs.Numeric.{Numeric, numericOf}
 use Rattle.scope.specs.Instructions.{Op, i32-const, i64-const, f32-const, f64-const, numeric, Instr, bare, having, havingTwo, blockTypeAt, castAt, opening, closing, firstBytes, afterFB, find, instrAt}
 use Rattle.scope.proofs.Impossible.{impossible}
+use Rattle.scope.proofs.WholeNumbers.{Within, above-zero, below-zero, signed-within}
 use Rattle.scope.proofs.Telling.{Gives, gives-this, gives-nothing, gives-then, gives-either}
 use Rattle.facts_codes.specs.Numeric.{code}
 use Rattle.facts_codes.specs.Proper.{AreBytes, CodeListed, code-listed, ProperOp, Proper}
 use Rattle.facts_codes.proofs.Numeric.{numeric-listed}
 
 -- numbers
-
-data Small : Bits → Type 0 where
-  is-small : {v k next : ℕ} → v < 2 ^ (7 * k) → Small (bits v k next)
-  is-cut : Small cut
-  is-long : Small long
-
-small-under : (b : ℕ) {r : Bits} → Small r → Small (under b r)
-small-under b (is-small {v = v} {k = k} l) =
-    let seven : 2 ^ (7 * (k + 1)) ≡ 2 ^ (7 * k) * 2 ^ 7 = ap (λ (n : ℕ). 2 ^ n) (let e : 7 * (k + 1) ≡ 7 * k + 7 = omega arith in e) ∙ pow-add 2 (7 * k) 7 in
-    is-small {v = b % 128 + 128 * v} {k = k + 1} (rw seven (below (2 ^ (7 * k)) l))
-  where
-    below : (w : ℕ) → v < w → b % 128 + 128 * v < w * 128
-    below w l = let low : b % 128 < 128 = mod-lt b (lit< tt) in omega arith
-small-under b is-cut = is-cut
-small-under b is-long = is-long
-
-module _ (s : List ℕ) where
-  small-first : (at : ℕ) {more : ℕ → Bits} → ((b : ℕ) → Small (more b)) → Small (given (getElem? s at) cut (λ b. cond (ltb b 128) (bits b 1 (at + 1)) (more b)))
-  small-first at {more} k = go (getElem? s at)
-    where
-      test : (b : ℕ) (t : Bool) → ltb b 128 ≡ t → Small (more b) → Small (cond t (bits b 1 (at + 1)) (more b))
-      test b true e later = is-small (ltb-true b 128 e)
-      test b false e later = later
-
-      go : (o : Option ℕ) → Small (given o cut (λ b. cond (ltb b 128) (bits b 1 (at + 1)) (more b)))
-      go none = is-cut
-      go (some b) = test b (ltb b 128) refl (k b)
-
-  bits-small : (room at : ℕ) → Small (bitsAt room s at)
-  unfolding bitsAt
-  bits-small zero at = is-long
-  bits-small (suc room) at = small-first at (λ b. small-under b (bits-small room (at + 1)))
-
--- a whole number that is in range, and is not minus 0
-data Within (width : ℕ) : Whole → Type 0 where
-  above-zero : {v : ℕ} → v < 2 ^ (width - 1) → Within width (plus v)
-  below-zero : {v : ℕ} → 0 < v → v ≤ 2 ^ (width - 1) → Within width (minus v)
-
-range-within : (width at : ℕ) {r : Bits} → Small r → Gives (Within width) (inRange width at r signed-of withinSigned)
-range-within width at is-cut = gives-nothing
-range-within width at is-long = gives-nothing
-range-within width at (is-small {v = v} {k = k} {next = next} h) = go (ltb v (2 ^ (7 * k - 1))) refl
-  where
-    ranged : (t spare : Bool) (w : Whole) → (t ≡ true → Within width w) → Gives (Within width) (cond t (cond spare (refused padded at) (got w next)) (refused badNumber at))
-    ranged true true w k = gives-nothing
-    ranged true false w k = gives-this (k refl)
-    ranged false spare w k = gives-nothing
-
-    positive : (u w : ℕ) → u < w → 0 < w - u
-    positive u w h = omega arith
-
-    go : (t : Bool) → ltb v (2 ^ (7 * k - 1)) ≡ t
-        → Gives (Within width) (let w = cond t (plus v) (minus (2 ^ (7 * k) - v)) in cond (withinSigned width w) (unlessPadded at k next withinSigned w) (refused badNumber at))
-    go true e = ranged (withinSigned width (plus v)) (ltb 1 k && withinSigned (7 * (k - 1)) (plus v)) (plus v) (λ f. above-zero (ltb-true v _ f))
-    go false e =
-        let lacks = minus (2 ^ (7 * k) - v) in
-        ranged (withinSigned width lacks) (ltb 1 k && withinSigned (7 * (k - 1)) lacks) lacks (λ f. below-zero (positive v (2 ^ (7 * k)) h) (leb-true _ _ f))
-
-signed-within : (s : List ℕ) (width at : ℕ) → Gives (Within width) (signed width s at)
-unfolding signed
-signed-within s width at = range-within width at (bits-small s (greatestLength width) at)
 
 fits-32 : {w : Whole} → Within 32 w → bits32 w < 2 ^ 32
 fits-32 (above-zero h) = omega arith

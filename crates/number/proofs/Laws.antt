@@ -5,10 +5,11 @@ use mathlib.Core.Bool.{Bool, true, false, cond, _&&_}
 use mathlib.Core.List.{List}
 use lib.ListN.{length}
 use lib.Dec.{ltb}
-use borrow.Author.Tests.{ltb-true, leb-true}
+use borrow.Author.Tests.{ltb-true}
 use Rattle.scope.specs.Refusals.{badNumber, padded}
 use Rattle.scope.specs.Reading.{Read, got, refused}
-use Rattle.scope.specs.Numbers.{Bits, bits, cut, long, bitsAt, greatestLength, inRange, withinUnsigned, Whole, plus, minus, signed-of, withinSigned, unsigned, signed, u32, s33}
+use Rattle.scope.specs.Numbers.{Bits, bits, cut, long, bitsAt, greatestLength, inRange, withinUnsigned, Whole, plus, minus, unsigned, signed, u32, s33}
+use Rattle.scope.proofs.WholeNumbers.{Within, above-zero, below-zero, signed-within}
 use Rattle.scope.proofs.Forward.{unsigned-takes, signed-takes, never-back}
 use Rattle.scope.proofs.Impossible.{impossible}
 use Rattle.number.specs.declared.Natural.{Natural}
@@ -44,27 +45,38 @@ integer-refused (refused m k) p q = cc
 
 -- what was read is in the range of its width
 
-range-kept : {A : Type 0} (width at : ℕ) (r : Bits) (value : ℕ → ℕ → A) (holds : ℕ → A → Bool) {x : A} {next : ℕ} → inRange width at r value holds ≡ got x next → holds width x ≡ true
-range-kept width at cut value holds e = impossible cc
-range-kept width at long value holds e = impossible cc
-range-kept {A} width at (bits v k n) value holds {x} {next} e = go (holds width (value v k)) refl (ltb 1 k && holds (7 * (k - 1)) (value v k)) e
+range-kept : (width at : ℕ) (r : Bits) {x next : ℕ} → inRange width at r (λ u k. u) withinUnsigned ≡ got x next → x < 2 ^ width
+range-kept width at cut e = impossible cc
+range-kept width at long e = impossible cc
+range-kept width at (bits v k n) {x} {next} e = go (ltb v (2 ^ width)) refl (ltb 1 k && ltb v (2 ^ (7 * (k - 1)))) e
   where
-    go : (t : Bool) → holds width (value v k) ≡ t → (spare : Bool) → cond t (cond spare (refused padded at) (got (value v k) n)) (refused badNumber at) ≡ got x next → holds width x ≡ true
+    go : (t : Bool) → ltb v (2 ^ width) ≡ t → (spare : Bool) → cond t (cond spare (refused padded at) (got v n)) (refused badNumber at) ≡ got x next → x < 2 ^ width
     go true p true q = impossible cc
-    go true p false q = let same : value v k ≡ x = cc in rw same at p
+    go true p false q = let same : v ≡ x = cc in rw same at (ltb-true v (2 ^ width) p)
     go false p spare q = impossible cc
 
 pub unsigned-small : (width : ℕ) (s : List ℕ) (at : ℕ) {v next : ℕ} → unsigned width s at ≡ got v next → v < 2 ^ width
 unfolding unsigned
-unsigned-small width s at {v} e = ltb-true v (2 ^ width) (range-kept width at (bitsAt (greatestLength width) s at) (λ u k. u) withinUnsigned e)
+unsigned-small width s at e = range-kept width at (bitsAt (greatestLength width) s at) e
 
-pub signed-small : (width : ℕ) (s : List ℕ) (at : ℕ) {v next : ℕ} → signed width s at ≡ got (plus v) next → v < 2 ^ (width - 1)
-unfolding signed
-signed-small width s at {v} e = ltb-true v (2 ^ (width - 1)) (range-kept width at (bitsAt (greatestLength width) s at) signed-of withinSigned e)
+module _ (width : ℕ) (s : List ℕ) (at : ℕ) {v next : ℕ} where
+  pub signed-small : signed width s at ≡ got (plus v) next → v < 2 ^ (width - 1)
+  signed-small e = go (signed-within s width at .tells (plus v) next e)
+    where
+      go : Within width (plus v) → v < 2 ^ (width - 1)
+      go (above-zero h) = h
 
-pub signed-least : (width : ℕ) (s : List ℕ) (at : ℕ) {v next : ℕ} → signed width s at ≡ got (minus v) next → v ≤ 2 ^ (width - 1)
-unfolding signed
-signed-least width s at {v} e = leb-true v (2 ^ (width - 1)) (range-kept width at (bitsAt (greatestLength width) s at) signed-of withinSigned e)
+  pub signed-least : signed width s at ≡ got (minus v) next → v ≤ 2 ^ (width - 1)
+  signed-least e = go (signed-within s width at .tells (minus v) next e)
+    where
+      go : Within width (minus v) → v ≤ 2 ^ (width - 1)
+      go (below-zero some h) = h
+
+  pub signed-more : signed width s at ≡ got (minus v) next → 0 < v
+  signed-more e = go (signed-within s width at .tells (minus v) next e)
+    where
+      go : Within width (minus v) → 0 < v
+      go (below-zero some h) = some
 
 -- a number read by `u32_at`, and a type number read by `s33_at`
 

@@ -15,6 +15,7 @@ pub mod Stores
 pub mod HeapLaws
 pub mod Descent
 pub mod Telling
+pub mod WholeNumbers
 pub mod Taking
 pub mod Standing
 pub mod Branching
