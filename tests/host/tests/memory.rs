@@ -35,11 +35,9 @@ const RULE_5: [u8; 18] = [
 
 /// A section for each refusal that a section can have, and accepted ones from the shortest to the longest.
 fn sections() -> Vec<(Vec<u8>, Answer)> {
-    let groups = |count: u16| {
-        vec![(count & 0x7F) as u8 | 0x80, (count >> 7 & 0x7F) as u8 | 0x80, (count >> 14) as u8]
-    };
-    let longest = [groups(16_382), [0x4E, 0x00].repeat(16_382), vec![]].concat();
-    assert_eq!(longest.len(), 32_767);
+    // 16,383 empty groups: a count of two bytes, as it needs them
+    let longest = [vec![0xFF, 0x7F], [0x4E, 0x00].repeat(16_383)].concat();
+    assert_eq!(longest.len(), 32_768);
     let fields =
         |count: usize| [vec![0x01, 0x5F, count as u8], [0x7F, 0x01].repeat(count)].concat();
     vec![
@@ -50,9 +48,10 @@ fn sections() -> Vec<(Vec<u8>, Answer)> {
         (longest.clone(), Answer::Count(0)),
         (vec![], Answer::No(1, 0)),
         (vec![0x80, 0x80, 0x80, 0x80, 0x80], Answer::No(2, 0)),
+        (vec![0x80, 0x00], Answer::No(32, 0)),
         (vec![0x01, 0x65], Answer::No(3, 1)),
         (fields(65), Answer::No(4, 131)),
-        ([longest, vec![0x00; 2]].concat(), Answer::No(4, 0)),
+        ([longest, vec![0x00]].concat(), Answer::No(4, 0)),
         (vec![0x00, 0x00], Answer::No(5, 1)),
         (vec![0x01, 0x5F, 0x01, 0x63, 0x09, 0x00], Answer::No(6, 0)),
         (vec![0x02, 0x5F, 0x00, 0x4F, 0x01, 0x00, 0x5F, 0x00], Answer::No(7, 1)),
