@@ -5,7 +5,7 @@ use Prim.Native.Nat.{ℕ, zero, suc, _+_, _≤_}
 use native.Mathlib.Omega.{arith}
 use mathlib.Core.Path.{_≡_, refl, sym, _∙_, ap, subst}
 use mathlib.Core.Logic.{_↔_}
-use mathlib.Core.Bool.{Bool, true, false, cond, false≢true}
+use mathlib.Core.Bool.{Bool, true, false}
 use mathlib.Core.Option.{none}
 use mathlib.Core.List.{List, [], _∷_, map}
 use lib.ListN.{length, getElem?}
@@ -15,109 +15,29 @@ use Rattle.scope.specs.Sizes.{mostOperands}
 use Rattle.scope.specs.Refusals.{bytesEnd, badOperand, onlyNull, oversize, valuesLeft}
 use Rattle.scope.specs.Reading.{Read, got, refused, then}
 use Rattle.scope.specs.Lists.{joined}
-use Rattle.scope.specs.Syntax.{Val, num, ref, nullable, nonNull, Types}
-use Rattle.scope.specs.Order.{Fit, itFits, butForNull, unfit}
+use Rattle.scope.specs.Syntax.{Val}
 use Rattle.scope.specs.TypeRules.{valNames}
 use Rattle.scope.specs.Instructions.{Op, Instr, block, loop, end, op, instrAt}
 use Rattle.scope.specs.BodyRules.{Context, Wanted, Plan, Ruled, allowed, fault, andRuled, fromTop, reached, planOf}
-use Rattle.scope.specs.Bodies.{Operand, known, unknown, unknownReference, fits, nonNullOf, fit, operandTest, Taken, alsoTaken, takeAll, put, Frame, ofBlock, ofLoop, State, scopeOf, operandsIn, Next, goesOn, finished, afterPlan, doPlan, entered, noneLeft, judgeEnd, judgeInstr, Code, onRuled, onNext, judgeFrom}
+use Rattle.scope.specs.Bodies.{Operand, Taken, takeAll, put, Frame, ofBlock, ofLoop, State, scopeOf, operandsIn, Next, goesOn, finished, afterPlan, doPlan, entered, noneLeft, judgeEnd, judgeInstr, Code, onRuled, onNext, judgeFrom}
 use Rattle.scope.proofs.Impossible.{contradiction}
 use Rattle.scope.proofs.Forward.{never-back}
 use Rattle.scope.proofs.ForwardBodies.{instr-takes}
 use Rattle.facts_sections.specs.FirstFault as rules
 use Rattle.facts_sections.specs.FirstFault.{all-kept, kept-and, FirstBroken, broken, kept-then}
-use Rattle.facts_bodies.specs.Premises.{Meets, Takes, Puts}
+use Rattle.facts_bodies.specs.Premises.{Takes, Puts}
 use Rattle.facts_bodies.specs.Rules.{Rule}
 use Rattle.facts_bodies.specs.Typing.{passed, stopped, pastBlock, Roomy, Results, TypedInstr, InstrsAt, no-instr, next-instr}
 use Rattle.facts_bodies.proofs.Ruled.{fault-is-not-allowed, same-allowed}
-use Rattle.facts_bodies.proofs.Premises.{Ordered, tested-values-reached, values-reached-tested, tested-meets, meets-tested}
+use Rattle.facts_bodies.proofs.Premises.{Ordered, tested-values-reached, values-reached-tested}
 use Rattle.facts_bodies.proofs.Planned.{planned-rule}
 use Rattle.facts_bodies.proofs.Derived.{derived-plan}
 use Rattle.facts_bodies.proofs.Stack.{allowed-takes, takes-allowed, rule-puts, puts-put}
 use Rattle.facts_bodies.proofs.Steps.{few-roomy, roomy-few, allowed-typed, typed-allowed}
-use Rattle.facts_refusals.specs.Bodies.{ButForNull, but-for-null, NullFirst, null-here, null-below, NoNullAtEnd, NoNull, CanTake, can-take, OperandsThere, operands-there, Operands, Room, resultsOf, RoomPast, past-body, past-block, past-loop, openRules, conditions, TypedUpTo, none-yet, then-next, FaultAt, in-bytes, in-instruction, FirstFaulty}
+use Rattle.facts_refusals.specs.Bodies.{NullFirst, NoNullAtEnd, NoNull, CanTake, can-take, OperandsThere, operands-there, Operands, Room, resultsOf, RoomPast, past-body, past-block, past-loop, openRules, conditions, TypedUpTo, none-yet, then-next, FaultAt, in-bytes, in-instruction, FirstFaulty}
 use Rattle.facts_refusals.proofs.Judged.{Judges, says-yes, says-no, nothing-asked, judges-test, judges-and, fault-exactly}
 use Rattle.facts_refusals.proofs.Asked.{plan-asked}
-
--- what is not taken is 31 or 20, by the first operand at fault
-
-module _ {ts : Types} (ordered : Ordered ts) where
-  -- the outcome of one operand, by the relation
-  data Outcome (o : Operand) (w : Wanted) : Fit → Type 0 where
-    it-meets : Meets ts o w → Outcome o w itFits
-    null-alone : ButForNull ts o w → Outcome o w butForNull
-    no-way : ¬ Meets ts o w → ¬ ButForNull ts o w → Outcome o w unfit
-
-  not-met : (o : Operand) (w : Wanted) → fits ts o w ≡ false → ¬ Meets ts o w
-  not-met o w e m = false≢true (sym e ∙ meets-tested ordered m)
-
-  -- made non-null, only a nullable reference becomes another operand
-  null-only : (o : Operand) (w : Wanted) → fits ts o w ≡ false → fits ts (nonNullOf o) w ≡ true → ButForNull ts o w
-  unfolding fits
-  null-only (known (num n)) w e f = absurd (false≢true (sym e ∙ f))
-  null-only (known (ref true h)) w e f = but-for-null (not-met (known (nullable h)) w e) (tested-meets ts (known (nonNull h)) w f)
-  null-only (known (ref false h)) w e f = absurd (false≢true (sym e ∙ f))
-  null-only unknown w e f = absurd (false≢true (sym e))
-  null-only unknownReference w e f = absurd (false≢true (sym e ∙ f))
-
-  not-null-only : (o : Operand) (w : Wanted) → fits ts (nonNullOf o) w ≡ false → ¬ ButForNull ts o w
-  not-null-only (known (ref true h)) w f (but-for-null no′ yes′) = false≢true (sym f ∙ meets-tested ordered yes′)
-
-  outcome : (o : Operand) (w : Wanted) → Outcome o w (fit ts o w)
-  unfolding fit
-  outcome o w = go (fits ts o w) (fits ts (nonNullOf o) w) refl refl
-    where
-      go : (b c : Bool) → fits ts o w ≡ b → fits ts (nonNullOf o) w ≡ c → Outcome o w (cond b itFits (cond c butForNull unfit))
-      go true c e f = it-meets (tested-meets ts o w e)
-      go false true e f = null-alone (null-only o w e f)
-      go false false e f = no-way (not-met o w e) (not-null-only o w f)
-
-  data TakenOr (ws : List Wanted) (os : List Operand) : Ruled Taken → Type 0 where
-    taken-so : {t : Taken} → (NullFirst ts ws os → ⊥) → TakenOr ws os (allowed t)
-    thirty-one : NullFirst ts ws os → TakenOr ws os (fault onlyNull)
-    twenty : (NullFirst ts ws os → ⊥) → TakenOr ws os (fault badOperand)
-
-  no-null-below : {w : Wanted} {ws : List Wanted} {o : Operand} {os : List Operand} → Meets ts o w → (NullFirst ts ws os → ⊥) → NullFirst ts (w ∷ ws) (o ∷ os) → ⊥
-  no-null-below m none-of (null-here (but-for-null no′ yes′)) = no′ m
-  no-null-below m none-of (null-below n more) = none-of more
-
-  no-null-unfit : {w : Wanted} {ws : List Wanted} {o : Operand} {os : List Operand} → ¬ Meets ts o w → ¬ ButForNull ts o w → NullFirst ts (w ∷ ws) (o ∷ os) → ⊥
-  no-null-unfit no′ other (null-here b) = other b
-  no-null-unfit no′ other (null-below m more) = no′ m
-
-  also-or : {w : Wanted} {ws : List Wanted} {o : Operand} {os : List Operand} (f : Taken → Taken) {r : Ruled Taken} → Meets ts o w → TakenOr ws os r → TakenOr (w ∷ ws) (o ∷ os) (andRuled r (λ t. allowed (f t)))
-  also-or f m (taken-so none-of) = taken-so (no-null-below m none-of)
-  also-or f m (thirty-one n) = thirty-one (null-below m n)
-  also-or f m (twenty none-of) = twenty (no-null-below m none-of)
-
-  -- such an operand is there, and is asked for
-  there-some : {ws : List Wanted} {os : List Operand} → NullFirst ts ws os → os ≡ [] → ⊥
-  there-some (null-here b) e = contradiction cc
-  there-some (null-below m more) e = contradiction cc
-
-  asked-some : {ws : List Wanted} {os : List Operand} → NullFirst ts ws os → ws ≡ [] → ⊥
-  asked-some (null-here b) e = contradiction cc
-  asked-some (null-below m more) e = contradiction cc
-
-  nothing-there : {ws : List Wanted} → NullFirst ts ws [] → ⊥
-  nothing-there n = there-some n refl
-
-  unknowns-or : (ws : List Wanted) (f : Taken → Taken) {r : Ruled Taken} → TakenOr ws [] r → {w : Wanted} → TakenOr (w ∷ ws) [] (andRuled r (λ t. allowed (f t)))
-  unknowns-or ws f (taken-so none-of) = taken-so nothing-there
-  unknowns-or ws f (thirty-one n) = absurd (nothing-there n)
-  unknowns-or ws f (twenty none-of) = twenty nothing-there
-
-  take-or : (dead : Bool) (ws : List Wanted) (os : List Operand) → TakenOr ws os (takeAll ts dead ws os)
-  unfolding takeAll
-  take-or dead [] os = taken-so (λ n. asked-some n refl)
-  take-or true (w ∷ ws) [] = unknowns-or ws (alsoTaken unknown) (take-or true ws [])
-  take-or false (w ∷ ws) [] = twenty nothing-there
-  take-or dead (w ∷ ws) (o ∷ os) = go (fit ts o w) (outcome o w) (take-or dead ws os)
-    where
-      go : (f : Fit) → Outcome o w f → TakenOr ws os (takeAll ts dead ws os) → TakenOr (w ∷ ws) (o ∷ os) (operandTest f (andRuled (takeAll ts dead ws os) (λ t. allowed (alsoTaken o t))))
-      go itFits (it-meets m) later = also-or (alsoTaken o) m later
-      go butForNull (null-alone b) later = thirty-one (null-here b)
-      go unfit (no-way no′ other) later = twenty (no-null-unfit no′ other)
+use Rattle.facts_refusals.proofs.OperandFaults.{TakenOr, take-or, taken-so, thirty-one, twenty}
 
 module _ (c : Context) (st : State) (ordered : Ordered (c .types)) where
   -- a test of the operands and what follows it
