@@ -4,7 +4,7 @@ use Prim.Native.Nat.{ℕ}
 use mathlib.Core.Bool.{Bool}
 use mathlib.Core.List.{List, [], _∷_, _++_}
 use lib.ListN.{take}
-use Rattle.facts_examples.specs.Words.{sectionWords, bodyWords, runWords, sameWords}
+use Rattle.facts_words.specs.Words.{sectionWords, bodyWords, runWords, sameWords}
 
 -- what is asked: a section; a body of a type of a section; a run of such a body with a budget
 pub data Question : Type 0 where

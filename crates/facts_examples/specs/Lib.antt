@@ -1,3 +1,4 @@
-pub mod Words
+pub mod Pieces
 pub mod Cases
 pub mod Pinned
+pub mod FaultCases

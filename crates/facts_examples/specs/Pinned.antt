@@ -1,13 +1,13 @@
 -- Examples that pin a definition down where a slip in it would agree with the code's own contract: the sizes on both sides, one
 -- reading of each code that could be taken for its neighbour, and places that other examples reach thinly. Each answer was worked
--- out from document 01. Refusals are 0, number, place; other answers as in specs/Words.antt.
+-- out from document 01. Refusals are 0, number, place; other answers as in facts_words.
 use Prim.Native.Nat.{ℕ}
 use mathlib.Core.Bool.{Bool}
 use mathlib.Core.List.{List, [], _∷_, _++_}
-use lib.ListN.{take, drop, replicate}
-use Rattle.scope.specs.Lists.{joined}
+use lib.ListN.{take, drop}
+use Rattle.facts_examples.specs.Pieces.{times}
 use Rattle.facts_examples.specs.Cases.{refusal, toNothing}
-use Rattle.facts_examples.specs.Words.{sectionWords, typeWords, bodyWords, runWords, sameWords}
+use Rattle.facts_words.specs.Words.{sectionWords, typeWords, bodyWords, runWords, sameWords}
 
 pub record Pin : Type 0 where
   pub computed : List ℕ
@@ -15,9 +15,6 @@ pub record Pin : Type 0 where
 
 abbrev pub holds : Pin → Bool
 holds p = sameWords (p .computed) (p .says)
-
-abbrev pub times : ℕ → List ℕ → List ℕ
-times n piece = joined (replicate n piece)
 
 abbrev pub counted : ℕ → List ℕ
 counted n = 1 ∷ n ∷ []
@@ -33,12 +30,10 @@ sizes =
     -- 64 frames, the function's own counted; the 65th is refused at its block
     record { computed = bodyWords toNothing 0 ((0x00 ∷ []) ++ times 63 (0x02 ∷ 0x40 ∷ []) ++ times 64 (0x0B ∷ [])); says = counted 127 }
     ∷ record { computed = bodyWords toNothing 0 ((0x00 ∷ []) ++ times 64 (0x02 ∷ 0x40 ∷ []) ++ times 65 (0x0B ∷ [])); says = refusal 4 127 }
-    -- 512 operands; the 513th is refused
-    ∷ record { computed = bodyWords toNothing 0 ((0x00 ∷ []) ++ times 512 (0x41 ∷ 0x00 ∷ []) ++ (0x00 ∷ 0x0B ∷ [])); says = counted 514 }
+    -- 512 operands: the 513th is refused, at its own place, so those before it were let in
     ∷ record { computed = bodyWords toNothing 0 ((0x00 ∷ []) ++ times 513 (0x41 ∷ 0x00 ∷ []) ++ (0x00 ∷ 0x0B ∷ [])); says = refusal 4 1_025 }
-    -- and they are counted in all frames: 256 around a block, the 257th inside it is refused
+    -- and they are counted in all frames: of 256 around a block and 257 inside it the last is refused
     ∷ record { computed = bodyWords toNothing 0 ((0x00 ∷ []) ++ times 256 (0x41 ∷ 0x00 ∷ []) ++ (0x02 ∷ 0x40 ∷ []) ++ times 257 (0x41 ∷ 0x00 ∷ []) ++ (0x00 ∷ 0x0B ∷ 0x00 ∷ 0x0B ∷ [])); says = refusal 4 1_027 }
-    ∷ record { computed = bodyWords toNothing 0 ((0x00 ∷ []) ++ times 256 (0x41 ∷ 0x00 ∷ []) ++ (0x02 ∷ 0x40 ∷ []) ++ times 256 (0x41 ∷ 0x00 ∷ []) ++ (0x00 ∷ 0x0B ∷ 0x00 ∷ 0x0B ∷ [])); says = counted 517 }
     -- 256 locals; the entry with the 257th is refused at its first byte
     ∷ record { computed = bodyWords toNothing 0 (0x01 ∷ 0x80 ∷ 0x02 ∷ 0x7F ∷ 0x0B ∷ []); says = counted 1 }
     ∷ record { computed = bodyWords toNothing 0 (0x01 ∷ 0x81 ∷ 0x02 ∷ 0x7F ∷ 0x0B ∷ []); says = refusal 4 1 }

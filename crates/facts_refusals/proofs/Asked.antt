@@ -21,7 +21,7 @@ use Rattle.facts_codes.specs.Proper.{CodeListed, code-listed}
 use Rattle.facts_codes.proofs.Numeric.{listed-typed}
 use Rattle.facts_codes.proofs.Proper.{listed-at}
 use Rattle.facts_sections.specs.FirstFault.{Rule}
-use Rattle.facts_sections.specs.TypeRelations.{IsStruct, a-struct}
+use Rattle.facts_types.specs.TypeRelations.{IsStruct, a-struct}
 use Rattle.facts_bodies.specs.Premises.{Each, of-none, of-first, HeapReached, Default}
 use Rattle.facts_bodies.proofs.Premises.{same-some, allBelow, every-append, append-every, tested-number-reached, number-reached-tested, tested-heap-reached, heap-reached-tested, tested-defaults, defaults-tested, tested-set, set-tested, has-fields, has-none, tested-cast-takes, cast-takes-tested, found-last, last-found, Ordered}
 use Rattle.facts_bodies.proofs.Hierarchies.{tested-shares, shares-tested}

@@ -15,7 +15,7 @@ use Rattle.scope.specs.Order.{ValOrder}
 use Rattle.scope.specs.Instructions.{Cast, Op, unreachable, nop, return, drop-value, br, br-if, local-get, local-set, local-tee, i32-const, i64-const, f32-const, f64-const, numeric, ref-null, ref-is-null, ref-eq, ref-as-non-null, struct-new, struct-new-default, struct-get, struct-set, ref-test, ref-cast, br-on-cast, br-on-cast-fail, struct-new-desc, struct-new-default-desc, ref-get-desc, ref-cast-desc-eq, br-on-cast-desc-eq, br-on-cast-desc-eq-fail}
 use Rattle.scope.specs.BodyRules.{Context, Scope, holdsOf, restOf}
 use Rattle.facts_sections.specs.FirstFault.{Rule}
-use Rattle.facts_sections.specs.TypeRelations.{IsStruct}
+use Rattle.facts_types.specs.TypeRelations.{IsStruct}
 use Rattle.facts_codes.specs.Proper.{CodeListed}
 use Rattle.facts_bodies.specs.Premises.{Each, HeapReached, Default, CastTakes}
 use Rattle.facts_bodies.specs.Apart.{castSource, castTarget, ShareSupertype}

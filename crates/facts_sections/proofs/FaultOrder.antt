@@ -23,11 +23,11 @@ use Rattle.scope.proofs.Truths.{none-is-not-some, decided}
 use Rattle.scope.proofs.Accepted.{scan-met-none}
 use Rattle.scope.proofs.Impossible.{contradiction, impossible}
 use Rattle.facts_sections.specs.FirstFault.{Rule, AllKept, all-kept, kept-and, FirstBroken, broken, kept-then, linkRules, typeRules, FirstAmong, FirstFault, in-links, in-rules, Refused, by-bytes, by-rules}
-use Rattle.facts_sections.proofs.OwnForms.{own-matches-say, own-matches-tested}
-use Rattle.facts_sections.proofs.Judge.{scan-accepts}
+use Rattle.facts_types.proofs.OwnForms.{own-matches-say, own-matches-tested}
+use Rattle.facts_types.proofs.Judge.{scan-accepts}
 use Rattle.facts_sections.proofs.SectionReading.{section-found, section-read}
-use Rattle.facts_sections.proofs.Named.{reach-says, reach-tested}
-use Rattle.facts_sections.proofs.Rules.{supertypes-say, supertypes-tested, chain-says, chain-tested, on-struct-says, on-struct-tested, earlier-says, earlier-tested, agree-says, agree-tested, descriptors-say, descriptors-tested, describes-say, describes-tested}
+use Rattle.facts_types.proofs.Named.{reach-says, reach-tested}
+use Rattle.facts_types.proofs.Rules.{supertypes-say, supertypes-tested, chain-says, chain-tested, on-struct-says, on-struct-tested, earlier-says, earlier-tested, agree-says, agree-tested, descriptors-say, descriptors-tested, describes-say, describes-tested}
 
 -- Tests that decide rules
 

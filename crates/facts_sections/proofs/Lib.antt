@@ -1,9 +1,3 @@
-pub mod Tests
-pub mod Named
-pub mod Rules
-pub mod TenTypes
-pub mod OwnForms
-pub mod Judge
 pub mod Between
 pub mod Readers
 pub mod NumberKinds
@@ -18,5 +12,3 @@ pub mod Verdict
 pub mod Exactly
 pub mod Witness
 pub mod FaultOrder
-pub mod UnequalForms
-pub mod FirstFaults

@@ -10,8 +10,9 @@ use Rattle.scope.specs.Syntax.{Definition, Group, typesOf}
 use Rattle.scope.specs.Sections.{readSection}
 use Rattle.scope.specs.Judging.{Judged, accepted, rejected, andThen, judgeTypes, judgeRead, judgeSection}
 use Rattle.scope.proofs.Impossible.{impossible}
-use Rattle.facts_sections.specs.Allowed.{AllowedTypes, Allowed}
-use Rattle.facts_sections.proofs.Judge.{judged-allowed, allowed-judged}
+use Rattle.facts_types.specs.AllowedTypes.{AllowedTypes}
+use Rattle.facts_sections.specs.Allowed.{Allowed}
+use Rattle.facts_types.proofs.Judge.{judged-allowed, allowed-judged}
 use Rattle.facts_sections.proofs.SectionReading.{section-found, section-read}
 
 pub accepted-allowed : (s : List ℕ) (ds : List Definition) → judgeSection s ≡ accepted ds → Allowed s ds

@@ -3,17 +3,11 @@
 use Prim.Native.Nat.{ℕ}
 use mathlib.Core.Path.{_≡_}
 use mathlib.Core.List.{List}
-use lib.ListN.{length}
 use Rattle.scope.specs.Lists.{joined}
-use Rattle.scope.specs.Syntax.{Definition, Group, typesOf}
-use Rattle.facts_sections.specs.TypeRelations.{Valid}
-use Rattle.facts_sections.specs.WithinSizes.{ShortChains, WithinSizes}
+use Rattle.scope.specs.Syntax.{Definition, Group}
+use Rattle.facts_types.specs.AllowedTypes.{AllowedTypes}
+use Rattle.facts_sections.specs.WithinSizes.{WithinSizes}
 use Rattle.facts_sections.specs.Writing.{WritesSection}
-
--- of types by number: every one is valid, and none is more than 63 steps below another
-pub record AllowedTypes (ds : List Definition) : Type 0 where
-  pub valid : Valid (typesOf ds) (length ds)
-  pub chains : ShortChains (typesOf ds) (length ds)
 
 -- of a section: these bytes are a writing of these types
 pub record Allowed (s : List ℕ) (ds : List Definition) : Type 0 where

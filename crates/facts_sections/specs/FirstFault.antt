@@ -11,9 +11,10 @@ use Rattle.scope.specs.Reading.{refused}
 use Rattle.scope.specs.Refusals.{oversize, outOfReach, badSupertype, noMatch, clauseNotOnStruct, describesNotEarlier, clausesDisagree, badDescriptor, badDescribes}
 use Rattle.scope.specs.Syntax.{Group, Types, typesOf}
 use Rattle.scope.specs.Sections.{readSection}
-use Rattle.facts_sections.specs.TypeRelations.{InReach, SupertypesOf, OnStruct, DescribesEarlier, ClausesAgree, Descriptors, Described}
-use Rattle.facts_sections.specs.WithinSizes.{ShortChain, WithinSizes}
-use Rattle.facts_sections.specs.OwnForms.{OwnMatches}
+use Rattle.facts_types.specs.TypeRelations.{InReach, SupertypesOf, OnStruct, DescribesEarlier, ClausesAgree, Descriptors, Described}
+use Rattle.facts_types.specs.Chains.{ShortChain}
+use Rattle.facts_sections.specs.WithinSizes.{WithinSizes}
+use Rattle.facts_types.specs.OwnForms.{OwnMatches}
 use Rattle.facts_sections.specs.Writing.{WritesSection}
 
 -- what a rule says, and the number of its refusal

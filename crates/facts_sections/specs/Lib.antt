@@ -1,11 +1,7 @@
-pub mod TypeRelations
 pub mod WithinSizes
-pub mod TenTypes
-pub mod OwnForms
 pub mod Between
 pub mod Writing
 pub mod NumberFaults
 pub mod OneWriting
 pub mod Allowed
 pub mod FirstFault
-pub mod FaultCases

@@ -1,12 +1,11 @@
 -- Document 01's sizes that bear on a section, as relations over its syntax: 32,768 bytes; 256 types; 64 fields,
--- parameters or results each; 63 steps up a supertype chain.
-use Prim.Native.Nat.{ℕ, zero, suc, _<_, _≤_}
+-- parameters or results each. The chain's 63 steps stand in facts_types.
+use Prim.Native.Nat.{ℕ, _≤_}
 use mathlib.Core.List.{List, List·Memᴰ}
 use lib.ListN.{length}
-use Rattle.scope.specs.Sizes.{mostBytes, mostTypes, mostEach, mostSteps}
+use Rattle.scope.specs.Sizes.{mostBytes, mostTypes, mostEach}
 use Rattle.scope.specs.Lists.{joined}
-use Rattle.scope.specs.Syntax.{Val, Field, Form, struct, func, Definition, Group, Types}
-use Rattle.facts_sections.specs.TypeRelations.{Supertype}
+use Rattle.scope.specs.Syntax.{Val, Field, Form, struct, func, Definition, Group}
 
 -- every element of the list is such
 pub record Each {A : Type 0} (P : A → Type 0) (xs : List A) : Type 0 where
@@ -19,18 +18,6 @@ pub data FormFits : Form → Type 0 where
 
 abbrev pub DefinitionFits : Definition → Type 0
 DefinitionFits d = FormFits (d .form)
-
--- so many steps lead from x up to y
-pub data Steps (ts : Types) : ℕ → ℕ → ℕ → Type 0 where
-  stay : {x : ℕ} → Steps ts zero x x
-  step : {n x p y : ℕ} → Supertype ts x p → Steps ts n p y → Steps ts (suc n) x y
-
--- 63 steps up a supertype chain
-pub record ShortChain (ts : Types) (x : ℕ) : Type 0 where
-  pub short : {n y : ℕ} → Steps ts n x y → n ≤ mostSteps
-
-pub record ShortChains (ts : Types) (n : ℕ) : Type 0 where
-  pub each : (x : ℕ) → x < n → ShortChain ts x
 
 -- the sizes of a section's bytes and syntax
 pub record WithinSizes (s : List ℕ) (gs : List Group) : Type 0 where

@@ -12,11 +12,11 @@ pub struct Checker {
     folder: PathBuf,
 }
 
-const CRATES: &str = "scope:\nfacts_examples: scope\nasked: scope facts_examples\n";
+const CRATES: &str = "scope:\nfacts_words: scope\nasked: scope facts_words\n";
 
 const OPENING: &str = "use Prim.Native.Nat.{ℕ}
 use mathlib.Core.List.{List, [], _∷_, _++_}
-use Rattle.facts_examples.specs.Words.{sectionWords, typeWords, bodyWords, runWords, packed}
+use Rattle.facts_words.specs.Words.{sectionWords, typeWords, bodyWords, runWords, packed}
 use Rattle.scope.proofs.Computes.{computes}
 
 data Shows : ℕ → Type 0 where
@@ -28,7 +28,7 @@ impl Checker {
         let folder = std::env::temp_dir().join(format!("definitions-{}", std::process::id()));
         let checker = Checker { folder };
         checker.copy(Path::new(repository)).map_err(|why| format!("{repository}: {why}"))?;
-        let proved = checker.rt(&["check", "facts_examples"]).map_err(|why| format!("rt: {why}"))?;
+        let proved = checker.rt(&["check", "facts_words"]).map_err(|why| format!("rt: {why}"))?;
         if !proved.contains("rt: ok") {
             return Err(format!("the definitions are not proved:\n{proved}"));
         }
@@ -36,7 +36,7 @@ impl Checker {
     }
 
     fn copy(&self, repository: &Path) -> std::io::Result<()> {
-        for name in ["scope", "facts_examples"] {
+        for name in ["scope", "facts_words"] {
             copy_folder(&repository.join("crates").join(name), &self.folder.join("crates").join(name))?;
         }
         let asked = self.folder.join("crates/asked");

@@ -1,4 +1,4 @@
-//! The number that the checker prints, back into the words that `packed` of crates/facts_examples/specs/Words.antt put into it.
+//! The number that the checker prints, back into the words that `packed` of crates/facts_words/specs/Words.antt put into it.
 
 /// The words of a decimal number written as 1 and then 64 bits for each word; none where it is no such number.
 pub fn unpack(decimal: &str) -> Option<Vec<u64>> {

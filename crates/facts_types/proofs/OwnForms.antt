@@ -19,12 +19,12 @@ use Rattle.scope.proofs.TenRows.{same-equal, equal-same}
 use Rattle.scope.proofs.Accepted.{Passes}
 use Rattle.scope.proofs.Order.{same-number-equal, value-order-tested}
 use Rattle.scope.proofs.Identity.{same-value-equal, value-same}
-use Rattle.facts_sections.specs.TypeRelations.{Matches}
-use Rattle.facts_sections.specs.WithinSizes.{Steps, stay, step}
-use Rattle.facts_sections.specs.OwnForms.{KindOf, struct-kind, func-kind, BottomOf, struct-bottom, func-bottom, OwnHeap, abstracts, bottom-of-defined, bottom-of-exact, defined-by-kind, exact-by-kind, defined-by-chain, exact-by-chain, exact-itself, OwnVal, same-number, from-non-null, from-nullable, OwnField, both-fixed, both-mutable, OwnAgainst, own-against, OwnForm, own-structs, own-functions, OwnMatches}
-use Rattle.facts_sections.proofs.Tests.{given-says, says-given, prefix-at-least, pairwise-as-many, at-least-prefix, as-many-pairwise}
-use Rattle.facts_sections.proofs.TenTypes.{below-order, order-below}
-use Rattle.facts_sections.proofs.Rules.{matches-say, matches-tested}
+use Rattle.facts_types.specs.TypeRelations.{Matches}
+use Rattle.facts_types.specs.Chains.{Steps, stay, step}
+use Rattle.facts_types.specs.OwnForms.{KindOf, struct-kind, func-kind, BottomOf, struct-bottom, func-bottom, OwnHeap, abstracts, bottom-of-defined, bottom-of-exact, defined-by-kind, exact-by-kind, defined-by-chain, exact-by-chain, exact-itself, OwnVal, same-number, from-non-null, from-nullable, OwnField, both-fixed, both-mutable, OwnAgainst, own-against, OwnForm, own-structs, own-functions, OwnMatches}
+use Rattle.facts_types.proofs.Tests.{given-says, says-given, prefix-at-least, pairwise-as-many, at-least-prefix, as-many-pairwise}
+use Rattle.facts_types.proofs.TenTypes.{below-order, order-below}
+use Rattle.facts_types.proofs.Rules.{matches-say, matches-tested}
 
 -- a type's kind and bottom
 

@@ -10,7 +10,7 @@ use Rattle.scope.specs.Reading.{given}
 use Rattle.scope.specs.Lists.{every, pairwise, prefixwise}
 use Rattle.scope.specs.TypeRules.{isThe}
 use Rattle.scope.proofs.Truths.{both, from-both}
-use Rattle.facts_sections.specs.TypeRelations.{AtLeast, any-more, one-and-more, AsMany, no-more, one-and-as-many}
+use Rattle.facts_types.specs.TypeRelations.{AtLeast, any-more, one-and-more, AsMany, no-more, one-and-as-many}
 
 -- A test of what may be missing
 

@@ -10,7 +10,7 @@ use Rattle.scope.specs.Abstract.{Abstract, NOFUNC, NOEXTERN, NONE, FUNC, EXTERN
 use Rattle.scope.specs.Order.{upTable, abstractBelow}
 use Rattle.scope.proofs.Truths.{from-some, from-either}
 use Rattle.scope.proofs.TenRows.{same-equal, row-kept, pair-kept, abstract-transitive}
-use Rattle.facts_sections.specs.TenTypes.{CodeOf, code-73, code-72, code-71, code-70, code-6F, code-6E, code-6D, code-6C, code-6B, code-6A, Listed, none-below-i31, none-below-struct, none-below-array, i31-below-eq, struct-below-eq, array-below-eq, eq-below-any, nofunc-below-func, noextern-below-extern, AbstractOrder, as-listed, same-abstract, by-way-of, Hierarchy, of-any, of-func, of-extern}
+use Rattle.facts_types.specs.TenTypes.{CodeOf, code-73, code-72, code-71, code-70, code-6F, code-6E, code-6D, code-6C, code-6B, code-6A, Listed, none-below-i31, none-below-struct, none-below-array, i31-below-eq, struct-below-eq, array-below-eq, eq-below-any, nofunc-below-func, noextern-below-extern, AbstractOrder, as-listed, same-abstract, by-way-of, Hierarchy, of-any, of-func, of-extern}
 
 pub row-code : (a : Abstract) → CodeOf (row a .code) a
 row-code NOFUNC = code-73

@@ -13,7 +13,7 @@ use Rattle.scope.specs.Syntax.{Val, Field, struct, func, Group, Types, typesOf}
 use Rattle.scope.specs.Sections.{readSection}
 use Rattle.scope.specs.Judging.{rejected, judgeSection}
 use Rattle.scope.proofs.Computes.{computes}
-use Rattle.facts_sections.specs.TypeRelations.{Matches, structs, one-and-more, any-more, fixed-subtype, FormMatches}
+use Rattle.facts_types.specs.TypeRelations.{Matches, structs, one-and-more, any-more, fixed-subtype, FormMatches}
 
 abbrev functionBelowStruct : List ℕ
 functionBelowStruct =

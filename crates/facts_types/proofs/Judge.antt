@@ -20,10 +20,10 @@ use Rattle.scope.specs.Judging.{accepted, linksFault, ruleFault, scan, judgeTyp
 use Rattle.scope.proofs.Truths.{none-is-not-some, decided}
 use Rattle.scope.proofs.Accepted.{LinksKept, RulesKept, judged-kept, blank-no-fault, links-kept, Passes}
 use Rattle.scope.proofs.Order.{value-order-tested}
-use Rattle.facts_sections.specs.TypeRelations.{SupertypesOf, no-supertype, one-supertype, FormMatches, structs, functions, ValidType}
-use Rattle.facts_sections.specs.Allowed.{AllowedTypes}
-use Rattle.facts_sections.proofs.Named.{reach-says, reach-tested}
-use Rattle.facts_sections.proofs.Rules.{supertypes-say, supertypes-tested, chain-says, chain-tested, matches-say, matches-tested, on-struct-says, on-struct-tested, earlier-says, earlier-tested, agree-says, agree-tested, descriptors-say, descriptors-tested, describes-say, describes-tested}
+use Rattle.facts_types.specs.TypeRelations.{SupertypesOf, no-supertype, one-supertype, FormMatches, structs, functions, ValidType}
+use Rattle.facts_types.specs.AllowedTypes.{AllowedTypes}
+use Rattle.facts_types.proofs.Named.{reach-says, reach-tested}
+use Rattle.facts_types.proofs.Rules.{supertypes-say, supertypes-tested, chain-says, chain-tested, matches-say, matches-tested, on-struct-says, on-struct-tested, earlier-says, earlier-tested, agree-says, agree-tested, descriptors-say, descriptors-tested, describes-say, describes-tested}
 
 -- Yes to the relations
 

@@ -7,8 +7,9 @@ use lib.ListN.{replicate}
 use lib.Dec.{eqb}
 use Rattle.scope.specs.Sizes.{mostBytes, mostTypes, mostEach, mostSteps}
 use Rattle.scope.specs.Refusals.{bytesEnd, badNumber, notListed, oversize, leftOver, outOfReach, badSupertype, noMatch, clauseNotOnStruct, describesNotEarlier, clausesDisagree, badDescriptor, badDescribes, padded}
-use Rattle.scope.specs.Lists.{someOf, joined}
+use Rattle.scope.specs.Lists.{someOf}
 use Rattle.scope.specs.Judging.{Judged, accepted, rejected, judgeSection}
+use Rattle.facts_examples.specs.Pieces.{times}
 
 -- a refusal's number and place
 pub record Fault : Type 0 where
@@ -29,9 +30,6 @@ abbrev pub firstSaid : Case → Bool
 firstSaid c = refusedFor (c .said) (judgeSection (c .bytes)) && refusedFor (c .saidThen) (judgeSection (c .mended))
 
 -- pieces of sections
-
-abbrev pub times : ℕ → List ℕ → List ℕ
-times n piece = joined (replicate n piece)
 
 -- a final struct without fields; an open one
 abbrev pub plain : List ℕ

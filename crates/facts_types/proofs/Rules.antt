@@ -18,9 +18,9 @@ use Rattle.scope.specs.TypeRules.{oneSuper, superEarlierAndOpen, shortChain, fi
 use Rattle.scope.proofs.Truths.{both, from-both}
 use Rattle.scope.proofs.Order.{tested-value-order}
 use Rattle.scope.proofs.Identity.{same-value-equal, value-same}
-use Rattle.facts_sections.specs.TypeRelations.{SupertypesOf, no-supertype, one-supertype, FieldMatches, fixed-subtype, mutable-identical, Against, against, FormMatches, structs, functions, Matches, IsStruct, a-struct, OnStruct, DescribesEarlier, ClausesAgree, DescriptorBelow, descriptor-below, Descriptors, DescribeAlike, neither-describes, both-describe, Described}
-use Rattle.facts_sections.specs.WithinSizes.{Steps, stay, step, ShortChain}
-use Rattle.facts_sections.proofs.Tests.{given-says, says-given, is-the, the-is, prefix-at-least, pairwise-as-many, at-least-prefix, as-many-pairwise}
+use Rattle.facts_types.specs.TypeRelations.{SupertypesOf, no-supertype, one-supertype, FieldMatches, fixed-subtype, mutable-identical, Against, against, FormMatches, structs, functions, Matches, IsStruct, a-struct, OnStruct, DescribesEarlier, ClausesAgree, DescriptorBelow, descriptor-below, Descriptors, DescribeAlike, neither-describes, both-describe, Described}
+use Rattle.facts_types.specs.Chains.{Steps, stay, step, ShortChain}
+use Rattle.facts_types.proofs.Tests.{given-says, says-given, is-the, the-is, prefix-at-least, pairwise-as-many, at-least-prefix, as-many-pairwise}
 
 -- Rule 1
 

@@ -7,9 +7,9 @@ use mathlib.Core.List.{List}
 use Rattle.scope.specs.Sizes.{mostSteps}
 use Rattle.scope.specs.Abstract.{Abstract, NONE, NOFUNC, STRUCT, FUNC}
 use Rattle.scope.specs.Syntax.{Heap, abstract, defined, exact, Number, Val, num, ref, Field, Form, struct, func, Types}
-use Rattle.facts_sections.specs.TypeRelations.{Supertype, AtLeast, AsMany}
-use Rattle.facts_sections.specs.WithinSizes.{Steps}
-use Rattle.facts_sections.specs.TenTypes.{AbstractOrder}
+use Rattle.facts_types.specs.TypeRelations.{Supertype, AtLeast, AsMany}
+use Rattle.facts_types.specs.Chains.{Steps}
+use Rattle.facts_types.specs.TenTypes.{AbstractOrder}
 
 -- "x below its supertype and below struct or func, and the hierarchy's bottom below exact x"
 pub data KindOf : Form → Abstract → Type 0 where

@@ -12,8 +12,8 @@ use Rattle.scope.specs.Lists.{joined, asList}
 use Rattle.scope.specs.Syntax.{abstract, defined, exact, Val, num, ref, Field, Form, struct, func, Definition, Types}
 use Rattle.scope.specs.TypeRules.{valNames, fieldNames, formNames, names, inReach}
 use Rattle.scope.proofs.Truths.{every-at}
-use Rattle.facts_sections.specs.TypeRelations.{ValNames, of-defined, of-exact, FieldNames, of-holds, SomeNames, this-names, later-names, FormNames, in-field, in-parameter, in-result, Names, as-supertype, as-described, as-descriptor, in-form, InReach}
-use Rattle.facts_sections.proofs.Tests.{every-of}
+use Rattle.facts_types.specs.TypeRelations.{ValNames, of-defined, of-exact, FieldNames, of-holds, SomeNames, this-names, later-names, FormNames, in-field, in-parameter, in-result, Names, as-supertype, as-described, as-descriptor, in-form, InReach}
+use Rattle.facts_types.proofs.Tests.{every-of}
 
 -- A list of numbers for each of a list, and the relation that says what is in it
 
