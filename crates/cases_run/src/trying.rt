@@ -1,8 +1,13 @@
-// One run in fresh memory that holds rubbish, of which so many elements are lent as the sizes say.
+// One run in fresh memory that holds rubbish, of which so many elements are lent as the sizes say. The arrays are lent to the run by
+// their parts and looked at afterwards as arrays, whose lengths their types say.
+use cases_state::lent16;
+use cases_state::lent32;
+use cases_state::lent64;
 use cases_state::tell;
 use cases_state::tell_name;
 use cases_text::zero;
 use cases_text::zero32;
+use scope::Ran;
 use scope::sizes;
 ghost use Prim.Native.Nat.{_≤_};
 
@@ -40,51 +45,52 @@ fn size(sizes: &[u64], which: usize, most: usize) -> usize
     most
 }
 
-// The run, and the case's line.
-fn tried_in(
-    name: &[u8],
-    section: &[u8],
-    body: &[u8],
-    number: u64,
-    budget: u64,
-    rows: &mut [u16],
-    codes: &mut [u16],
-    work: &mut [u32],
-    ends: &mut [u16],
-    counts: &mut [u64],
-    objects: &mut [u16],
-    cells: &mut [u64],
-    locals: &mut [u64],
-    operands: &mut [u64],
-    blocks: &mut [u16],
+// Whether the scratch is zero, as far as it was lent.
+fn scratch_zero(
+    rows: &[u16; MORE_ROWS],
+    codes: &[u16; MORE_CODES],
+    work: &[u32; MORE_WORK],
+    ends: &[u16; MORE_ENDS],
+    sizes: &[u64],
+) -> bool {
+    let r = size(sizes, 0, MORE_ROWS);
+    let c = size(sizes, 1, MORE_CODES);
+    let w = size(sizes, 2, MORE_WORK);
+    let e = size(sizes, 3, MORE_ENDS);
+    let a = zero(lent16(rows, r));
+    let b = zero(lent16(codes, c));
+    let d = zero32(lent32(work, w));
+    let f = zero(lent16(ends, e));
+    a & b & d & f
+}
+
+// The line behind the name: how the run ended, and the state, as far as it was lent.
+fn tell_lent(
+    ran: Ran,
+    scratch: bool,
+    counts: &[u64; MORE_COUNTS],
+    objects: &[u16; MORE_OBJECTS],
+    cells: &[u64; MORE_CELLS],
+    locals: &[u64; MORE_LOCALS],
+    operands: &[u64; MORE_OPERANDS],
+    blocks: &[u16; MORE_BLOCKS],
+    sizes: &[u64],
 ) {
-    let ran = run_call::try_run(
-        section,
-        body,
-        number,
-        budget,
-        rows,
-        codes,
-        work,
-        ends,
-        counts,
-        objects,
-        cells,
-        locals,
-        operands,
-        blocks,
-    );
-    tell_name(name);
-    let scratch = zero(rows) & zero(codes) & zero32(work) & zero(ends);
+    let n = size(sizes, 4, MORE_COUNTS);
+    let o = size(sizes, 5, MORE_OBJECTS);
+    let f = size(sizes, 6, MORE_CELLS);
+    let l = size(sizes, 7, MORE_LOCALS);
+    let s = size(sizes, 8, MORE_OPERANDS);
+    let b = size(sizes, 9, MORE_BLOCKS);
     tell(
         ran,
         scratch,
-        counts,
-        objects,
-        cells,
-        locals,
-        operands,
-        blocks,
+        lent64(counts, n),
+        lent16(objects, o),
+        lent64(cells, f),
+        lent64(locals, l),
+        lent64(operands, s),
+        lent16(blocks, b),
     );
 }
 
@@ -110,8 +116,7 @@ pub fn tried(name: &[u8], section: &[u8], body: &[u8], number: u64, budget: u64,
     let l = size(sizes, 7, MORE_LOCALS);
     let s = size(sizes, 8, MORE_OPERANDS);
     let b = size(sizes, 9, MORE_BLOCKS);
-    tried_in(
-        name,
+    let ran = run_call::try_run(
         section,
         body,
         number,
@@ -126,5 +131,18 @@ pub fn tried(name: &[u8], section: &[u8], body: &[u8], number: u64, budget: u64,
         &mut locals[0..l],
         &mut operands[0..s],
         &mut blocks[0..b],
+    );
+    tell_name(name);
+    let scratch = scratch_zero(&rows, &codes, &work, &ends, sizes);
+    tell_lent(
+        ran,
+        scratch,
+        &counts,
+        &objects,
+        &cells,
+        &locals,
+        &operands,
+        &blocks,
+        sizes,
     );
 }

@@ -33,6 +33,28 @@ fn zero_from(m: &[u64], from: usize) -> bool {
     true
 }
 
+// The first so many words of a buffer, which were lent; none where it has fewer.
+pub fn lent16(m: &[u16], n: usize) -> &[u16] {
+    if n <= m.len() {
+        return &m[0..n];
+    }
+    &m[0..0]
+}
+
+pub fn lent32(m: &[u32], n: usize) -> &[u32] {
+    if n <= m.len() {
+        return &m[0..n];
+    }
+    &m[0..0]
+}
+
+pub fn lent64(m: &[u64], n: usize) -> &[u64] {
+    if n <= m.len() {
+        return &m[0..n];
+    }
+    &m[0..0]
+}
+
 // A word, and 0 past the end.
 fn word(m: &[u64], at: usize) -> u64 {
     if at < m.len() { m[at] } else { 0 }
