@@ -13,13 +13,14 @@ use Rattle.scope.specs.Syntax.{Heap}
 use Rattle.scope.specs.Sections.{heapAt}
 use Rattle.scope.specs.Instructions.{Cast, Op, op, castAt}
 use Rattle.scope.proofs.Impossible.{impossible}
-use Rattle.number.specs.declared.Byte.{Byte}
-use Rattle.number.specs.declared.Byte
-use Rattle.number.specs.declared.Natural.{Natural}
-use Rattle.number.specs.declared.Natural
-use Rattle.number.specs.Answers.{ByteAt, naturalIs}
-use Rattle.number.proofs.Bits.{byte-got, byte-none, next-fits}
-use Rattle.number.proofs.Laws.{natural-got, natural-refused}
+use Rattle.number_bytes.specs.declared.Byte.{Byte}
+use Rattle.number_bytes.specs.declared.Byte
+use Rattle.number_values.specs.declared.Natural.{Natural}
+use Rattle.number_values.specs.declared.Natural
+use Rattle.number_bytes.specs.Bytes.{ByteAt}
+use Rattle.number_values.specs.Values.{naturalIs}
+use Rattle.number_bytes.proofs.Laws.{byte-got, byte-none, next-fits}
+use Rattle.number_values.proofs.Laws.{natural-got, natural-refused}
 use Rattle.type_read.specs.declared.Coded.{Coded}
 use Rattle.type_read.specs.declared.Coded
 use Rattle.type_read.specs.Codes.{codedIs, heapCodeKept}

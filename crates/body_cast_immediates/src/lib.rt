@@ -1,8 +1,8 @@
 // Reading what follows the code of a branching cast: flags, label, source and target.
 use body_immediates::Instruction;
 use body_immediates::InstructionRead;
-use number::Byte;
-use number::Natural;
+use number_bytes::Byte;
+use number_values::Natural;
 use scope::refusals;
 use type_read::Coded;
 ghost use mathlib.Core.Path.{_≡_};
@@ -50,7 +50,7 @@ fn cast_types_at(s: &[u8], at: usize, source_null: bool, target_null: bool) -> C
 fn cast_at(s: &[u8], at: usize) -> CastRead
     ensures { λ r. ⌜ r ≡ castIs (castAt (now (s .entry)) at) ⌝ }
 {
-    let first = number::byte_at(s, at);
+    let first = number_bytes::byte_at(s, at);
     let Byte::Is(flags) = first else {
         return CastRead::Refused(refusals::BYTES_END, at);
     };

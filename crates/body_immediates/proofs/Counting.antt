@@ -6,12 +6,13 @@ use mathlib.Core.List.{List}
 use native.Mathlib.Omega.{arith}
 use borrow.Author.Tests.{ne-eqb}
 use Rattle.scope.specs.Numbers.{u32, s32, s64, float32, float64}
-use Rattle.number.specs.declared.Natural.{Natural}
-use Rattle.number.specs.declared.Natural
-use Rattle.number.specs.declared.Integer.{Integer}
-use Rattle.number.specs.declared.Integer
-use Rattle.number.specs.Answers.{naturalIs, FloatRead, integerIs}
-use Rattle.number.proofs.Laws.{natural-got, natural-refused, integer-plus, integer-minus, integer-refused, signed-small, signed-least, signed-more}
+use Rattle.number_values.specs.declared.Natural.{Natural}
+use Rattle.number_values.specs.declared.Natural
+use Rattle.number_values.specs.declared.Integer.{Integer}
+use Rattle.number_values.specs.declared.Integer
+use Rattle.number_values.specs.Values.{naturalIs, integerIs}
+use Rattle.number_floats.specs.Floats.{FloatRead}
+use Rattle.number_values.proofs.Laws.{natural-got, natural-refused, integer-plus, integer-minus, integer-refused, signed-small, signed-least, signed-more}
 use Rattle.type_table.specs.Kept.{kept}
 use Rattle.body_immediates.specs.declared.Instruction.{Instruction}
 use Rattle.body_immediates.specs.declared.Instruction

@@ -14,10 +14,10 @@ use Rattle.scope.specs.Reading.{Read, got}
 use Rattle.scope.specs.Syntax.{Heap, Val}
 use Rattle.scope.specs.Sections.{heapAt, valAt}
 use Rattle.scope.specs.Instructions.{blockTypeAt}
-use Rattle.number.specs.declared.Byte.{Byte}
-use Rattle.number.specs.declared.Byte
-use Rattle.number.specs.Answers.{ByteAt}
-use Rattle.number.proofs.Bits.{byte-got, byte-none, next-fits}
+use Rattle.number_bytes.specs.declared.Byte.{Byte}
+use Rattle.number_bytes.specs.declared.Byte
+use Rattle.number_bytes.specs.Bytes.{ByteAt}
+use Rattle.number_bytes.proofs.Laws.{byte-got, byte-none, next-fits}
 use Rattle.type_read.specs.declared.Coded.{Coded}
 use Rattle.type_read.specs.declared.Coded
 use Rattle.type_read.specs.Codes.{codedIs, heapCodeKept, valCodeKept}

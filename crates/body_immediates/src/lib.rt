@@ -1,9 +1,9 @@
 // Instructions, and the readers of what follows their codes: block types, labels, locals, constants, types and fields. An
 // instruction is answered by value. Labels, locals, fields and constants stand as they were read; a type number is the
 // kept one and a type its code, as everywhere in the table (type_table's Kept.antt).
-use number::Byte;
-use number::Integer;
-use number::Natural;
+use number_bytes::Byte;
+use number_values::Integer;
+use number_values::Natural;
 use scope::refusals;
 use type_read::Coded;
 ghost use mathlib.Core.Path.{_≡_};
@@ -63,7 +63,7 @@ pub enum InstructionRead {
 fn block_type_at(s: &[u8], at: usize) -> Coded
     ensures { λ r. ⌜ r ≡ codedIs resultCode (blockTypeAt (now (s .entry)) at) ⌝ }
 {
-    let first = number::byte_at(s, at);
+    let first = number_bytes::byte_at(s, at);
     let Byte::Is(b) = first else {
         return Coded::Refused(refusals::BYTES_END, at);
     };
@@ -148,7 +148,7 @@ pub fn wide_at(s: &[u8], at: usize) -> InstructionRead
 pub fn float32_const_at(s: &[u8], at: usize) -> InstructionRead
     ensures { λ r. ⌜ r ≡ instructionIs (float32ConstAt (now (s .entry)) at) ⌝ }
 {
-    let read = number::float32_at(s, at);
+    let read = number_floats::float32_at(s, at);
     match read {
         Natural::Refused(number, place) => InstructionRead::Refused(number, place),
         Natural::Is(bits, next) => InstructionRead::Is(Instruction::F32Const(bits as u32), next),
@@ -159,7 +159,7 @@ pub fn float32_const_at(s: &[u8], at: usize) -> InstructionRead
 pub fn float64_const_at(s: &[u8], at: usize) -> InstructionRead
     ensures { λ r. ⌜ r ≡ instructionIs (float64ConstAt (now (s .entry)) at) ⌝ }
 {
-    let read = number::float64_at(s, at);
+    let read = number_floats::float64_at(s, at);
     match read {
         Natural::Refused(number, place) => InstructionRead::Refused(number, place),
         Natural::Is(bits, next) => InstructionRead::Is(Instruction::F64Const(bits), next),

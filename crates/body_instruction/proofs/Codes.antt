@@ -10,13 +10,14 @@ use borrow.Author.Tests.{eq-eqb, ne-eqb}
 use Rattle.scope.specs.Refusals.{bytesEnd, notListed}
 use Rattle.scope.specs.Numbers.{u32}
 use Rattle.scope.specs.Instructions.{instrAt}
-use Rattle.number.specs.declared.Byte.{Byte}
-use Rattle.number.specs.declared.Byte
-use Rattle.number.specs.declared.Natural.{Natural}
-use Rattle.number.specs.declared.Natural
-use Rattle.number.specs.Answers.{ByteAt, naturalIs}
-use Rattle.number.proofs.Bits.{byte-got, byte-none, next-fits}
-use Rattle.number.proofs.Laws.{natural-got, natural-refused}
+use Rattle.number_bytes.specs.declared.Byte.{Byte}
+use Rattle.number_bytes.specs.declared.Byte
+use Rattle.number_values.specs.declared.Natural.{Natural}
+use Rattle.number_values.specs.declared.Natural
+use Rattle.number_bytes.specs.Bytes.{ByteAt}
+use Rattle.number_values.specs.Values.{naturalIs}
+use Rattle.number_bytes.proofs.Laws.{byte-got, byte-none, next-fits}
+use Rattle.number_values.proofs.Laws.{natural-got, natural-refused}
 use Rattle.scope.specs.Lists.{isNone}
 use Rattle.scope.specs.Numeric.{Numeric, numericOf}
 use Rattle.body_numeric.specs.Entries.{isNumeric}

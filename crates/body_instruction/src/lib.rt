@@ -2,8 +2,8 @@
 // numeric codes body_numeric knows.
 use body_immediates::Instruction;
 use body_immediates::InstructionRead;
-use number::Byte;
-use number::Natural;
+use number_bytes::Byte;
+use number_values::Natural;
 use scope::refusals;
 ghost use Prim.Native.Nat.{_<_, _^_};
 ghost use mathlib.Core.Path.{_≡_};
@@ -93,7 +93,7 @@ fn prefixed_at(s: &[u8], at: usize) -> InstructionRead
 pub fn instruction_at(s: &[u8], at: usize) -> InstructionRead
     ensures { λ r. ⌜ r ≡ instructionIs (instrAt (now (s .entry)) at) ⌝ }
 {
-    let first = number::byte_at(s, at);
+    let first = number_bytes::byte_at(s, at);
     let Byte::Is(b) = first else {
         return InstructionRead::Refused(refusals::BYTES_END, at);
     };

@@ -16,10 +16,10 @@ use Rattle.scope.specs.Lists.{every}
 use Rattle.scope.specs.Syntax.{Val}
 use Rattle.scope.specs.Sections.{valAt}
 use Rattle.scope.specs.TypeRules.{valNames}
-use Rattle.number.specs.declared.Natural.{Natural}
-use Rattle.number.specs.declared.Natural
-use Rattle.number.specs.Answers.{naturalIs}
-use Rattle.number.proofs.Laws.{natural-got, natural-refused, natural-bounds}
+use Rattle.number_values.specs.declared.Natural.{Natural}
+use Rattle.number_values.specs.declared.Natural
+use Rattle.number_values.specs.Values.{naturalIs}
+use Rattle.number_values.proofs.Laws.{natural-got, natural-refused, natural-bounds}
 use Rattle.type_table.specs.Kept.{keptVal}
 use Rattle.type_table.specs.View.{valAtCode}
 use Rattle.type_table.proofs.CodesBack.{val-code}

@@ -1,5 +1,5 @@
 // Reading a body's locals into lent scratch: a word for each local, the code of its type, after those of the parameters.
-use number::Natural;
+use number_values::Natural;
 use scope::refusals;
 use scope::sizes;
 use type_read::Coded;

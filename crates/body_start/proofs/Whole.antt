@@ -18,10 +18,10 @@ use Rattle.scope.specs.BodyRules.{hasDefault}
 use Rattle.scope.specs.Bodies.{localsAt}
 use Rattle.scope.proofs.Truths.{decided}
 use Rattle.scope.proofs.Impossible.{contradiction, impossible}
-use Rattle.number.specs.declared.Natural.{Natural}
-use Rattle.number.specs.declared.Natural
-use Rattle.number.specs.Answers.{naturalIs}
-use Rattle.number.proofs.Laws.{natural-got, natural-refused, natural-bounds}
+use Rattle.number_values.specs.declared.Natural.{Natural}
+use Rattle.number_values.specs.declared.Natural
+use Rattle.number_values.specs.Values.{naturalIs}
+use Rattle.number_values.proofs.Laws.{natural-got, natural-refused, natural-bounds}
 use Rattle.type_table.specs.View.{valAtCode, codesAt}
 use Rattle.type_table.proofs.Puts.{Puts}
 use Rattle.type_read.specs.Codes.{valCodeKept}

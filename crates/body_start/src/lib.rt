@@ -1,6 +1,6 @@
 // The locals of a body at its start, in lent scratch: their types, the parameters' first, and which of them are set.
 use body_locals::LocalsRead;
-use number::Natural;
+use number_values::Natural;
 use type_table::ValKind;
 ghost use mathlib.Core.Path.{_≡_};
 ghost use Prim.Native.Nat.{_≤_};

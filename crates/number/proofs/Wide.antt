@@ -10,14 +10,18 @@ use borrow.Author.Tests.{lt-ltb, le-ltb, le-leb, lt-leb, ltb-true, ltb-false}
 use Rattle.scope.specs.Refusals.{bytesEnd, badNumber}
 use Rattle.scope.specs.Reading.{got}
 use Rattle.scope.specs.Numbers.{Bits, bits, bitsAt, unlessPadded, inRange, plus, minus, signed-of, withinSigned, signed, s64}
-use Rattle.number.specs.declared.Byte.{Byte}
-use Rattle.number.specs.declared.Byte
-use Rattle.number.specs.declared.Leb.{Leb}
-use Rattle.number.specs.declared.Leb
-use Rattle.number.specs.declared.Integer.{Integer}
-use Rattle.number.specs.declared.Integer
-use Rattle.number.specs.Answers.{above, ByteAt, MostBytes, Counts, Below, BitsRead, integerIs, rangeOf, Tenth}
-use Rattle.number.proofs.Bits.{byte-got, byte-none, bits-last, bits-more, bits-cut, next-fits}
+use Rattle.number_bytes.specs.declared.Byte.{Byte}
+use Rattle.number_bytes.specs.declared.Byte
+use Rattle.number_bits.specs.declared.Leb.{Leb}
+use Rattle.number_bits.specs.declared.Leb
+use Rattle.number_values.specs.declared.Integer.{Integer}
+use Rattle.number_values.specs.declared.Integer
+use Rattle.number_bytes.specs.Bytes.{ByteAt}
+use Rattle.number_bytes.proofs.Laws.{byte-got, byte-none, next-fits}
+use Rattle.number_values.specs.Values.{Counts, Below, integerIs, rangeOf}
+use Rattle.number_bits.specs.Bits.{above, MostBytes, BitsRead}
+use Rattle.number.specs.Widths.{Tenth}
+use Rattle.number_bits.proofs.Bits.{bits-last, bits-more, bits-cut}
 use Rattle.number.proofs.Ranges.{byte-range, range-is, one-low, few-bits}
 
 pub nine-bytes : MostBytes 9

@@ -13,13 +13,14 @@ use Rattle.scope.specs.Numbers.{u32}
 use Rattle.scope.specs.Sections.{supersAt, Head, headAt, clauseAt, describesCode, descriptorCode}
 use Rattle.scope.specs.Memory.{orZero}
 use Rattle.scope.proofs.Impossible.{impossible}
-use Rattle.number.specs.declared.Byte.{Byte}
-use Rattle.number.specs.declared.Byte
-use Rattle.number.specs.declared.Natural.{Natural}
-use Rattle.number.specs.declared.Natural
-use Rattle.number.specs.Answers.{ByteAt, naturalIs}
-use Rattle.number.proofs.Bits.{byte-got, byte-none}
-use Rattle.number.proofs.Laws.{natural-got, natural-refused}
+use Rattle.number_bytes.specs.declared.Byte.{Byte}
+use Rattle.number_bytes.specs.declared.Byte
+use Rattle.number_values.specs.declared.Natural.{Natural}
+use Rattle.number_values.specs.declared.Natural
+use Rattle.number_bytes.specs.Bytes.{ByteAt}
+use Rattle.number_values.specs.Values.{naturalIs}
+use Rattle.number_bytes.proofs.Laws.{byte-got, byte-none}
+use Rattle.number_values.proofs.Laws.{natural-got, natural-refused}
 use Rattle.type_table.specs.Kept.{kept, keptOption}
 use Rattle.section_clauses.specs.declared.Supers.{Supers}
 use Rattle.section_clauses.specs.declared.Supers

@@ -11,10 +11,10 @@ use mir.Val.{Fits}
 use Rattle.scope.specs.Reading.{got, entries}
 use Rattle.scope.specs.Numbers.{u32}
 use Rattle.scope.specs.Sections.{supersAt}
-use Rattle.number.specs.declared.Natural.{Natural}
-use Rattle.number.specs.declared.Natural
-use Rattle.number.specs.Answers.{naturalIs}
-use Rattle.number.proofs.Laws.{natural-got, natural-refused}
+use Rattle.number_values.specs.declared.Natural.{Natural}
+use Rattle.number_values.specs.declared.Natural
+use Rattle.number_values.specs.Values.{naturalIs}
+use Rattle.number_values.proofs.Laws.{natural-got, natural-refused}
 use Rattle.type_table.specs.Kept.{kept, greatest}
 use Rattle.section_forms.proofs.Lists.{onto, onto-none, onto-more, entries-step, entries-refused, entries-done}
 use Rattle.section_clauses.specs.declared.Supers.{Supers}

@@ -1,7 +1,7 @@
 // Reading what stands before a definition's form: 50 or 4F with supertypes, and the two clauses. A type number is
 // answered as the table holds it: 0 for none, else one more than the number as it is kept.
-use number::Byte;
-use number::Natural;
+use number_bytes::Byte;
+use number_values::Natural;
 use scope::refusals;
 ghost use mathlib.Core.Path.{_≡_};
 ghost use Rattle.scope.specs.Reading.{entries};
@@ -94,7 +94,7 @@ fn sub_at(s: &[u8], at: usize, opens: u64) -> HeadRead
 fn head_at(s: &[u8], at: usize) -> HeadRead
     ensures { λ r. ⌜ r ≡ headIs (headAt (now (s .entry)) at) ⌝ }
 {
-    let first = number::byte_at(s, at);
+    let first = number_bytes::byte_at(s, at);
     let Byte::Is(b) = first else {
         return HeadRead::Refused(refusals::BYTES_END, at);
     };
@@ -127,7 +127,7 @@ fn named_at(s: &[u8], at: usize) -> ClauseRead
 fn clause_at(s: &[u8], at: usize, code: u64) -> ClauseRead
     ensures { λ r. ⌜ r ≡ clauseIs (clauseAt code (now (s .entry)) at) ⌝ }
 {
-    let first = number::byte_at(s, at);
+    let first = number_bytes::byte_at(s, at);
     let Byte::Is(b) = first else {
         return ClauseRead::Refused(refusals::BYTES_END, at);
     };

@@ -18,13 +18,14 @@ use Rattle.scope.specs.Sections.{valAt, fieldAt, fewAt, formAt}
 use Rattle.scope.specs.Memory.{formCodes}
 use Rattle.scope.proofs.Forward.{few-takes, val-takes, never-back, unsigned-takes}
 use Rattle.scope.proofs.Impossible.{contradiction, impossible}
-use Rattle.number.specs.declared.Byte.{Byte}
-use Rattle.number.specs.declared.Byte
-use Rattle.number.specs.declared.Natural.{Natural}
-use Rattle.number.specs.declared.Natural
-use Rattle.number.specs.Answers.{ByteAt, naturalIs}
-use Rattle.number.proofs.Bits.{byte-got, byte-none}
-use Rattle.number.proofs.Laws.{natural-got, natural-refused}
+use Rattle.number_bytes.specs.declared.Byte.{Byte}
+use Rattle.number_bytes.specs.declared.Byte
+use Rattle.number_values.specs.declared.Natural.{Natural}
+use Rattle.number_values.specs.declared.Natural
+use Rattle.number_bytes.specs.Bytes.{ByteAt}
+use Rattle.number_values.specs.Values.{naturalIs}
+use Rattle.number_bytes.proofs.Laws.{byte-got, byte-none}
+use Rattle.number_values.proofs.Laws.{natural-got, natural-refused}
 use Rattle.type_table.specs.Kept.{keptForm}
 use Rattle.type_table.proofs.Puts.{Puts, puts-more}
 use Rattle.type_read.specs.Codes.{valCodeKept, fieldCodeKept}

@@ -1,6 +1,6 @@
 // Reading the forms of definitions into the lent table: lists of fields, parameters and results as codes.
-use number::Byte;
-use number::Natural;
+use number_bytes::Byte;
+use number_values::Natural;
 use scope::refusals;
 use scope::sizes;
 use type_read::Coded;
@@ -111,7 +111,7 @@ pub fn form_at(s: &[u8], at: usize, codes: &mut [u16], used: u64) -> FormRead
     requires { ⌜ Room (now s) (now codes) at used ⌝ }
     ensures { λ r. ⌜ PartRead formAt (now (s .entry)) at (now (codes .entry)) (now (codes .exit)) used r ⌝ }
 {
-    let first = number::byte_at(s, at);
+    let first = number_bytes::byte_at(s, at);
     let Byte::Is(b) = first else {
         return FormRead::Refused(refusals::BYTES_END, at);
     };

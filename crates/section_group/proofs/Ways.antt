@@ -16,13 +16,14 @@ use Rattle.scope.specs.Sections.{definitionAt, groupAt}
 use Rattle.scope.specs.Memory.{formCodes}
 use Rattle.scope.proofs.Forward.{unsigned-takes, definition-takes, never-back}
 use Rattle.scope.proofs.Impossible.{impossible}
-use Rattle.number.specs.declared.Byte.{Byte}
-use Rattle.number.specs.declared.Byte
-use Rattle.number.specs.declared.Natural.{Natural}
-use Rattle.number.specs.declared.Natural
-use Rattle.number.specs.Answers.{ByteAt, naturalIs}
-use Rattle.number.proofs.Bits.{byte-got, byte-none}
-use Rattle.number.proofs.Laws.{natural-got, natural-refused, unsigned-small}
+use Rattle.number_bytes.specs.declared.Byte.{Byte}
+use Rattle.number_bytes.specs.declared.Byte
+use Rattle.number_values.specs.declared.Natural.{Natural}
+use Rattle.number_values.specs.declared.Natural
+use Rattle.number_bytes.specs.Bytes.{ByteAt}
+use Rattle.number_values.specs.Values.{naturalIs}
+use Rattle.number_bytes.proofs.Laws.{byte-got, byte-none}
+use Rattle.number_values.proofs.Laws.{natural-got, natural-refused, unsigned-small}
 use Rattle.type_table.specs.Kept.{keptForm}
 use Rattle.section_definition.specs.declared.DefinitionRead.{DefinitionRead}
 use Rattle.section_definition.specs.declared.DefinitionRead

@@ -1,7 +1,7 @@
 // Reading a group into the lent table, of which it is lent only the rest: the rows from its first row on, and the codes from
 // its first code on. `used` codes of the table are before that part.
-use number::Byte;
-use number::Natural;
+use number_bytes::Byte;
+use number_values::Natural;
 use scope::refusals;
 use scope::sizes;
 use section_definition::DefinitionRead;
@@ -116,7 +116,7 @@ pub fn group_at(
     requires { ⌜ Lent (now s) (now rows) (now codes) at first used ⌝ }
     ensures { λ r. ⌜ GroupPut (groupAt first) (now (s .entry)) at (now (rows .entry)) (now (rows .exit)) (now (codes .entry)) (now (codes .exit)) used r ⌝ }
 {
-    let form = number::byte_at(s, at);
+    let form = number_bytes::byte_at(s, at);
     let Byte::Is(b) = form else {
         return GroupRead::Refused(refusals::BYTES_END, at);
     };

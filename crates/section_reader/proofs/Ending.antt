@@ -14,10 +14,10 @@ use Rattle.scope.specs.Syntax.{Group}
 use Rattle.scope.specs.Sections.{groupsAt, readSection}
 use Rattle.scope.proofs.Forward.{unsigned-takes, never-back}
 use Rattle.scope.proofs.Impossible.{impossible}
-use Rattle.number.specs.declared.Natural.{Natural}
-use Rattle.number.specs.declared.Natural
-use Rattle.number.specs.Answers.{naturalIs}
-use Rattle.number.proofs.Laws.{natural-got, natural-refused}
+use Rattle.number_values.specs.declared.Natural.{Natural}
+use Rattle.number_values.specs.declared.Natural
+use Rattle.number_values.specs.Values.{naturalIs}
+use Rattle.number_values.proofs.Laws.{natural-got, natural-refused}
 use Rattle.section_group.specs.declared.GroupRead.{GroupRead}
 use Rattle.section_group.specs.declared.GroupRead
 use Rattle.section_group.specs.Lent.{Lent, groupIs, GroupPut}

@@ -1,6 +1,6 @@
 // Reading a whole section into the lent table: its groups one after the other, each lent the rest of the table from its
 // first row and its first code on; then nothing is left over.
-use number::Natural;
+use number_values::Natural;
 use scope::refusals;
 use scope::sizes;
 use section_group::GroupRead;

@@ -13,10 +13,10 @@ use Rattle.scope.specs.Reading.{Read, got}
 use Rattle.scope.specs.Syntax.{Val, Field}
 use Rattle.scope.specs.Sections.{valAt, flagAt, fieldAt}
 use Rattle.scope.specs.Memory.{flag}
-use Rattle.number.specs.declared.Byte.{Byte}
-use Rattle.number.specs.declared.Byte
-use Rattle.number.specs.Answers.{ByteAt}
-use Rattle.number.proofs.Bits.{byte-got, byte-none}
+use Rattle.number_bytes.specs.declared.Byte.{Byte}
+use Rattle.number_bytes.specs.declared.Byte
+use Rattle.number_bytes.specs.Bytes.{ByteAt}
+use Rattle.number_bytes.proofs.Laws.{byte-got, byte-none}
 use Rattle.type_table.proofs.CodesBack.{val-code-small, field-code-small}
 use Rattle.type_read.specs.declared.Coded.{Coded}
 use Rattle.type_read.specs.declared.Coded

@@ -13,15 +13,16 @@ use Rattle.scope.specs.Numbers.{u32, s33}
 use Rattle.scope.specs.Abstract.{Abstract, abstractOf}
 use Rattle.scope.specs.Sections.{heapAt}
 use Rattle.scope.specs.Memory.{abstractCode}
-use Rattle.number.specs.declared.Byte.{Byte}
-use Rattle.number.specs.declared.Byte
-use Rattle.number.specs.declared.Natural.{Natural}
-use Rattle.number.specs.declared.Natural
-use Rattle.number.specs.declared.Integer.{Integer}
-use Rattle.number.specs.declared.Integer
-use Rattle.number.specs.Answers.{ByteAt, naturalIs, integerIs}
-use Rattle.number.proofs.Bits.{byte-got, byte-none, next-fits}
-use Rattle.number.proofs.Laws.{natural-got, natural-refused, integer-plus, integer-minus, integer-refused}
+use Rattle.number_bytes.specs.declared.Byte.{Byte}
+use Rattle.number_bytes.specs.declared.Byte
+use Rattle.number_values.specs.declared.Natural.{Natural}
+use Rattle.number_values.specs.declared.Natural
+use Rattle.number_values.specs.declared.Integer.{Integer}
+use Rattle.number_values.specs.declared.Integer
+use Rattle.number_bytes.specs.Bytes.{ByteAt}
+use Rattle.number_values.specs.Values.{naturalIs, integerIs}
+use Rattle.number_bytes.proofs.Laws.{byte-got, byte-none, next-fits}
+use Rattle.number_values.proofs.Laws.{natural-got, natural-refused, integer-plus, integer-minus, integer-refused}
 use Rattle.type_abstract.specs.declared.AbstractType.{AbstractType}
 use Rattle.type_abstract.specs.declared.AbstractType
 use Rattle.type_abstract.specs.Heaps.{abstractIs}

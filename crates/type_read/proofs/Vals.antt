@@ -18,10 +18,10 @@ use Rattle.scope.specs.Sections.{heapAt, numberOf, valAt}
 use Rattle.scope.specs.Order.{numberCode}
 use Rattle.scope.specs.Memory.{abstractCode}
 use Rattle.scope.proofs.Impossible.{impossible}
-use Rattle.number.specs.declared.Byte.{Byte}
-use Rattle.number.specs.declared.Byte
-use Rattle.number.specs.Answers.{ByteAt}
-use Rattle.number.proofs.Bits.{byte-got, byte-none}
+use Rattle.number_bytes.specs.declared.Byte.{Byte}
+use Rattle.number_bytes.specs.declared.Byte
+use Rattle.number_bytes.specs.Bytes.{ByteAt}
+use Rattle.number_bytes.proofs.Laws.{byte-got, byte-none}
 use Rattle.type_abstract.specs.declared.AbstractType.{AbstractType}
 use Rattle.type_abstract.specs.declared.AbstractType
 use Rattle.type_abstract.specs.Heaps.{abstractIs}

@@ -1,8 +1,8 @@
 // Reading heap types, value types and fields. A type is answered by its code (scope's Memory.antt), a type number that
 // names no type as type_table's Kept.antt keeps it.
-use number::Byte;
-use number::Integer;
-use number::Natural;
+use number_bytes::Byte;
+use number_values::Integer;
+use number_values::Natural;
 use scope::refusals;
 use type_abstract::AbstractType;
 ghost use mathlib.Core.Path.{_≡_};
@@ -54,7 +54,7 @@ fn defined_at(s: &[u8], at: usize) -> Coded
 pub fn heap_at(s: &[u8], at: usize) -> Coded
     ensures { λ r. ⌜ r ≡ codedIs heapCodeKept (heapAt (now (s .entry)) at) ⌝ }
 {
-    let first = number::byte_at(s, at);
+    let first = number_bytes::byte_at(s, at);
     let Byte::Is(b) = first else {
         return Coded::Refused(refusals::BYTES_END, at);
     };
@@ -121,7 +121,7 @@ fn reference_at(s: &[u8], at: usize, b: u64, next: usize) -> Coded
 pub fn val_at(s: &[u8], at: usize) -> Coded
     ensures { λ r. ⌜ r ≡ codedIs valCodeKept (valAt (now (s .entry)) at) ⌝ }
 {
-    let first = number::byte_at(s, at);
+    let first = number_bytes::byte_at(s, at);
     let Byte::Is(b) = first else {
         return Coded::Refused(refusals::BYTES_END, at);
     };
@@ -136,7 +136,7 @@ pub fn val_at(s: &[u8], at: usize) -> Coded
 fn flag_at(s: &[u8], at: usize) -> Coded
     ensures { λ r. ⌜ r ≡ codedIs flag (flagAt (now (s .entry)) at) ⌝ }
 {
-    let first = number::byte_at(s, at);
+    let first = number_bytes::byte_at(s, at);
     let Byte::Is(b) = first else {
         return Coded::Refused(refusals::BYTES_END, at);
     };

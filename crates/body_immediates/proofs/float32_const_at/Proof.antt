@@ -3,7 +3,7 @@ use borrow.Author.Needs.{needs}
 use Rattle.body_immediates.proofs.Counting.{float-exits}
 use Rattle.body_immediates.proofs.float32_const_at.Statement.{statement}
 use Rattle.body_immediates.proofs.float32_const_at.Tie as tie
-use Rattle.number.proofs.float32_at.Reads as float32-at-reads
+use Rattle.number_floats.proofs.float32_at.Reads as float32-at-reads
 
 float32-at-requires : tie.Need-float32-at-requires
 float32-at-requires c κs = search needs

@@ -3,7 +3,7 @@ use borrow.Author.Needs.{needs}
 use Rattle.body_immediates.proofs.Counting.{float-exits}
 use Rattle.body_immediates.proofs.float64_const_at.Statement.{statement}
 use Rattle.body_immediates.proofs.float64_const_at.Tie as tie
-use Rattle.number.proofs.float64_at.Reads as float64-at-reads
+use Rattle.number_floats.proofs.float64_at.Reads as float64-at-reads
 
 float64-at-requires : tie.Need-float64-at-requires
 float64-at-requires c κs = search needs

@@ -1,6 +1,6 @@
 -- `section_clauses::clause_at` meets its contract: the clause is there where its code is.
 use borrow.Author.Needs.{needs}
-use Rattle.number.proofs.Bits.{next-fits}
+use Rattle.number_bytes.proofs.Laws.{next-fits}
 use Rattle.section_clauses.proofs.Heading.{clause-exits}
 use Rattle.section_clauses.proofs.clause_at.Statement.{statement}
 use Rattle.section_clauses.proofs.clause_at.Tie as tie

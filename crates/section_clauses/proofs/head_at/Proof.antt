@@ -1,6 +1,6 @@
 -- `section_clauses::head_at` meets its contract: 50, 4F or neither, by the byte.
 use borrow.Author.Needs.{needs}
-use Rattle.number.proofs.Bits.{next-fits}
+use Rattle.number_bytes.proofs.Laws.{next-fits}
 use Rattle.section_clauses.proofs.Heading.{head-exits}
 use Rattle.section_clauses.proofs.head_at.Statement.{statement}
 use Rattle.section_clauses.proofs.head_at.Tie as tie

@@ -1,6 +1,6 @@
 -- `section_forms::form_at` meets its contract: 5F or 60, by the byte.
 use borrow.Author.Needs.{needs}
-use Rattle.number.proofs.Bits.{next-fits}
+use Rattle.number_bytes.proofs.Laws.{next-fits}
 use Rattle.section_forms.proofs.Forms.{form-exits}
 use Rattle.section_forms.proofs.form_at.Statement.{statement}
 use Rattle.section_forms.proofs.form_at.Tie as tie

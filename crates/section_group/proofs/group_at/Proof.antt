@@ -1,6 +1,6 @@
 -- `section_group::group_at` meets its contract: 4E or not, by the byte.
 use borrow.Author.Needs.{needs}
-use Rattle.number.proofs.Bits.{next-fits}
+use Rattle.number_bytes.proofs.Laws.{next-fits}
 use Rattle.section_group.proofs.Ways.{way-exits}
 use Rattle.section_group.proofs.group_at.Statement.{statement}
 use Rattle.section_group.proofs.group_at.Tie as tie

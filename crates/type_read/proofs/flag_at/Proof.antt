@@ -1,6 +1,6 @@
 -- `type_read::flag_at` meets its contract: 00 or 01, by the byte.
 use borrow.Author.Needs.{needs}
-use Rattle.number.proofs.Bits.{next-fits}
+use Rattle.number_bytes.proofs.Laws.{next-fits}
 use Rattle.type_read.proofs.Fields.{flag-exits}
 use Rattle.type_read.proofs.flag_at.Statement.{statement}
 use Rattle.type_read.proofs.flag_at.Tie as tie

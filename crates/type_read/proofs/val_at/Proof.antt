@@ -1,6 +1,6 @@
 -- `type_read::val_at` meets its contract: a number by its byte, else a reference.
 use borrow.Author.Needs.{needs}
-use Rattle.number.proofs.Bits.{next-fits}
+use Rattle.number_bytes.proofs.Laws.{next-fits}
 use Rattle.type_read.proofs.Vals.{val-exits}
 use Rattle.type_read.proofs.val_at.Statement.{statement}
 use Rattle.type_read.proofs.val_at.Tie as tie

@@ -1,0 +1,3 @@
+pub mod Needed
+pub mod Signed
+pub mod Laws
