@@ -45,11 +45,11 @@ pub fn leb_at(s: &[u8], at: usize, most: u64) -> Leb
     ensures { λ r. ⌜ BitsRead most (now (s .entry)) at r ⌝ }
 {
     let read = number_bytes::byte_at(s, at);
-    let Byte::Is(b) = read else {
+    let Byte::Is(first) = read else {
         return Leb::Cut;
     };
-    if b < TWO_BYTES {
-        return Leb::One(b, at + 1);
+    if first < TWO_BYTES {
+        return Leb::One(first, at + 1);
     }
-    leb_loop(s, at, b, most)
+    leb_loop(s, at, first, most)
 }
