@@ -14,9 +14,9 @@ use Rattle.scope.proofs.Truths.{decided}
 use Rattle.scope.proofs.Order.{value-below-reflexive}
 use Rattle.type_table.specs.View.{valAtCode}
 use Rattle.type_table.proofs.Codes.{val-number, val-ref}
-use Rattle.type_order.specs.declared.Fit.{Fit}
-use Rattle.type_order.specs.declared.Fit
-use Rattle.type_order.specs.Outcomes.{fitIs}
+use Rattle.type_fit.specs.declared.Fit.{Fit}
+use Rattle.type_fit.specs.declared.Fit
+use Rattle.type_fit.specs.Outcomes.{fitIs}
 use Rattle.body_state.specs.State.{operandAtCode, wantedAtCode}
 use Rattle.body_operands.proofs.Laws.{known-word, value-word}
 

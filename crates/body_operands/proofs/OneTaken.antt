@@ -7,10 +7,10 @@ use borrow.Author.Tests.{ne-eqb}
 use Rattle.scope.specs.Refusals.{badOperand, onlyNull}
 use Rattle.scope.specs.Syntax.{Types}
 use Rattle.scope.specs.Bodies.{fit, operandTest, takeAll}
-use Rattle.type_order.specs.declared.Fit.{Fit}
-use Rattle.type_order.specs.declared.Fit
-use Rattle.type_order.specs.Outcomes.{fitIs}
-use Rattle.type_order.proofs.Outcomes.{is-fits, is-but-for-null, is-unfit}
+use Rattle.type_fit.specs.declared.Fit.{Fit}
+use Rattle.type_fit.specs.declared.Fit
+use Rattle.type_fit.specs.Outcomes.{fitIs}
+use Rattle.type_fit.proofs.Outcomes.{is-fits, is-but-for-null, is-unfit}
 use Rattle.lent_u32.specs.Scratch.{Word32At}
 use Rattle.body_state.specs.Layout.{operandsFrom}
 use Rattle.body_state.specs.State.{operandAtCode, wantedAtCode, wantsAt, stack}

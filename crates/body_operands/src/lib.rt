@@ -2,7 +2,7 @@
 // number of operands. Each answer is that of document 01's rules (scope's Bodies.antt) over what the words say.
 use body_state::Values;
 use scope::refusals;
-use type_order::Fit;
+use type_fit::Fit;
 ghost use mathlib.Core.Path.{_≡_};
 ghost use mathlib.Core.Bool.{cond};
 ghost use mathlib.Core.List.{[], _∷_, _++_};
@@ -12,7 +12,7 @@ ghost use Rattle.scope.specs.BodyRules.{fromTop};
 ghost use Rattle.scope.specs.Order.{itFits, unfit};
 ghost use Rattle.scope.specs.Bodies.{fit, takeAll, onTop};
 ghost use Rattle.type_table.specs.View.{view};
-ghost use Rattle.type_order.specs.Outcomes.{fitIs};
+ghost use Rattle.type_fit.specs.Outcomes.{fitIs};
 ghost use Rattle.body_state.specs.Layout.{wordBound};
 ghost use Rattle.body_state.specs.State.{operandAtCode, wantedAtCode, wantsAt, valuesOf, stack};
 ghost use Rattle.body_operands.specs.Taking.{tookOf, leftOf, leftIn, Room, Pushed};
@@ -74,7 +74,7 @@ pub fn fit_word(rows: &[u16], codes: &[u16], o: u64, w: u64) -> Fit
     if w == ANY_REFERENCE {
         return as_reference(REFERENCES <= o);
     }
-    type_order::val_fit(rows, codes, o - KNOWN, w - KNOWN)
+    type_fit::val_fit(rows, codes, o - KNOWN, w - KNOWN)
 }
 
 // One operand from the top: 31 where only null is wrong, 20 where it is missing or does not fit.

@@ -27,10 +27,10 @@ use Rattle.type_table.specs.declared.Link.{Link}
 use Rattle.type_table.specs.declared.Link
 use Rattle.type_reach.specs.Names.{allBelow}
 use Rattle.type_reach.proofs.Naming.{below-append}
-use Rattle.type_order.specs.declared.Fit.{Fit}
-use Rattle.type_order.specs.declared.Fit
-use Rattle.type_order.specs.Outcomes.{fitIs}
-use Rattle.type_order.proofs.Outcomes.{outcome-fits, outcome-null, outcome-unfit}
+use Rattle.type_fit.specs.declared.Fit.{Fit}
+use Rattle.type_fit.specs.declared.Fit
+use Rattle.type_fit.specs.Outcomes.{fitIs}
+use Rattle.type_fit.proofs.Outcomes.{outcome-fits, outcome-null, outcome-unfit}
 use Rattle.body_state.specs.declared.Scene.{Scene}
 use Rattle.body_state.specs.declared.Values.{Values}
 use Rattle.body_state.specs.declared.Planned.{Planned}

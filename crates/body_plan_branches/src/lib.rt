@@ -8,7 +8,7 @@ use body_state::Planned;
 use body_state::Scene;
 use body_state::Values;
 use scope::refusals;
-use type_order::Fit;
+use type_fit::Fit;
 use type_table::Link;
 ghost use mathlib.Core.Bool.{not, _&&_};
 ghost use Prim.Native.Nat.{_<_};
@@ -123,7 +123,7 @@ fn carries(
         Split::Nothing => Planned::Fault(refusals::BAD_BRANCH),
         Split::Is(before, last) => {
             // the label's rule relies on the first outcome alone, and makes 25 of the other two
-            let fit = type_order::val_fit(rows, codes, carried, last);
+            let fit = type_fit::val_fit(rows, codes, carried, last);
             match fit {
                 Fit::ButForNull => Planned::Fault(refusals::BAD_BRANCH),
                 Fit::Unfit => Planned::Fault(refusals::BAD_BRANCH),

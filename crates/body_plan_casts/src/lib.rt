@@ -41,11 +41,11 @@ pub fn top_of(rows: &[u16], codes: &[u16], heap: u64) -> u64
     match kind {
         HeapKind::Abstract(a) => type_abstract::top_of(a),
         HeapKind::Defined(x) => {
-            let form = type_order::kind_of(rows, codes, x);
+            let form = type_hierarchy::kind_of(rows, codes, x);
             type_abstract::top_of(form)
         }
         HeapKind::Exact(x) => {
-            let form = type_order::kind_of(rows, codes, x);
+            let form = type_hierarchy::kind_of(rows, codes, x);
             type_abstract::top_of(form)
         }
     }

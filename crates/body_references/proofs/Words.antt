@@ -14,10 +14,10 @@ use Rattle.scope.specs.Memory.{valCode}
 use Rattle.type_table.specs.View.{isOdd, numberAt, heapAtCode, valAtCode}
 use Rattle.type_table.proofs.Codes.{val-number, val-ref}
 use Rattle.type_table.proofs.CodesBack.{val-code}
-use Rattle.type_order.specs.declared.Fit.{Fit}
-use Rattle.type_order.specs.declared.Fit
-use Rattle.type_order.specs.Outcomes.{fitIs}
-use Rattle.type_order.proofs.Outcomes.{is-fits, is-but-for-null, is-unfit}
+use Rattle.type_fit.specs.declared.Fit.{Fit}
+use Rattle.type_fit.specs.declared.Fit
+use Rattle.type_fit.specs.Outcomes.{fitIs}
+use Rattle.type_fit.proofs.Outcomes.{is-fits, is-but-for-null, is-unfit}
 use Rattle.body_state.specs.State.{operandAtCode, wantedAtCode}
 use Rattle.body_operands.proofs.Laws.{known-word, value-word}
 

@@ -5,7 +5,7 @@ use body_state::Scene;
 use body_state::Step;
 use scope::refusals;
 use scope::sizes;
-use type_order::Fit;
+use type_fit::Fit;
 ghost use mathlib.Core.Path.{_≡_};
 ghost use mathlib.Core.Bool.{cond};
 ghost use Rattle.scope.specs.Syntax.{nullable, nonNull, defined, exact};

@@ -1,6 +1,6 @@
 // Type rule 2: whether a type's form matches its supertype's. Fields and value types are codes that lie one after the
 // other in the table; each answer is the rule's (scope's TypeRules.antt) over what the table says, for any words.
-use type_order::Fit;
+use type_fit::Fit;
 use type_table::Link;
 use type_table::Shape;
 ghost use mathlib.Core.Path.{_≡_};
@@ -15,7 +15,7 @@ ghost use Rattle.type_matching.specs.Lists.{codeMatches, codesMatch};
 fn subtype(rows: &[u16], codes: &[u16], a: u64, b: u64) -> bool
     ensures { λ r. ⌜ r ≡ valBelow (view (now (rows .entry)) (now (codes .entry))) (valAtCode a) (valAtCode b) ⌝ }
 {
-    let fit = type_order::val_fit(rows, codes, a, b);
+    let fit = type_fit::val_fit(rows, codes, a, b);
     match fit {
         Fit::Fits => true,
         Fit::ButForNull => false,
@@ -29,7 +29,7 @@ fn field_matches(rows: &[u16], codes: &[u16], a: u64, b: u64) -> bool
 {
     if a % 2 == 1 {
         if b % 2 == 1 {
-            type_order::same_val(a / 2, b / 2)
+            type_fit::same_val(a / 2, b / 2)
         } else {
             false
         }

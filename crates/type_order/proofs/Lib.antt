@@ -1,4 +1,1 @@
-pub mod Climbing
 pub mod Under
-pub mod Same
-pub mod Outcomes

@@ -1,6 +1,6 @@
 -- `type_matching::subtype` meets its contract.
 use borrow.Author.Needs.{needs}
-use Rattle.type_order.proofs.Outcomes.{outcomes}
+use Rattle.type_fit.proofs.Outcomes.{outcomes}
 use Rattle.type_matching.proofs.subtype.Statement.{statement}
 use Rattle.type_matching.proofs.subtype.Tie as tie
 

@@ -1,9 +1,9 @@
--- `type_order::climbs_to` meets its contract: each turn goes one supertype up, as the test does, with one step less.
+-- `type_hierarchy::climbs_to` meets its contract: each turn goes one supertype up, as the test does, with one step less.
 use borrow.Author.Needs.{needs}
 use Rattle.type_table.specs.View.{view}
-use Rattle.type_order.proofs.Climbing.{Climb, climb-exits}
-use Rattle.type_order.proofs.climbs_to.Statement.{statement}
-use Rattle.type_order.proofs.climbs_to.Tie as tie
+use Rattle.type_hierarchy.proofs.Climbing.{Climb, climb-exits}
+use Rattle.type_hierarchy.proofs.climbs_to.Statement.{statement}
+use Rattle.type_hierarchy.proofs.climbs_to.Tie as tie
 
 abbrev Inv-loop : tie.InvT-loop
 Inv-loop rows codes x y at₀ left₀ at left = Climb (view rows codes) x y at left

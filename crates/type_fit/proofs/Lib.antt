@@ -1,2 +1,2 @@
-pub mod Named
+pub mod Same
 pub mod Outcomes

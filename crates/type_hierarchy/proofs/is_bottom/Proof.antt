@@ -1,8 +1,8 @@
--- `type_order::is_bottom` meets its contract: the bottom of a type's hierarchy has one number.
+-- `type_hierarchy::is_bottom` meets its contract: the bottom of a type's hierarchy has one number.
 use borrow.Author.Needs.{needs}
-use Rattle.type_order.proofs.Under.{kind-exits}
-use Rattle.type_order.proofs.is_bottom.Statement.{statement}
-use Rattle.type_order.proofs.is_bottom.Tie as tie
+use Rattle.type_hierarchy.proofs.ByForm.{kind-exits}
+use Rattle.type_hierarchy.proofs.is_bottom.Statement.{statement}
+use Rattle.type_hierarchy.proofs.is_bottom.Tie as tie
 
 kind-of-requires : tie.Need-kind-of-requires
 kind-of-requires c κs = search needs

@@ -1,8 +1,8 @@
--- `type_order::ref_fit` meets its contract: heaps decide, and then whether null is wrong.
+-- `type_fit::ref_fit` meets its contract: heaps decide, and then whether null is wrong.
 use borrow.Author.Needs.{needs}
-use Rattle.type_order.proofs.Same.{ref-exits, heaps-apart, only-null-wrong}
-use Rattle.type_order.proofs.ref_fit.Statement.{statement}
-use Rattle.type_order.proofs.ref_fit.Tie as tie
+use Rattle.type_fit.proofs.Same.{ref-exits, heaps-apart, only-null-wrong}
+use Rattle.type_fit.proofs.ref_fit.Statement.{statement}
+use Rattle.type_fit.proofs.ref_fit.Tie as tie
 
 val-of-requires : tie.Need-val-of-requires
 val-of-requires c κs = search needs

@@ -1,8 +1,8 @@
--- `type_order::kind_below` meets its contract: the number of a type's kind is read as that kind.
+-- `type_hierarchy::kind_below` meets its contract: the number of a type's kind is read as that kind.
 use borrow.Author.Needs.{needs}
-use Rattle.type_order.proofs.Under.{kind-exits}
-use Rattle.type_order.proofs.kind_below.Statement.{statement}
-use Rattle.type_order.proofs.kind_below.Tie as tie
+use Rattle.type_hierarchy.proofs.ByForm.{kind-exits}
+use Rattle.type_hierarchy.proofs.kind_below.Statement.{statement}
+use Rattle.type_hierarchy.proofs.kind_below.Tie as tie
 
 kind-of-requires : tie.Need-kind-of-requires
 kind-of-requires c κs = search needs

@@ -1,8 +1,8 @@
--- `type_order::kind_of` meets its contract: a form that is no struct is a function.
+-- `type_hierarchy::kind_of` meets its contract: a form that is no struct is a function.
 use borrow.Author.Needs.{needs}
-use Rattle.type_order.proofs.Under.{kind-exits}
-use Rattle.type_order.proofs.kind_of.Statement.{statement}
-use Rattle.type_order.proofs.kind_of.Tie as tie
+use Rattle.type_hierarchy.proofs.ByForm.{kind-exits}
+use Rattle.type_hierarchy.proofs.kind_of.Statement.{statement}
+use Rattle.type_hierarchy.proofs.kind_of.Tie as tie
 
 is-struct-requires : tie.Need-is-struct-requires
 is-struct-requires c κs = search needs

@@ -18,9 +18,9 @@ use Rattle.type_table.specs.declared.ValKind
 use Rattle.type_table.specs.Answers.{valIs}
 use Rattle.type_table.proofs.Codes.{val-code-at}
 use Rattle.type_table.proofs.Laws.{is-number, is-ref}
-use Rattle.type_order.specs.declared.Fit.{Fit}
-use Rattle.type_order.specs.declared.Fit
-use Rattle.type_order.specs.Outcomes.{fitIs}
+use Rattle.type_fit.specs.declared.Fit.{Fit}
+use Rattle.type_fit.specs.declared.Fit
+use Rattle.type_fit.specs.Outcomes.{fitIs}
 
 -- a reference against a value type that was read
 

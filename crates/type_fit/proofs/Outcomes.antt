@@ -5,9 +5,9 @@ use Rattle.scope.specs.Syntax.{Val, Types}
 use Rattle.scope.specs.Order.{itFits, butForNull, unfit, madeNonNull, valBelow, valFit}
 use Rattle.scope.specs.Order.{Fit as Outcome}
 use Rattle.scope.proofs.Impossible.{impossible}
-use Rattle.type_order.specs.declared.Fit.{Fit}
-use Rattle.type_order.specs.declared.Fit
-use Rattle.type_order.specs.Outcomes.{fitIs}
+use Rattle.type_fit.specs.declared.Fit.{Fit}
+use Rattle.type_fit.specs.declared.Fit
+use Rattle.type_fit.specs.Outcomes.{fitIs}
 
 -- an outcome is told by its own name
 

@@ -1,8 +1,8 @@
 -- The three outcomes of a type's test (scope's Order.antt), as the code tells them.
 use Rattle.scope.specs.Order.{itFits, butForNull, unfit}
 use Rattle.scope.specs.Order.{Fit as Outcome}
-use Rattle.type_order.specs.declared.Fit.{Fit}
-use Rattle.type_order.specs.declared.Fit
+use Rattle.type_fit.specs.declared.Fit.{Fit}
+use Rattle.type_fit.specs.declared.Fit
 
 abbrev pub fitIs : Outcome → Fit
 fitIs itFits = Fit.the-variants.Fits

@@ -1,8 +1,8 @@
--- `type_order::val_fit` meets its contract: a type fits itself, and no number type fits another.
+-- `type_fit::val_fit` meets its contract: a type fits itself, and no number type fits another.
 use borrow.Author.Needs.{needs}
-use Rattle.type_order.proofs.Same.{val-exits}
-use Rattle.type_order.proofs.val_fit.Statement.{statement}
-use Rattle.type_order.proofs.val_fit.Tie as tie
+use Rattle.type_fit.proofs.Same.{val-exits}
+use Rattle.type_fit.proofs.val_fit.Statement.{statement}
+use Rattle.type_fit.proofs.val_fit.Tie as tie
 
 returns : tie.Need-returns
 returns c = search (val-exits, needs)
