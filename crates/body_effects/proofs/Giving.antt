@@ -20,7 +20,7 @@ use Rattle.body_state.proofs.Stepping.{stepped-on, stepped-fault, stepped-as, w
 use Rattle.body_operands.specs.declared.Left.{Left}
 use Rattle.body_operands.specs.declared.Left
 use Rattle.body_operands.specs.Taking.{leftIn, leftOf}
-use Rattle.body_operands.proofs.PushedState.{pushed-state, pushed-upright, pushed-stamped, pushed-types}
+use Rattle.body_put.proofs.PushedState.{pushed-state, pushed-upright, pushed-stamped, pushed-types}
 use Rattle.body_frames.specs.Frames.{Ready, Marked}
 use Rattle.body_frames.proofs.MarkedState.{may-mark, marked-state, marked-upright, marked-stamped}
 use Rattle.body_push.specs.declared.Given.{Given}

@@ -24,14 +24,15 @@ use Rattle.body_state.specs.Layout.{framesFrom, frameSpan, loopWord, resultWord
 use Rattle.body_state.specs.State.{valuesOf, resultsAt, frameWord, stack, setsAt, frameOf, frameAt, framesAt, stateAt, contextAt, Rests, above, Upright, Stepped, ResultsOf}
 use Rattle.body_state.proofs.Alike.{frames-more}
 use Rattle.body_state.proofs.Stepping.{stepped-on, stepped-stop, stepped-fault}
+use Rattle.body_words.proofs.Laws.{stack-none, stack-some}
 use Rattle.body_operands.specs.declared.Left.{Left}
 use Rattle.body_operands.specs.declared.Left
 use Rattle.body_operands.specs.Taking.{leftOf, leftIn}
-use Rattle.body_operands.proofs.Laws.{stack-none, stack-some, left-got, left-missed}
+use Rattle.body_operands.proofs.Laws.{left-got, left-missed}
+use Rattle.body_put.proofs.PushedState.{pushed-types, pushed-stamped, pushed-state, pushed-upright}
 use Rattle.body_push.specs.declared.Given.{Given}
 use Rattle.body_push.specs.declared.Given
 use Rattle.body_push.specs.Gives.{Long, givenOf, GivenTo, Gave, TooMany}
-use Rattle.body_operands.proofs.PushedState.{pushed-types, pushed-stamped, pushed-state, pushed-upright}
 use Rattle.body_push.proofs.Laws.{given-back, onThose, within-sizes, beyond-sizes}
 use Rattle.body_end.specs.declared.End.{End}
 use Rattle.body_end.specs.declared.End

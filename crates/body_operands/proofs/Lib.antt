@@ -1,6 +1,3 @@
 pub mod Laws
-pub mod Fitting
-pub mod OneTaken
+pub mod OneOrNone
 pub mod Several
-pub mod OnTop
-pub mod PushedState

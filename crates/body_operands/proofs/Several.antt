@@ -13,12 +13,14 @@ use Rattle.scope.specs.BodyRules.{Wanted, value, Ruled, andRuled, fromTop}
 use Rattle.scope.specs.Bodies.{Operand, takeAll}
 use Rattle.body_state.specs.declared.Values.{Values}
 use Rattle.body_state.specs.State.{wantedAtCode, valuesOf, stack, LengthOf, CodeOf}
-use Rattle.body_operands.specs.declared.Take.{Take}
-use Rattle.body_operands.specs.declared.Take
+use Rattle.body_words.proofs.Laws.{value-code, reverse-there}
+use Rattle.body_take.specs.declared.Take.{Take}
+use Rattle.body_take.specs.declared.Take
+use Rattle.body_take.specs.Took.{tookOf}
 use Rattle.body_operands.specs.declared.Left.{Left}
 use Rattle.body_operands.specs.declared.Left
-use Rattle.body_operands.specs.Taking.{tookOf, leftOf, leftIn}
-use Rattle.body_operands.proofs.Laws.{value-code, reverse-there, left-append}
+use Rattle.body_operands.specs.Taking.{leftOf, leftIn}
+use Rattle.body_operands.proofs.Laws.{left-append}
 
 -- a list
 

@@ -14,8 +14,9 @@ use Rattle.scope.proofs.Impossible.{impossible}
 use Rattle.body_state.specs.declared.Values.{Values}
 use Rattle.body_state.specs.Layout.{wordBound, codeBound}
 use Rattle.body_state.specs.State.{operandAtCode, valAtWord, resultsAt, valuesOf, LengthOf}
-use Rattle.body_operands.specs.Taking.{Room, Pushed}
-use Rattle.body_operands.proofs.Laws.{known-kept, on-top-append, pushed-none, pushed-more}
+use Rattle.body_words.proofs.Laws.{known-kept}
+use Rattle.body_put.specs.Putting.{Room, Pushed}
+use Rattle.body_put.proofs.Laws.{on-top-append, pushed-none, pushed-more}
 use Rattle.body_push.specs.declared.Given.{Given}
 use Rattle.body_push.specs.declared.Given
 use Rattle.body_push.specs.Gives.{Long, backOf, givenOf, BackLength, GivesLength, Space, PutBack, GivenTo}

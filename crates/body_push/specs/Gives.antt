@@ -10,7 +10,7 @@ use Rattle.scope.specs.Bodies.{onTop}
 use Rattle.body_state.specs.declared.Values.{Values}
 use Rattle.body_state.specs.Layout.{usedSize}
 use Rattle.body_state.specs.State.{valuesOf, resultsAt}
-use Rattle.body_operands.specs.Taking.{Pushed}
+use Rattle.body_put.specs.Putting.{Pushed}
 use Rattle.body_push.specs.declared.Given.{Given}
 use Rattle.body_push.specs.declared.Given
 

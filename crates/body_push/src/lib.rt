@@ -24,7 +24,7 @@ fn push_back(codes: &[u16], work: &mut [u32], list: Values, back: bool, base: u3
     ensures { λ r. ⌜ PutBack (now (work .entry)) (now (work .exit)) base height (backOf (now (codes .entry)) list back) ⌝ }
 {
     if back {
-        body_operands::push_list(codes, work, list, base, height);
+        body_put::push_list(codes, work, list, base, height);
     }
 }
 
@@ -35,7 +35,7 @@ fn push_gives(work: &mut [u32], gives: u64, base: u32, height: u32)
 {
     if gives != 0 {
         let code = (gives - 1) % body_state::CODE_BOUND;
-        body_operands::push(work, base, height, code + body_operands::KNOWN);
+        body_put::push(work, base, height, code + body_words::KNOWN);
     }
 }
 

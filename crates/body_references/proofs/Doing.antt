@@ -23,10 +23,11 @@ use Rattle.body_state.specs.Layout.{wordBound}
 use Rattle.body_state.specs.State.{operandAtCode, wantedAtCode, stack, setsAt, contextAt, stateAt, Upright, Stepped}
 use Rattle.body_state.proofs.Alike.{stack-length}
 use Rattle.body_state.proofs.Stepping.{stepped-on, stepped-fault, stepped-as, within-on, within-full}
-use Rattle.body_operands.specs.declared.Take.{Take}
-use Rattle.body_operands.specs.declared.Take
-use Rattle.body_operands.specs.Taking.{Room, Pushed, tookOf}
-use Rattle.body_operands.proofs.PushedState.{pushed-state, pushed-upright, pushed-stamped, pushed-types}
+use Rattle.body_take.specs.declared.Take.{Take}
+use Rattle.body_take.specs.declared.Take
+use Rattle.body_take.specs.Took.{tookOf}
+use Rattle.body_put.specs.Putting.{Room, Pushed}
+use Rattle.body_put.proofs.PushedState.{pushed-state, pushed-upright, pushed-stamped, pushed-types}
 use Rattle.body_references.specs.OneMore.{withTop, nonNullDone, descriptorDone}
 use Rattle.body_references.proofs.Words.{wanted-of}
 

@@ -19,7 +19,7 @@ use Rattle.type_fit.specs.declared.Fit
 use Rattle.type_fit.specs.Outcomes.{fitIs}
 use Rattle.type_fit.proofs.Outcomes.{is-fits, is-but-for-null, is-unfit}
 use Rattle.body_state.specs.State.{operandAtCode, wantedAtCode}
-use Rattle.body_operands.proofs.Laws.{known-word, value-word}
+use Rattle.body_words.proofs.Laws.{known-word, value-word}
 
 -- a word of a reference
 

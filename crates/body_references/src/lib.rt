@@ -1,8 +1,8 @@
 // The two instructions whose result depends on the reference that they take: ref.as_non_null and ref.get_desc.
-use body_operands::Take;
 use body_state::Check;
 use body_state::Scene;
 use body_state::Step;
+use body_take::Take;
 use scope::refusals;
 use scope::sizes;
 use type_fit::Fit;
@@ -16,11 +16,11 @@ ghost use Rattle.body_state.specs.State.{operandAtCode, stack, contextAt, state
 ghost use Rattle.body_references.specs.OneMore.{withTop, nonNullDone, descriptorDone};
 
 // The operands' words, as an operand that was taken is held.
-const UNKNOWN: u32 = body_operands::UNKNOWN as u32;
+const UNKNOWN: u32 = body_words::UNKNOWN as u32;
 
-const UNKNOWN_REFERENCE: u32 = body_operands::UNKNOWN_REFERENCE as u32;
+const UNKNOWN_REFERENCE: u32 = body_words::UNKNOWN_REFERENCE as u32;
 
-const REFERENCES: u32 = body_operands::REFERENCES as u32;
+const REFERENCES: u32 = body_words::REFERENCES as u32;
 
 // One operand on top of those that are left of the frame's.
 fn put_operand(work: &mut [u32], locals: u16, check: Check, left: u32, o: u32) -> Step
@@ -38,7 +38,7 @@ fn put_operand(work: &mut [u32], locals: u16, check: Check, left: u32, o: u32) -
     if sizes::MOST_OPERANDS < base as u64 + (left as u64 + 1) {
         return Step::Fault(refusals::OVERSIZE);
     }
-    body_operands::push(work, base, left, o as u64);
+    body_put::push(work, base, left, o as u64);
     Step::On(Check {
         depth: depth,
         base: base,
@@ -83,11 +83,11 @@ pub fn do_non_null(
     let base = check.base;
     let height = check.height;
     let dead = check.dead;
-    let taken = body_operands::take_one(
+    let taken = body_take::take_one(
         rows,
         codes,
         work,
-        body_operands::ANY_REFERENCE,
+        body_words::ANY_REFERENCE,
         base,
         height,
         dead,
@@ -109,7 +109,7 @@ fn descriptor_word(rows: &[u16], codes: &[u16], o: u32, x: u16, y: u16) -> u32
         ⌜ operandAtCode r ≡ known (nonNull (cond exactly (exact y) (defined y))) ⌝ }
 {
     let exact_x = 2 + (5 + 2 * (11 + 2 * x as u64));
-    let fit = body_operands::fit_word(rows, codes, o as u64, exact_x);
+    let fit = body_fit::fit_word(rows, codes, o as u64, exact_x);
     let exact_y = 2 + (4 + 2 * (11 + 2 * y as u32));
     let plain_y = 2 + (4 + 2 * (10 + 2 * y as u32));
     match fit {
@@ -142,7 +142,7 @@ pub fn do_descriptor(
     let height = check.height;
     let dead = check.dead;
     let wanted = 2 + (5 + 2 * (10 + 2 * x as u64));
-    let taken = body_operands::take_one(rows, codes, work, wanted, base, height, dead);
+    let taken = body_take::take_one(rows, codes, work, wanted, base, height, dead);
     match taken {
         Take::Fault(number) => Step::Fault(number),
         Take::Took(o, left) => {

@@ -14,8 +14,9 @@ use Rattle.body_state.specs.declared.Values.{Values}
 use Rattle.body_state.specs.Layout.{operandsFrom, wordBound}
 use Rattle.body_state.specs.State.{operandAtCode, valuesOf, LengthOf, CodeOf}
 use Rattle.body_state.proofs.Alike.{stack-same}
-use Rattle.body_operands.specs.Taking.{Room, Pushed}
-use Rattle.body_operands.proofs.Laws.{known-kept, reverse-there, stack-more, pushed-none, pushed-more}
+use Rattle.body_words.proofs.Laws.{known-kept, reverse-there, stack-more}
+use Rattle.body_put.specs.Putting.{Room, Pushed}
+use Rattle.body_put.proofs.Laws.{pushed-none, pushed-more}
 
 -- one
 

@@ -1,8 +1,8 @@
--- `body_operands::as_reference` meets its contract.
+-- `body_fit::as_reference` meets its contract.
 use borrow.Author.Needs.{needs}
-use Rattle.body_operands.proofs.Fitting.{reference-exits}
-use Rattle.body_operands.proofs.as_reference.Statement.{statement}
-use Rattle.body_operands.proofs.as_reference.Tie as tie
+use Rattle.body_fit.proofs.Fitting.{reference-exits}
+use Rattle.body_fit.proofs.as_reference.Statement.{statement}
+use Rattle.body_fit.proofs.as_reference.Tie as tie
 
 returns : tie.Need-returns
 returns c = search (reference-exits, needs)

@@ -18,7 +18,7 @@ use Rattle.type_fit.specs.declared.Fit.{Fit}
 use Rattle.type_fit.specs.declared.Fit
 use Rattle.type_fit.specs.Outcomes.{fitIs}
 use Rattle.body_state.specs.State.{operandAtCode, wantedAtCode}
-use Rattle.body_operands.proofs.Laws.{known-word, value-word}
+use Rattle.body_words.proofs.Laws.{known-word, value-word}
 
 -- the words of references begin at 6
 reference-word : {c : ℕ} → (c ≡ 0 → ⊥) → (c ≡ 1 → ⊥) → leb 6 c ≡ isReference (valAtCode (c - 2))

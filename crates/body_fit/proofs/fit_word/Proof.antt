@@ -1,8 +1,8 @@
--- `body_operands::fit_word` meets its contract.
+-- `body_fit::fit_word` meets its contract.
 use borrow.Author.Needs.{needs}
-use Rattle.body_operands.proofs.Fitting.{fit-exits}
-use Rattle.body_operands.proofs.fit_word.Statement.{statement}
-use Rattle.body_operands.proofs.fit_word.Tie as tie
+use Rattle.body_fit.proofs.Fitting.{fit-exits}
+use Rattle.body_fit.proofs.fit_word.Statement.{statement}
+use Rattle.body_fit.proofs.fit_word.Tie as tie
 
 returns : tie.Need-returns
 returns c = search (fit-exits, needs)

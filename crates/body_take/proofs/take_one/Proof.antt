@@ -1,8 +1,8 @@
--- `body_operands::take_one` meets its contract.
+-- `body_take::take_one` meets its contract.
 use borrow.Author.Needs.{needs}
-use Rattle.body_operands.proofs.OneTaken.{one-exits}
-use Rattle.body_operands.proofs.take_one.Statement.{statement}
-use Rattle.body_operands.proofs.take_one.Tie as tie
+use Rattle.body_take.proofs.OneTaken.{one-exits}
+use Rattle.body_take.proofs.take_one.Statement.{statement}
+use Rattle.body_take.proofs.take_one.Tie as tie
 
 cast-t13 : tie.Need-cast-t13
 cast-t13 c = search (one-exits, needs)

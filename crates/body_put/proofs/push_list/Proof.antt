@@ -1,10 +1,10 @@
--- `body_operands::push_list` meets its contract: each turn puts the next type on top.
+-- `body_put::push_list` meets its contract: each turn puts the next type on top.
 use Prim.Native.Nat.{_-_}
 use borrow.Author.Needs.{needs}
 use Rattle.body_state.specs.State.{valuesOf}
-use Rattle.body_operands.proofs.OnTop.{FirstOn, on-exits}
-use Rattle.body_operands.proofs.push_list.Statement.{statement}
-use Rattle.body_operands.proofs.push_list.Tie as tie
+use Rattle.body_put.proofs.OnTop.{FirstOn, on-exits}
+use Rattle.body_put.proofs.push_list.Statement.{statement}
+use Rattle.body_put.proofs.push_list.Tie as tie
 
 abbrev Inv-loop : tie.InvT-loop
 Inv-loop codes work₀ list base height n i₀ work i = FirstOn work₀ work base height (valuesOf codes list) n i

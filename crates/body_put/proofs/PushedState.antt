@@ -11,7 +11,7 @@ use Rattle.scope.specs.Bodies.{Operand}
 use Rattle.body_state.specs.Layout.{stampsFrom, framesFrom, frameSpan, stampWord, usedSize}
 use Rattle.body_state.specs.State.{stack, setsAt, framesAt, stateAt, Rests, Upright, Stamped}
 use Rattle.body_state.proofs.Alike.{Alike, alike-less, sets-alike, rests-alike, frames-alike}
-use Rattle.body_operands.specs.Taking.{Pushed}
+use Rattle.body_put.specs.Putting.{Pushed}
 
 module _ {work work′ : List ℕ} {base height h : ℕ} {os : List Operand} (p : Pushed work work′ base height h os) where
   pub pushed-alike : (d : ℕ) → Alike work work′ (base + height) d

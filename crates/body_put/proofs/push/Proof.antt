@@ -1,8 +1,8 @@
--- `body_operands::push` meets its contract.
+-- `body_put::push` meets its contract.
 use borrow.Author.Needs.{needs}
-use Rattle.body_operands.proofs.OnTop.{on-exits}
-use Rattle.body_operands.proofs.push.Statement.{statement}
-use Rattle.body_operands.proofs.push.Tie as tie
+use Rattle.body_put.proofs.OnTop.{on-exits}
+use Rattle.body_put.proofs.push.Statement.{statement}
+use Rattle.body_put.proofs.push.Tie as tie
 
 add-put32 : tie.Need-add-put32
 add-put32 c = search (on-exits, needs)

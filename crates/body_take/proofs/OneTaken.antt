@@ -1,27 +1,36 @@
--- Each way out of taking one operand from the top, and of taking one or none.
+-- Each way out of taking one operand from the top.
 use Prim.Native.Nat.{ℕ, _+_, _-_}
 use mathlib.Core.Path.{_≡_, refl, sym, _∙_}
-use mathlib.Core.Bool.{Bool, true, false}
+use mathlib.Core.Bool.{Bool, true, false, cond}
 use mathlib.Core.List.{List, [], _∷_}
-use borrow.Author.Tests.{ne-eqb}
 use Rattle.scope.specs.Refusals.{badOperand, onlyNull}
 use Rattle.scope.specs.Syntax.{Types}
-use Rattle.scope.specs.Bodies.{fit, operandTest, takeAll}
+use Rattle.scope.specs.Bodies.{fit, operandTest, takeAll, Operand, unknown}
+use Rattle.scope.specs.BodyRules.{Wanted, allowed, fault}
+use Rattle.lent_u32.specs.Scratch.{Word32At}
 use Rattle.type_fit.specs.declared.Fit.{Fit}
 use Rattle.type_fit.specs.declared.Fit
 use Rattle.type_fit.specs.Outcomes.{fitIs}
 use Rattle.type_fit.proofs.Outcomes.{is-fits, is-but-for-null, is-unfit}
-use Rattle.lent_u32.specs.Scratch.{Word32At}
 use Rattle.body_state.specs.Layout.{operandsFrom}
-use Rattle.body_state.specs.State.{operandAtCode, wantedAtCode, wantsAt, stack}
-use Rattle.body_operands.specs.declared.Take.{Take}
-use Rattle.body_operands.specs.declared.Take
-use Rattle.body_operands.specs.declared.Left.{Left}
-use Rattle.body_operands.specs.declared.Left
-use Rattle.body_operands.specs.Taking.{tookOf, leftOf, leftIn}
-use Rattle.body_operands.proofs.Laws.{stack-none, stack-some, take-empty, take-top}
+use Rattle.body_state.specs.State.{operandAtCode, wantedAtCode, stack}
+use Rattle.body_words.proofs.Laws.{stack-none, stack-some}
+use Rattle.body_take.specs.declared.Take.{Take}
+use Rattle.body_take.specs.declared.Take
+use Rattle.body_take.specs.Took.{tookOf}
 
--- one
+-- what the rules say of one operand
+
+module _ (ts : Types) (dead : Bool) where
+  pub take-empty : (w : Wanted) → takeAll ts dead (w ∷ []) [] ≡ cond dead (allowed (record { taken = unknown ∷ []; left = [] })) (fault badOperand)
+  unfolding takeAll
+  take-empty w = refl
+
+  pub take-top : (w : Wanted) (o : Operand) (os : List Operand) → takeAll ts dead (w ∷ []) (o ∷ os) ≡ operandTest (fit ts o w) (allowed (record { taken = o ∷ []; left = os }))
+  unfolding takeAll
+  take-top w o os = refl
+
+-- each way out
 
 module _ (ts : Types) (dead : Bool) (work : List ℕ) (w base : ℕ) {height : ℕ} where
   module _ (e : height ≡ 0) where
@@ -45,22 +54,4 @@ module _ (ts : Types) (dead : Bool) (work : List ℕ) (w base : ℕ) {height : �
     pub took-wrong : r ≡ Fit.the-variants.Unfit → tookOf work base (Take.the-variants.Fault badOperand) ≡ takeAll ts dead (wantedAtCode w ∷ []) (stack work base height)
     took-wrong e = sym (rw (is-unfit (fit ts (operandAtCode o) (wantedAtCode w)) (sym e ∙ b)) at took)
 
--- one or none
-
-module _ (ts : Types) (dead : Bool) (work : List ℕ) {w : ℕ} (base height : ℕ) where
-  pub wants-none : w ≡ 0 → leftOf work base (Left.the-variants.Is height) ≡ leftIn (takeAll ts dead (wantsAt w) (stack work base height))
-  unfolding wantsAt takeAll
-  wants-none e = rw e
-
-  module _ (n : w ≡ 0 → ⊥) where
-    one-wanted : wantsAt w ≡ wantedAtCode (w - 1) ∷ []
-    unfolding wantsAt
-    one-wanted = rw (ne-eqb w 0 n)
-
-    pub wants-got : {r : Take} {o left : ℕ} → r ≡ Take.the-variants.Took o left → tookOf work base r ≡ takeAll ts dead (wantedAtCode (w - 1) ∷ []) (stack work base height) → leftOf work base (Left.the-variants.Is left) ≡ leftIn (takeAll ts dead (wantsAt w) (stack work base height))
-    wants-got e a = rw (one-wanted, ← a, e)
-
-    pub wants-missed : {r : Take} {number : ℕ} → r ≡ Take.the-variants.Fault number → tookOf work base r ≡ takeAll ts dead (wantedAtCode (w - 1) ∷ []) (stack work base height) → leftOf work base (Left.the-variants.Fault number) ≡ leftIn (takeAll ts dead (wantsAt w) (stack work base height))
-    wants-missed e a = rw (one-wanted, ← a, e)
-
-pub ruleset one-exits = (took-unknown, took-nothing, took-top, took-null, took-wrong, wants-none, wants-got, wants-missed)
+pub ruleset one-exits = (took-unknown, took-nothing, took-top, took-null, took-wrong)

@@ -1,0 +1,3 @@
+pub mod Laws
+pub mod OnTop
+pub mod PushedState
