@@ -1,44 +1,32 @@
 -- Each way out of the plans of the branching casts.
 use Prim.Native.Nat.{ℕ, _+_}
-use mathlib.Core.Path.{_≡_, refl, sym, ap, _∙_}
+use mathlib.Core.Path.{_≡_, refl, _∙_}
 use mathlib.Core.Bool.{Bool, true, false, not, _&&_}
-use mathlib.Core.Logic.{_⊎_, inl, inr}
 use mathlib.Core.List.{List, [], _∷_, _++_}
 use lib.ListN.{getElem?}
-use lib.Dec.{eqb, ltb}
-use borrow.Author.Tests.{eqb-true, eqb-false, not-true, not-false}
+use lib.Dec.{ltb}
+use borrow.Author.Tests.{not-true, not-false}
 use mir.Syntax.{w16}
 use mir.Val.{Fits}
-use Rattle.scope.specs.Refusals.{outOfReach, absent, badStruct, badBranch}
+use Rattle.scope.specs.Refusals.{outOfReach, absent, badStruct}
 use Rattle.scope.specs.Lists.{every}
-use Rattle.scope.specs.Abstract.{Abstract, sameAbstract}
-use Rattle.scope.specs.Syntax.{Heap, Val, ref, nullable, Types}
-use Rattle.scope.specs.Memory.{abstractCode}
-use Rattle.scope.specs.Order.{valBelow, valFit}
+use Rattle.scope.specs.Syntax.{Val, ref, nullable, Types}
 use Rattle.scope.specs.TypeRules.{heapNames}
-use Rattle.scope.specs.BodyRules.{value, need, andRuled, topOf, oneHierarchy, descriptorFor, branches, planOf}
-use Rattle.scope.proofs.Truths.{decided}
-use Rattle.scope.proofs.TenRows.{same-equal, equal-same}
+use Rattle.scope.specs.BodyRules.{value, need, andRuled, descriptorFor, branches, planOf}
 use Rattle.scope.proofs.Impossible.{impossible}
-use Rattle.type_abstract.specs.Heaps.{abstractAt}
-use Rattle.type_abstract.proofs.Laws.{at-code}
-use Rattle.type_table.specs.View.{heapAtCode, valAtCode}
+use Rattle.type_table.specs.View.{heapAtCode}
 use Rattle.type_table.specs.declared.Link.{Link}
 use Rattle.type_table.specs.declared.Link
 use Rattle.type_reach.specs.Names.{allBelow}
 use Rattle.type_reach.proofs.Naming.{below-append}
-use Rattle.type_fit.specs.declared.Fit.{Fit}
-use Rattle.type_fit.specs.declared.Fit
-use Rattle.type_fit.specs.Outcomes.{fitIs}
-use Rattle.type_fit.proofs.Outcomes.{outcome-fits, outcome-null, outcome-unfit}
 use Rattle.body_state.specs.declared.Scene.{Scene}
 use Rattle.body_state.specs.declared.Values.{Values}
 use Rattle.body_state.specs.declared.Planned.{Planned}
 use Rattle.body_state.specs.declared.Planned
-use Rattle.body_state.specs.State.{plainOf, plannedOf}
+use Rattle.body_state.specs.State.{plannedOf}
 use Rattle.body_plan_parts.specs.Planning.{contextOn, CodeIs}
 use Rattle.body_plan_parts.proofs.Steps.{found-then}
-use Rattle.body_plan_parts.proofs.Words.{wants-none, wants-value, gives-value}
+use Rattle.body_plan_parts.proofs.Words.{wants-none, wants-value}
 use Rattle.body_plan_labels.specs.declared.Label.{Label}
 use Rattle.body_plan_labels.specs.declared.Label
 use Rattle.body_plan_labels.specs.Labels.{labelsAt, LabelOf}
@@ -48,10 +36,9 @@ use Rattle.body_plan_casts.proofs.Targets.{reach-small}
 use Rattle.body_plan_casts.proofs.Casting.{descriptor-small}
 use Rattle.body_plan_branches.specs.declared.Target.{Target}
 use Rattle.body_plan_branches.specs.declared.Target
-use Rattle.body_plan_branches.specs.declared.Split.{Split}
-use Rattle.body_plan_branches.specs.declared.Split
-use Rattle.body_plan_branches.specs.declared.Reference.{Reference}
-use Rattle.body_plan_branches.specs.Branches.{SplitOf, Branching, castBetween, castOp, descOp, castLabelAt, Low, Small, CastLabel, Carries, carriedOf, FormCarries, Casts}
+use Rattle.body_plan_cast_forms.specs.declared.Reference.{Reference}
+use Rattle.body_plan_branches.specs.Branches.{Branching, castOp, descOp, castLabelAt, CastLabel}
+use Rattle.body_plan_cast_forms.specs.Forms.{castBetween, Low, carriedOf, Casts}
 
 -- cast_label
 
@@ -97,95 +84,6 @@ module _ (work : List ℕ) (k : Scene) (depth l source target : ℕ) {r : Bool} 
           }
 
 pub ruleset target-exits = (source-out, target-out, target-absent, target-there)
-
--- rest_code
-
-never : (s : Bool) → false ≡ (s && false)
-never true = refl
-never false = refl
-
-always : (s : Bool) → s ≡ (s && true)
-always true = refl
-always false = refl
-
-module _ (source target : Bool) (h : Heap) {c : ℕ} where
-  pub rest-non-null : target ≡ true → CodeIs (ref false h) c → CodeIs (ref (source && not target) h) c
-  rest-non-null e a = rw (e, ← never source) a
-
-  pub rest-as-source : target ≡ false → CodeIs (ref source h) c → CodeIs (ref (source && not target) h) c
-  rest-as-source e a = rw (e, ← always source) a
-
-pub ruleset rest-exits = (rest-non-null, rest-as-source)
-
--- one_hierarchy
-
-same-number : (a b : Abstract) → eqb (abstractCode a) (abstractCode b) ≡ sameAbstract a b
-same-number a b = go (decided (eqb (abstractCode a) (abstractCode b))) (decided (sameAbstract a b))
-  where
-    go : (eqb (abstractCode a) (abstractCode b) ≡ true) ⊎ (eqb (abstractCode a) (abstractCode b) ≡ false)
-        → (sameAbstract a b ≡ true) ⊎ (sameAbstract a b ≡ false)
-        → eqb (abstractCode a) (abstractCode b) ≡ sameAbstract a b
-    go (inl p) other = p ∙ sym (equal-same a b (sym (at-code a) ∙ ap abstractAt (eqb-true _ _ p) ∙ at-code b))
-    go (inr p) (inl q) = absurd (eqb-false _ _ p (ap abstractCode (same-equal a b q)))
-    go (inr p) (inr q) = p ∙ sym q
-
-pub tops-compared : (ts : Types) (h k : Heap) {from to : ℕ} → from ≡ abstractCode (topOf ts h) → to ≡ abstractCode (topOf ts k) → eqb from to ≡ oneHierarchy ts h k
-tops-compared ts h k p q = rw (p, q) (same-number (topOf ts h) (topOf ts k))
-
--- carries
-
-module _ (codes : List ℕ) (ts : Types) (first source carried falls : ℕ) (label : Values) {s : Split} (b : SplitOf codes label s) where
-  pub without-types : s ≡ Split.the-variants.Nothing → Carries codes ts first source carried falls label (Planned.the-variants.Fault badBranch)
-  unfolding plannedOf
-  without-types q = record { is = rw (← b .is, q) }
-
-  module _ {v : Values} {w : ℕ} (q : s ≡ Split.the-variants.Is v w) {u : Fit} (d : u ≡ fitIs (valFit ts (valAtCode carried) (valAtCode w))) where
-    not-below : valBelow ts (valAtCode carried) (valAtCode w) ≡ false → Carries codes ts first source carried falls label (Planned.the-variants.Fault badBranch)
-    unfolding plannedOf
-    not-below e = record { is = rw (← b .is, q, e) }
-
-    pub carried-nullable : u ≡ Fit.the-variants.ButForNull → Carries codes ts first source carried falls label (Planned.the-variants.Fault badBranch)
-    carried-nullable f = not-below (sym (outcome-null ts (valAtCode carried) (valAtCode w) d f))
-
-    pub carried-unfit : u ≡ Fit.the-variants.Unfit → Carries codes ts first source carried falls label (Planned.the-variants.Fault badBranch)
-    carried-unfit f = not-below (sym (outcome-unfit ts (valAtCode carried) (valAtCode w) d f))
-
-    pub carried-below : u ≡ Fit.the-variants.Fits → Small source falls → Carries codes ts first source carried falls label (Planned.the-variants.Plain (record { top = first; second = source + 3; rest = v; back = true; gives = falls + 1; marks = 0; stops = false }))
-    unfolding plannedOf plainOf
-    carried-below f small = record { is = rw (← b .is, q, ← outcome-fits ts (valAtCode carried) (valAtCode w) d f, wants-value source, gives-value (small .second)) }
-
-pub ruleset carry-exits = (without-types, carried-nullable, carried-unfit, carried-below)
-
--- form_carries
-
-pub small-both : {v w : Val} {a b : ℕ} → CodeIs v a → CodeIs w b → Small a b
-small-both p q = record { first = p .small; second = q .small }
-
-module _ (codes : List ℕ) (ts : Types) (first : ℕ) (source target : Reference) (fail : Bool) (label : Values)
-    {from : ℕ} (a : CodeIs (ref (source .null) (heapAtCode (source .heap))) from)
-    {to : ℕ} (b : CodeIs (ref (target .null) (heapAtCode (target .heap))) to)
-    {rest : ℕ} (d : CodeIs (ref (source .null && not (target .null)) (heapAtCode (source .heap))) rest)
-    {p : Planned} where
-  pub fail-carries : fail ≡ true → Carries codes ts first from rest to label p → FormCarries codes ts first source target fail label p
-  fail-carries e c = record { is = λ l count locals results. rw (c .is, a .is, b .is, d .is, e) }
-
-  pub plain-carries : fail ≡ false → Carries codes ts first from to rest label p → FormCarries codes ts first source target fail label p
-  plain-carries e c = record { is = λ l count locals results. rw (c .is, a .is, b .is, d .is, e) }
-
-pub ruleset form-exits = (small-both, fail-carries, plain-carries)
-
--- casts
-
-module _ (codes : List ℕ) (ts : Types) (first : ℕ) (source target : Reference) (fail : Bool) (label : Values)
-    {r : Bool} (one : r ≡ oneHierarchy ts (heapAtCode (source .heap)) (heapAtCode (target .heap))) where
-  pub casts-apart : not r ≡ true → Casts codes ts first source target fail label (Planned.the-variants.Fault badBranch)
-  unfolding plannedOf
-  casts-apart t = record { is = λ l count locals results. rw (← one, not-true r t) }
-
-  pub casts-related : not r ≡ false → {p : Planned} → FormCarries codes ts first source target fail label p → Casts codes ts first source target fail label p
-  casts-related t c = record { is = λ l count locals results. rw (← one, not-false r t) (c .is l count locals results) }
-
-pub ruleset cast-exits = (casts-apart, casts-related)
 
 -- the instructions
 

@@ -2,7 +2,7 @@
 // Nothing is written here. Each answer is that of scope's BodyRules.antt over what the table and the scratch say. The plans
 // of locals, numbers, structs, casts, labels and branches stand in the crates body_plan_*; this is the dispatch over all instructions.
 use body_immediates::Instruction;
-use body_plan_branches::Reference;
+use body_plan_cast_forms::Reference;
 use body_plan_parts::ANY_REFERENCE;
 use body_plan_parts::ANY_VALUE;
 use body_plan_parts::EQ_REF;

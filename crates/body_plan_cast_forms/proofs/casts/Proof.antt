@@ -1,8 +1,8 @@
--- `body_plan_branches::casts` meets its contract.
+-- `body_plan_cast_forms::casts` meets its contract.
 use borrow.Author.Needs.{needs}
-use Rattle.body_plan_branches.proofs.Casting.{cast-exits}
-use Rattle.body_plan_branches.proofs.casts.Statement.{statement}
-use Rattle.body_plan_branches.proofs.casts.Tie as tie
+use Rattle.body_plan_cast_forms.proofs.Sides.{cast-exits}
+use Rattle.body_plan_cast_forms.proofs.casts.Statement.{statement}
+use Rattle.body_plan_cast_forms.proofs.casts.Tie as tie
 
 one-hierarchy-requires : tie.Need-one-hierarchy-requires
 one-hierarchy-requires c κs = search (cast-exits, needs)

@@ -1,8 +1,8 @@
--- `body_plan_branches::carries` meets its contract.
+-- `body_plan_carried::carries` meets its contract.
 use borrow.Author.Needs.{needs}
-use Rattle.body_plan_branches.proofs.Casting.{carry-exits}
-use Rattle.body_plan_branches.proofs.carries.Statement.{statement}
-use Rattle.body_plan_branches.proofs.carries.Tie as tie
+use Rattle.body_plan_carried.proofs.Carrying.{carry-exits}
+use Rattle.body_plan_carried.proofs.carries.Statement.{statement}
+use Rattle.body_plan_carried.proofs.carries.Tie as tie
 
 split-last-requires : tie.Need-split-last-requires
 split-last-requires c κs = search (carry-exits, needs)

@@ -16,8 +16,8 @@ use Rattle.body_state.specs.declared.Values.{Values}
 use Rattle.body_state.specs.declared.Values
 use Rattle.body_state.specs.Layout.{codeBound}
 use Rattle.body_state.specs.State.{valAtWord, valuesOf}
-use Rattle.body_plan_branches.specs.declared.Split
-use Rattle.body_plan_branches.specs.Branches.{SplitOf}
+use Rattle.body_plan_carried.specs.declared.Split
+use Rattle.body_plan_carried.specs.Carried.{SplitOf}
 
 module _ {A : Type 0} (f : ℕ → A) (codes : List ℕ) where
   last-code : (at n : ℕ) → lastOf (codesAt f codes at (suc n)) ≡ some (codesAt f codes at n, f (getD codes (at + n) 0))

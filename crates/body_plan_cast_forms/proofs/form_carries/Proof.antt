@@ -1,8 +1,8 @@
--- `body_plan_branches::form_carries` meets its contract.
+-- `body_plan_cast_forms::form_carries` meets its contract.
 use borrow.Author.Needs.{needs}
-use Rattle.body_plan_branches.proofs.Casting.{form-exits}
-use Rattle.body_plan_branches.proofs.form_carries.Statement.{statement}
-use Rattle.body_plan_branches.proofs.form_carries.Tie as tie
+use Rattle.body_plan_cast_forms.proofs.Sides.{form-exits}
+use Rattle.body_plan_cast_forms.proofs.form_carries.Statement.{statement}
+use Rattle.body_plan_cast_forms.proofs.form_carries.Tie as tie
 
 ref-code-requires : tie.Need-ref-code-requires
 ref-code-requires c κs = search (form-exits, needs)

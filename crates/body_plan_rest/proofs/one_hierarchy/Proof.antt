@@ -1,8 +1,8 @@
--- `body_plan_branches::one_hierarchy` meets its contract.
+-- `body_plan_rest::one_hierarchy` meets its contract.
 use borrow.Author.Needs.{needs}
-use Rattle.body_plan_branches.proofs.Casting.{tops-compared}
-use Rattle.body_plan_branches.proofs.one_hierarchy.Statement.{statement}
-use Rattle.body_plan_branches.proofs.one_hierarchy.Tie as tie
+use Rattle.body_plan_rest.proofs.Hierarchies.{tops-compared}
+use Rattle.body_plan_rest.proofs.one_hierarchy.Statement.{statement}
+use Rattle.body_plan_rest.proofs.one_hierarchy.Tie as tie
 
 top-of-requires : tie.Need-top-of-requires
 top-of-requires c κs = search needs

@@ -1,8 +1,8 @@
--- `body_plan_branches::split_last` meets its contract.
+-- `body_plan_carried::split_last` meets its contract.
 use borrow.Author.Needs.{needs}
-use Rattle.body_plan_branches.proofs.Lasts.{last-exits}
-use Rattle.body_plan_branches.proofs.split_last.Statement.{statement}
-use Rattle.body_plan_branches.proofs.split_last.Tie as tie
+use Rattle.body_plan_carried.proofs.Lasts.{last-exits}
+use Rattle.body_plan_carried.proofs.split_last.Statement.{statement}
+use Rattle.body_plan_carried.proofs.split_last.Tie as tie
 
 enum-known-values : tie.Need-enum-known-values
 enum-known-values c = search (last-exits, needs)

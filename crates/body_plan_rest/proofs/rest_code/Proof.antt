@@ -1,8 +1,8 @@
--- `body_plan_branches::rest_code` meets its contract.
+-- `body_plan_rest::rest_code` meets its contract.
 use borrow.Author.Needs.{needs}
-use Rattle.body_plan_branches.proofs.Casting.{rest-exits}
-use Rattle.body_plan_branches.proofs.rest_code.Statement.{statement}
-use Rattle.body_plan_branches.proofs.rest_code.Tie as tie
+use Rattle.body_plan_rest.proofs.Rests.{rest-exits}
+use Rattle.body_plan_rest.proofs.rest_code.Statement.{statement}
+use Rattle.body_plan_rest.proofs.rest_code.Tie as tie
 
 ref-code-requires : tie.Need-ref-code-requires
 ref-code-requires c κs = search (rest-exits, needs)
