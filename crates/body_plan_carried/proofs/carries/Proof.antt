@@ -1,6 +1,6 @@
 -- `body_plan_carried::carries` meets its contract.
 use borrow.Author.Needs.{needs}
-use Rattle.body_plan_carried.proofs.Carrying.{carry-exits}
+use Rattle.body_plan_carried.proofs.Carrying.{carry-exits, carried-nullable, carried-unfit, carried-below}
 use Rattle.body_plan_carried.proofs.carries.Statement.{statement}
 use Rattle.body_plan_carried.proofs.carries.Tie as tie
 
@@ -35,13 +35,16 @@ returns : tie.Need-returns
 returns c = search (carry-exits, needs)
 
 returns-2 : tie.Need-returns-2
-returns-2 c = search (carry-exits, needs)
+returns-2 c =
+    carried-nullable _ _ _ _ _ _ _ (c .before .before .before .before .before .before .split-last .ensures) (c .before .before .before .before .split .given .1) (c .before .before .val-fit .ensures) (c .enum-told2 .given .1)
 
 returns-3 : tie.Need-returns-3
-returns-3 c = search (carry-exits, needs)
+returns-3 c =
+    carried-unfit _ _ _ _ _ _ _ (c .before .before .before .before .before .before .split-last .ensures) (c .before .before .before .before .split .given .1) (c .before .before .val-fit .ensures) (c .enum-told3 .given .1)
 
 returns-4 : tie.Need-returns-4
-returns-4 c = search (carry-exits, needs)
+returns-4 c =
+    carried-below _ _ _ _ _ _ _ (c .before .before .before .before .before .before .split-last .ensures) (c .before .before .before .before .split .given .1) (c .before .before .val-fit .ensures) (c .enum-told4 .given .1) (c .before .before .before .before .before .before .before .before .before .pre)
 
 pub carries-spec : {M : Type 1} → statement M
 carries-spec =
