@@ -1,5 +1,5 @@
 // What plans are made of: the codes of reference types, and a plan that only takes and gives. The
-// rule of an instruction is in body_plan_structs, body_plan_casts, body_plan_branches and body_plans.
+// rules of the instructions are in the other crates body_plan_* and in body_plans.
 use body_state::Plain;
 use body_state::Planned;
 use body_state::Values;

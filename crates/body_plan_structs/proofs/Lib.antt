@@ -1,3 +1,2 @@
 pub mod Finding
-pub mod Defaults
-pub mod Making
+pub mod Describing

@@ -128,19 +128,19 @@ pub fn act_of(
         }
         Instruction::RefAsNonNull => Act::Does(Planned::NonNull),
         Instruction::StructNew(x) => {
-            let plan = body_plan_structs::struct_new(rows, codes, types, x);
+            let plan = body_plan_new::struct_new(rows, codes, types, x);
             Act::Does(plan)
         }
         Instruction::StructNewDefault(x) => {
-            let plan = body_plan_structs::struct_new_default(rows, codes, types, x);
+            let plan = body_plan_new_default::struct_new_default(rows, codes, types, x);
             Act::Does(plan)
         }
         Instruction::StructGet(x, f) => {
-            let plan = body_plan_structs::struct_get(rows, codes, types, x, f);
+            let plan = body_plan_fields::struct_get(rows, codes, types, x, f);
             Act::Does(plan)
         }
         Instruction::StructSet(x, f) => {
-            let plan = body_plan_structs::struct_set(rows, codes, types, x, f);
+            let plan = body_plan_fields::struct_set(rows, codes, types, x, f);
             Act::Does(plan)
         }
         Instruction::RefTest(_, h) => {
@@ -184,11 +184,11 @@ pub fn act_of(
             Act::Does(plan)
         }
         Instruction::StructNewDesc(x) => {
-            let plan = body_plan_structs::struct_new_desc(rows, codes, types, x);
+            let plan = body_plan_new::struct_new_desc(rows, codes, types, x);
             Act::Does(plan)
         }
         Instruction::StructNewDefaultDesc(x) => {
-            let plan = body_plan_structs::struct_new_default_desc(rows, codes, types, x);
+            let plan = body_plan_new_default::struct_new_default_desc(rows, codes, types, x);
             Act::Does(plan)
         }
         Instruction::RefGetDesc(x) => {

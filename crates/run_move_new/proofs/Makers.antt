@@ -21,7 +21,7 @@ use Rattle.type_table.specs.Answers.{shapeForm}
 use Rattle.type_table.specs.declared.Shape.{Shape}
 use Rattle.type_table.specs.declared.Shape
 use Rattle.body_state.proofs.Answers.{codes-length}
-use Rattle.body_plan_structs.specs.Structs.{allDefault}
+use Rattle.body_plan_defaults.specs.Defaults.{allDefault}
 use Rattle.run_heap.specs.Heap.{storeAt, Kept, RoomFor, startOf}
 use Rattle.run_heap.proofs.Packs.{heap-length}
 use Rattle.run_heap.proofs.Made.{link-more}

@@ -52,7 +52,7 @@ fn default_move(rows: &[u16], codes: &[u16], n: u32, total: u32, taken: u32, x: 
     match shape {
         Shape::Func(_, _, _, _) => Move::Astray,
         Shape::Struct(first, k) => {
-            if !body_plan_structs::all_default(codes, first, k, true) {
+            if !body_plan_defaults::all_default(codes, first, k, true) {
                 return Move::Astray;
             }
             if run_heap::room_for(n, total, k) {

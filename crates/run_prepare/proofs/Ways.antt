@@ -26,7 +26,7 @@ use Rattle.type_table.specs.declared.Shape.{Shape}
 use Rattle.type_table.specs.declared.Shape
 use Rattle.type_table.specs.Answers.{shapeForm}
 use Rattle.type_table.specs.View.{view}
-use Rattle.body_plan_structs.specs.Structs.{allDefault}
+use Rattle.body_plan_defaults.specs.Defaults.{allDefault}
 use Rattle.body_start.specs.declared.Started as begin
 use Rattle.body_start.specs.Beginning.{localsFirst, Starting, StartedAs}
 use Rattle.run_ends.specs.Matching.{Fillable, Filled}

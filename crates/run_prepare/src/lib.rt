@@ -33,7 +33,7 @@ fn read_body(
     match started {
         Started::Refused(number, place) => Prepared::Refused(number, place as u64),
         Started::Is(count, next) => {
-            if !body_plan_structs::all_default(codes, first, params, false) {
+            if !body_plan_defaults::all_default(codes, first, params, false) {
                 return Prepared::Refused(refusals::NO_DEFAULT, 0);
             }
             if !run_ends::fill_ends(s, next, ends) {

@@ -1,6 +1,6 @@
 -- `body_plan_structs::described` meets its contract.
 use borrow.Author.Needs.{needs}
-use Rattle.body_plan_structs.proofs.Making.{describing-exits}
+use Rattle.body_plan_structs.proofs.Describing.{describing-exits}
 use Rattle.body_plan_structs.proofs.described.Statement.{statement}
 use Rattle.body_plan_structs.proofs.described.Tie as tie
 

@@ -1,6 +1,6 @@
 -- `body_plan_structs::undescribed` meets its contract.
 use borrow.Author.Needs.{needs}
-use Rattle.body_plan_structs.proofs.Making.{describing-exits, undescribed-is, undescribed-not, undescribed-refused}
+use Rattle.body_plan_structs.proofs.Describing.{describing-exits, undescribed-is, undescribed-not, undescribed-refused}
 use Rattle.body_plan_structs.proofs.undescribed.Statement.{statement}
 use Rattle.body_plan_structs.proofs.undescribed.Tie as tie
 
