@@ -17,8 +17,8 @@ use Rattle.run_value.specs.Carried.{decoded}
 use Rattle.run_calculated.specs.declared.Calculated
 use Rattle.run_calculated.specs.Calculations.{TruthIs, TwoIs}
 use Rattle.run_calculated.proofs.Exits.{two-is, tested}
-use Rattle.run_floats.specs.FloatDeeds.{kindOf, floatOf}
-use Rattle.run_floats.proofs.Bits.{bits-of}
+use Rattle.run_float_deeds.specs.FloatDeeds.{kindOf, floatOf}
+use Rattle.run_float_deeds.proofs.Bits.{bits-of}
 use Rattle.run_float_tests.specs.declared.FloatTest
 use Rattle.run_float_tests.specs.declared.FloatTest.{FloatTest}
 use Rattle.run_float_tests.specs.FloatTests.{holdsOf, floatTest, floatTestBits}

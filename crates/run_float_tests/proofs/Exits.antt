@@ -7,12 +7,14 @@ use Rattle.scope.specs.Rounding.{single, double}
 use Rattle.run_value.specs.declared.Value.{Value as Carrier}
 use Rattle.run_calculated.specs.declared.Calculated
 use Rattle.run_calculated.specs.Calculations.{TruthIs, TwoIs}
-use Rattle.run_floats.specs.declared.Single32
-use Rattle.run_floats.specs.declared.Single32.{Single32}
-use Rattle.run_floats.specs.declared.Double64
-use Rattle.run_floats.specs.declared.Double64.{Double64}
-use Rattle.run_floats.specs.FloatDeeds.{single32, double64, Single32Read, Double64Read}
-use Rattle.run_floats.proofs.Exits.{top-wrong-32, top-wrong-64, below-wrong-32, below-wrong-64}
+use Rattle.run_floats_32.specs.declared.Single32
+use Rattle.run_floats_32.specs.declared.Single32.{Single32}
+use Rattle.run_floats_32.specs.Singles.{single32, Single32Read}
+use Rattle.run_floats_32.proofs.Exits.{top-wrong-32, below-wrong-32}
+use Rattle.run_floats_64.specs.declared.Double64
+use Rattle.run_floats_64.specs.declared.Double64.{Double64}
+use Rattle.run_floats_64.specs.Doubles.{double64, Double64Read}
+use Rattle.run_floats_64.proofs.Exits.{top-wrong-64, below-wrong-64}
 use Rattle.run_float_tests.specs.declared.FloatTest
 use Rattle.run_float_tests.specs.declared.FloatTest.{FloatTest}
 use Rattle.run_float_tests.specs.FloatTests.{holdsOf, floatTestBits}

@@ -1,8 +1,8 @@
 // The comparisons of floats, on values: the language's own. f64 has the code of f32 at its format; the laws are stated once over
 // the format.
 use run_calculated::Calculated;
-use run_floats::Double64;
-use run_floats::Single32;
+use run_floats_32::Single32;
+use run_floats_64::Double64;
 use run_value::Value;
 ghost use mathlib.Core.Path.{_≡_};
 ghost use Rattle.scope.specs.Syntax.{i32, f32, f64};
@@ -36,8 +36,8 @@ fn holds_32(test: FloatTest, x: f32, y: f32) -> bool
 pub fn compared_32(test: FloatTest, first: Value, second: Value) -> Calculated
     ensures { λ r. ⌜ TwoIs f32 i32 (floatTestBits test single) first second r ⌝ }
 {
-    let below = run_floats::single_of(second);
-    let top = run_floats::single_of(first);
+    let below = run_floats_32::single_of(second);
+    let top = run_floats_32::single_of(first);
     match top {
         Single32::Wrong => Calculated::Wrong,
         Single32::Is(y) => match below {
@@ -67,8 +67,8 @@ fn holds_64(test: FloatTest, x: f64, y: f64) -> bool
 pub fn compared_64(test: FloatTest, first: Value, second: Value) -> Calculated
     ensures { λ r. ⌜ TwoIs f64 i32 (floatTestBits test double) first second r ⌝ }
 {
-    let below = run_floats::double_of(second);
-    let top = run_floats::double_of(first);
+    let below = run_floats_64::double_of(second);
+    let top = run_floats_64::double_of(first);
     match top {
         Double64::Wrong => Calculated::Wrong,
         Double64::Is(y) => match below {

@@ -2,8 +2,8 @@
 // whatever its operands are. By value: the first operand is the topmost, the second lies under it, and null stands for one that
 // is missing.
 use run_calculated::Calculated;
+use run_float_deeds::FloatDeed;
 use run_float_tests::FloatTest;
-use run_floats::FloatDeed;
 use run_integers::IntegerTest;
 use run_value::Value;
 ghost use Rattle.run_calculated.specs.Calculations.{CalculatedIs};
@@ -111,25 +111,25 @@ fn result(code: u8, first: Value, second: Value) -> Calculated
         // i64.sub
         0x7D => run_integers::subtracted_64(first, second),
         // f32.neg
-        0x8C => run_floats::negated_32(first),
+        0x8C => run_floats_32::negated_32(first),
         // f32.add
-        0x92 => run_floats::reckoned_32(FloatDeed::Add, first, second),
+        0x92 => run_floats_32::reckoned_32(FloatDeed::Add, first, second),
         // f32.sub
-        0x93 => run_floats::reckoned_32(FloatDeed::Sub, first, second),
+        0x93 => run_floats_32::reckoned_32(FloatDeed::Sub, first, second),
         // f32.mul
-        0x94 => run_floats::reckoned_32(FloatDeed::Mul, first, second),
+        0x94 => run_floats_32::reckoned_32(FloatDeed::Mul, first, second),
         // f32.div
-        0x95 => run_floats::reckoned_32(FloatDeed::Div, first, second),
+        0x95 => run_floats_32::reckoned_32(FloatDeed::Div, first, second),
         // f64.neg
-        0x9A => run_floats::negated_64(first),
+        0x9A => run_floats_64::negated_64(first),
         // f64.add
-        0xA0 => run_floats::reckoned_64(FloatDeed::Add, first, second),
+        0xA0 => run_floats_64::reckoned_64(FloatDeed::Add, first, second),
         // f64.sub
-        0xA1 => run_floats::reckoned_64(FloatDeed::Sub, first, second),
+        0xA1 => run_floats_64::reckoned_64(FloatDeed::Sub, first, second),
         // f64.mul
-        0xA2 => run_floats::reckoned_64(FloatDeed::Mul, first, second),
+        0xA2 => run_floats_64::reckoned_64(FloatDeed::Mul, first, second),
         // f64.div
-        0xA3 => run_floats::reckoned_64(FloatDeed::Div, first, second),
+        0xA3 => run_floats_64::reckoned_64(FloatDeed::Div, first, second),
         _ => Calculated::Other,
     }
 }
