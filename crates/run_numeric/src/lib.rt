@@ -4,7 +4,7 @@
 use run_calculated::Calculated;
 use run_float_deeds::FloatDeed;
 use run_float_tests::FloatTest;
-use run_integers::IntegerTest;
+use run_integer_tests::IntegerTest;
 use run_value::Value;
 ghost use Rattle.run_calculated.specs.Calculations.{CalculatedIs};
 ghost use Rattle.run_numeric.specs.Between.{CalculatedBetween, firstFloatTest, firstResult, allCodes};
@@ -19,49 +19,49 @@ fn integer_test(code: u8, first: Value, second: Value) -> Calculated
 {
     match code {
         // i32.eqz
-        0x45 => run_integers::tested_zero_32(first),
+        0x45 => run_integers_32::tested_zero_32(first),
         // i32.eq
-        0x46 => run_integers::compared_32(IntegerTest::Equal, first, second),
+        0x46 => run_integers_32::compared_32(IntegerTest::Equal, first, second),
         // i32.ne
-        0x47 => run_integers::compared_32(IntegerTest::Unequal, first, second),
+        0x47 => run_integers_32::compared_32(IntegerTest::Unequal, first, second),
         // i32.lt_s
-        0x48 => run_integers::compared_32(IntegerTest::LessSigned, first, second),
+        0x48 => run_integers_32::compared_32(IntegerTest::LessSigned, first, second),
         // i32.lt_u
-        0x49 => run_integers::compared_32(IntegerTest::LessUnsigned, first, second),
+        0x49 => run_integers_32::compared_32(IntegerTest::LessUnsigned, first, second),
         // i32.gt_s
-        0x4A => run_integers::compared_32(IntegerTest::GreaterSigned, first, second),
+        0x4A => run_integers_32::compared_32(IntegerTest::GreaterSigned, first, second),
         // i32.gt_u
-        0x4B => run_integers::compared_32(IntegerTest::GreaterUnsigned, first, second),
+        0x4B => run_integers_32::compared_32(IntegerTest::GreaterUnsigned, first, second),
         // i32.le_s
-        0x4C => run_integers::compared_32(IntegerTest::AtMostSigned, first, second),
+        0x4C => run_integers_32::compared_32(IntegerTest::AtMostSigned, first, second),
         // i32.le_u
-        0x4D => run_integers::compared_32(IntegerTest::AtMostUnsigned, first, second),
+        0x4D => run_integers_32::compared_32(IntegerTest::AtMostUnsigned, first, second),
         // i32.ge_s
-        0x4E => run_integers::compared_32(IntegerTest::AtLeastSigned, first, second),
+        0x4E => run_integers_32::compared_32(IntegerTest::AtLeastSigned, first, second),
         // i32.ge_u
-        0x4F => run_integers::compared_32(IntegerTest::AtLeastUnsigned, first, second),
+        0x4F => run_integers_32::compared_32(IntegerTest::AtLeastUnsigned, first, second),
         // i64.eqz
-        0x50 => run_integers::tested_zero_64(first),
+        0x50 => run_integers_64::tested_zero_64(first),
         // i64.eq
-        0x51 => run_integers::compared_64(IntegerTest::Equal, first, second),
+        0x51 => run_integers_64::compared_64(IntegerTest::Equal, first, second),
         // i64.ne
-        0x52 => run_integers::compared_64(IntegerTest::Unequal, first, second),
+        0x52 => run_integers_64::compared_64(IntegerTest::Unequal, first, second),
         // i64.lt_s
-        0x53 => run_integers::compared_64(IntegerTest::LessSigned, first, second),
+        0x53 => run_integers_64::compared_64(IntegerTest::LessSigned, first, second),
         // i64.lt_u
-        0x54 => run_integers::compared_64(IntegerTest::LessUnsigned, first, second),
+        0x54 => run_integers_64::compared_64(IntegerTest::LessUnsigned, first, second),
         // i64.gt_s
-        0x55 => run_integers::compared_64(IntegerTest::GreaterSigned, first, second),
+        0x55 => run_integers_64::compared_64(IntegerTest::GreaterSigned, first, second),
         // i64.gt_u
-        0x56 => run_integers::compared_64(IntegerTest::GreaterUnsigned, first, second),
+        0x56 => run_integers_64::compared_64(IntegerTest::GreaterUnsigned, first, second),
         // i64.le_s
-        0x57 => run_integers::compared_64(IntegerTest::AtMostSigned, first, second),
+        0x57 => run_integers_64::compared_64(IntegerTest::AtMostSigned, first, second),
         // i64.le_u
-        0x58 => run_integers::compared_64(IntegerTest::AtMostUnsigned, first, second),
+        0x58 => run_integers_64::compared_64(IntegerTest::AtMostUnsigned, first, second),
         // i64.ge_s
-        0x59 => run_integers::compared_64(IntegerTest::AtLeastSigned, first, second),
+        0x59 => run_integers_64::compared_64(IntegerTest::AtLeastSigned, first, second),
         // i64.ge_u
-        0x5A => run_integers::compared_64(IntegerTest::AtLeastUnsigned, first, second),
+        0x5A => run_integers_64::compared_64(IntegerTest::AtLeastUnsigned, first, second),
         _ => Calculated::Other,
     }
 }
@@ -103,13 +103,13 @@ fn result(code: u8, first: Value, second: Value) -> Calculated
 {
     match code {
         // i32.add
-        0x6A => run_integers::added_32(first, second),
+        0x6A => run_integers_32::added_32(first, second),
         // i32.sub
-        0x6B => run_integers::subtracted_32(first, second),
+        0x6B => run_integers_32::subtracted_32(first, second),
         // i64.add
-        0x7C => run_integers::added_64(first, second),
+        0x7C => run_integers_64::added_64(first, second),
         // i64.sub
-        0x7D => run_integers::subtracted_64(first, second),
+        0x7D => run_integers_64::subtracted_64(first, second),
         // f32.neg
         0x8C => run_floats_32::negated_32(first),
         // f32.add

@@ -1,2 +1,0 @@
-pub mod Wrapping
-pub mod Exits
