@@ -1,5 +1,6 @@
 // The move of each instruction, from the words of a run's memory. Nothing is written here. The moves are told in the
-// crates run_move_operands, run_move_numbers, run_move_fields, run_move_new and run_move_casts.
+// crates run_move_operands, run_move_locals, run_move_references, run_move_numbers, run_move_fields, run_move_new and
+// run_move_casts.
 use body_immediates::Instruction;
 use run_state::Move;
 use run_state::Stage;
@@ -48,14 +49,14 @@ pub fn move_of(
             let first = run_stack::top(operands, base, height);
             run_move_operands::drop_move(first)
         }
-        Instruction::LocalGet(x) => run_move_operands::get_move(locals, count, x),
+        Instruction::LocalGet(x) => run_move_locals::get_move(locals, count, x),
         Instruction::LocalSet(x) => {
             let first = run_stack::top(operands, base, height);
-            run_move_operands::set_move(locals, count, first, x)
+            run_move_locals::set_move(locals, count, first, x)
         }
         Instruction::LocalTee(x) => {
             let first = run_stack::top(operands, base, height);
-            run_move_operands::tee_move(locals, count, first, x)
+            run_move_locals::tee_move(locals, count, first, x)
         }
         Instruction::I32Const(bits) => Move::Gives(0, Value::I32(bits)),
         Instruction::I64Const(bits) => Move::Gives(0, Value::I64(bits)),
@@ -75,16 +76,16 @@ pub fn move_of(
         Instruction::RefNull(_) => Move::Gives(0, Value::Null),
         Instruction::RefIsNull => {
             let first = run_stack::top(operands, base, height);
-            run_move_operands::is_null_move(first)
+            run_move_references::is_null_move(first)
         }
         Instruction::RefEq => {
             let first = run_stack::top(operands, base, height);
             let second = run_move_operands::second_of(operands, base, height);
-            run_move_operands::eq_move(first, second)
+            run_move_references::eq_move(first, second)
         }
         Instruction::RefAsNonNull => {
             let first = run_stack::top(operands, base, height);
-            run_move_operands::as_non_null_move(first)
+            run_move_references::as_non_null_move(first)
         }
         Instruction::StructNew(x) => {
             let first = run_stack::top(operands, base, height);

@@ -1,8 +1,8 @@
--- `run_move_operands::eq_move` meets its contract.
+-- `run_move_references::eq_move` meets its contract.
 use borrow.Author.Needs.{needs}
-use Rattle.run_move_operands.proofs.Operands.{eq-exits}
-use Rattle.run_move_operands.proofs.eq_move.Statement.{statement}
-use Rattle.run_move_operands.proofs.eq_move.Tie as tie
+use Rattle.run_move_references.proofs.References.{eq-exits}
+use Rattle.run_move_references.proofs.eq_move.Statement.{statement}
+use Rattle.run_move_references.proofs.eq_move.Tie as tie
 
 reference-of-requires : tie.Need-reference-of-requires
 reference-of-requires c κs = search (eq-exits, needs)

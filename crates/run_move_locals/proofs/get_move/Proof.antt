@@ -1,8 +1,8 @@
--- `run_move_operands::get_move` meets its contract.
+-- `run_move_locals::get_move` meets its contract.
 use borrow.Author.Needs.{needs}
-use Rattle.run_move_operands.proofs.Locals.{local-exits}
-use Rattle.run_move_operands.proofs.get_move.Statement.{statement}
-use Rattle.run_move_operands.proofs.get_move.Tie as tie
+use Rattle.run_move_locals.proofs.Locals.{local-exits}
+use Rattle.run_move_locals.proofs.get_move.Statement.{statement}
+use Rattle.run_move_locals.proofs.get_move.Tie as tie
 
 held-local-requires : tie.Need-held-local-requires
 held-local-requires c κs = search (local-exits, needs)
