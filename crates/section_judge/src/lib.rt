@@ -25,10 +25,10 @@ fn links_fault(rows: &[u16], codes: &[u16], x: u64) -> Fault
     if !type_reach::in_reach(rows, codes, x) {
         return Fault::Number(refusals::OUT_OF_REACH);
     }
-    if !type_rules::super_earlier_and_open(rows, codes, x) {
+    if !type_chain::super_earlier_and_open(rows, codes, x) {
         return Fault::Number(refusals::BAD_SUPERTYPE);
     }
-    if !type_rules::short_chain(rows, codes, x) {
+    if !type_chain::short_chain(rows, codes, x) {
         return Fault::Number(refusals::OVERSIZE);
     }
     Fault::Nothing
@@ -38,10 +38,10 @@ fn links_fault(rows: &[u16], codes: &[u16], x: u64) -> Fault
 fn follow_fault(rows: &[u16], codes: &[u16], x: u64) -> Fault
     ensures { λ r. ⌜ r ≡ faultIs (followFault (view (now (rows .entry)) (now (codes .entry))) x) ⌝ }
 {
-    if !type_rules::descriptor_follows(rows, codes, x) {
+    if !type_follow::descriptor_follows(rows, codes, x) {
         return Fault::Number(refusals::BAD_DESCRIPTOR);
     }
-    if !type_rules::describes_follows(rows, codes, x) {
+    if !type_follow::describes_follows(rows, codes, x) {
         return Fault::Number(refusals::BAD_DESCRIBES);
     }
     Fault::Nothing

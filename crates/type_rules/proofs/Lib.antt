@@ -1,2 +1,1 @@
-pub mod Supers
 pub mod Clauses

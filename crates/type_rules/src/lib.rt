@@ -1,54 +1,11 @@
-// Type rules 1 and 3 to 5, a function for each, over the lent table as it stands. Rule 1's reach is the crate
-// `type_reach`, rule 2 is `type_matching`, rule 6 `type_order`. Each answer is the rule's (scope's TypeRules.antt).
-use scope::sizes;
+// Type rule 3, a function for each part, over the lent table as it stands. Rule 1 is `type_chain` and `type_reach`, rule 2
+// `type_matching`, rules 4 and 5 `type_follow`, rule 6 `type_order`. Each answer is the rule's (scope's TypeRules.antt).
 use type_table::Link;
-use type_table::Supers;
 ghost use mathlib.Core.Path.{_≡_};
-ghost use mathlib.Core.Bool.{true, false};
-ghost use Rattle.scope.specs.Sizes.{mostSteps};
-ghost use Rattle.scope.specs.TypeRules.{superEarlierAndOpen, shortChain, clausesOnStruct, describesEarlier, isThe, clausesAgree, descriptorFollows, describedFollow, describesFollows};
+ghost use Rattle.scope.specs.TypeRules.{clausesOnStruct, describesEarlier, isThe, clausesAgree};
 ghost use Rattle.type_table.specs.View.{view};
 ghost use Rattle.type_table.specs.Answers.{linkOption};
-ghost use Rattle.type_rules.specs.Clauses.{descriptorAgrees, describedAgrees, descriptorUnder};
-
-// Rule 1: at most one supertype; it is earlier and open.
-pub fn super_earlier_and_open(rows: &[u16], codes: &[u16], x: u64) -> bool
-    ensures { λ r. ⌜ r ≡ superEarlierAndOpen (view (now (rows .entry)) (now (codes .entry))) x ⌝ }
-{
-    let supers = type_table::supers_of(rows, codes, x);
-    match supers {
-        Supers::Nothing => true,
-        Supers::One(p) => {
-            if p < x {
-                type_table::is_open(rows, codes, p)
-            } else {
-                false
-            }
-        }
-        Supers::Two(_, _) => false,
-    }
-}
-
-// Sizes: 63 steps up a supertype chain.
-pub fn short_chain(rows: &[u16], codes: &[u16], x: u64) -> bool
-    ensures { λ r. ⌜ r ≡ shortChain mostSteps (view (now (rows .entry)) (now (codes .entry))) x ⌝ }
-{
-    let mut at = x;
-    let mut left = sizes::MOST_STEPS;
-    while 0 < left {
-        let above = type_table::super_of(rows, codes, at);
-        let Link::To(p) = above else {
-            return true;
-        };
-        at = p;
-        left = left - 1;
-    }
-    let last = type_table::super_of(rows, codes, at);
-    match last {
-        Link::Nothing => true,
-        Link::To(_) => false,
-    }
-}
+ghost use Rattle.type_rules.specs.Clauses.{descriptorAgrees, describedAgrees};
 
 // Rule 3: clauses stand on structs only.
 pub fn clauses_on_struct(rows: &[u16], codes: &[u16], x: u64) -> bool
@@ -80,7 +37,7 @@ pub fn describes_earlier(rows: &[u16], codes: &[u16], x: u64) -> bool
 }
 
 // Whether this very type is the one that a link names.
-fn is_the(link: Link, y: u64) -> bool
+pub fn is_the(link: Link, y: u64) -> bool
     ensures { λ r. ⌜ r ≡ isThe (linkOption link) y ⌝ }
 {
     match link {
@@ -124,68 +81,5 @@ pub fn clauses_agree(rows: &[u16], codes: &[u16], x: u64) -> bool
         described_agrees(rows, codes, x)
     } else {
         false
-    }
-}
-
-// Whether x has a descriptor whose supertype is y.
-fn descriptor_under(rows: &[u16], codes: &[u16], x: u64, y: u64) -> bool
-    ensures { λ r. ⌜ r ≡ descriptorUnder (view (now (rows .entry)) (now (codes .entry))) x y ⌝ }
-{
-    let descriptor = type_table::descriptor_of(rows, codes, x);
-    match descriptor {
-        Link::Nothing => false,
-        Link::To(d) => {
-            let above = type_table::super_of(rows, codes, d);
-            is_the(above, y)
-        }
-    }
-}
-
-// Rule 4: if the supertype has descriptor y, the subtype has a descriptor whose supertype is y.
-pub fn descriptor_follows(rows: &[u16], codes: &[u16], x: u64) -> bool
-    ensures { λ r. ⌜ r ≡ descriptorFollows (view (now (rows .entry)) (now (codes .entry))) x ⌝ }
-{
-    let above = type_table::super_of(rows, codes, x);
-    let Link::To(p) = above else {
-        return true;
-    };
-    let descriptor = type_table::descriptor_of(rows, codes, p);
-    match descriptor {
-        Link::Nothing => true,
-        Link::To(y) => descriptor_under(rows, codes, x, y),
-    }
-}
-
-// What two types describe: both or neither, and as subtype and supertype too.
-fn described_follow(rows: &[u16], codes: &[u16], a: Link, b: Link) -> bool
-    ensures { λ r. ⌜ r ≡ describedFollow (view (now (rows .entry)) (now (codes .entry))) (linkOption a) (linkOption b) ⌝ }
-{
-    match a {
-        Link::Nothing => match b {
-            Link::Nothing => true,
-            Link::To(_) => false,
-        },
-        Link::To(d) => match b {
-            Link::Nothing => false,
-            Link::To(e) => {
-                let above = type_table::super_of(rows, codes, d);
-                is_the(above, e)
-            }
-        },
-    }
-}
-
-// Rule 5: a type and its supertype both describe or neither does; the described types stand as subtype and supertype too.
-pub fn describes_follows(rows: &[u16], codes: &[u16], x: u64) -> bool
-    ensures { λ r. ⌜ r ≡ describesFollows (view (now (rows .entry)) (now (codes .entry))) x ⌝ }
-{
-    let above = type_table::super_of(rows, codes, x);
-    match above {
-        Link::Nothing => true,
-        Link::To(p) => {
-            let lower = type_table::describes_of(rows, codes, x);
-            let upper = type_table::describes_of(rows, codes, p);
-            described_follow(rows, codes, lower, upper)
-        }
     }
 }

@@ -1,8 +1,8 @@
--- `type_rules::descriptor_under` meets its contract: the descriptor is asked for its supertype.
+-- `type_follow::descriptor_under` meets its contract: the descriptor is asked for its supertype.
 use borrow.Author.Needs.{needs}
-use Rattle.type_rules.proofs.Clauses.{descriptor-exits}
-use Rattle.type_rules.proofs.descriptor_under.Statement.{statement}
-use Rattle.type_rules.proofs.descriptor_under.Tie as tie
+use Rattle.type_follow.proofs.Following.{descriptor-exits}
+use Rattle.type_follow.proofs.descriptor_under.Statement.{statement}
+use Rattle.type_follow.proofs.descriptor_under.Tie as tie
 
 descriptor-of-requires : tie.Need-descriptor-of-requires
 descriptor-of-requires c κs = search needs

@@ -1,8 +1,8 @@
--- `type_rules::describes_follows` meets its contract: both clauses are read, and the rule asks for the same.
+-- `type_follow::describes_follows` meets its contract: both clauses are read, and the rule asks for the same.
 use borrow.Author.Needs.{needs}
-use Rattle.type_rules.proofs.Clauses.{describes-exits}
-use Rattle.type_rules.proofs.describes_follows.Statement.{statement}
-use Rattle.type_rules.proofs.describes_follows.Tie as tie
+use Rattle.type_follow.proofs.Following.{describes-exits}
+use Rattle.type_follow.proofs.describes_follows.Statement.{statement}
+use Rattle.type_follow.proofs.describes_follows.Tie as tie
 
 super-of-requires : tie.Need-super-of-requires
 super-of-requires c κs = search needs

@@ -1,8 +1,8 @@
--- `type_rules::described_follow` meets its contract: the four cases are those of the rule.
+-- `type_follow::described_follow` meets its contract: the four cases are those of the rule.
 use borrow.Author.Needs.{needs}
-use Rattle.type_rules.proofs.Clauses.{describes-exits}
-use Rattle.type_rules.proofs.described_follow.Statement.{statement}
-use Rattle.type_rules.proofs.described_follow.Tie as tie
+use Rattle.type_follow.proofs.Following.{describes-exits}
+use Rattle.type_follow.proofs.described_follow.Statement.{statement}
+use Rattle.type_follow.proofs.described_follow.Tie as tie
 
 enum-told : tie.Need-enum-told
 enum-told c = search needs

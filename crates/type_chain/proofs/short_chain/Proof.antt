@@ -1,9 +1,9 @@
--- `type_rules::short_chain` meets its contract: each turn goes one supertype up, as the rule does, with one step less.
+-- `type_chain::short_chain` meets its contract: each turn goes one supertype up, as the rule does, with one step less.
 use borrow.Author.Needs.{needs}
 use Rattle.type_table.specs.View.{view}
-use Rattle.type_rules.proofs.Supers.{Climb, climb-exits}
-use Rattle.type_rules.proofs.short_chain.Statement.{statement}
-use Rattle.type_rules.proofs.short_chain.Tie as tie
+use Rattle.type_chain.proofs.Supers.{Climb, climb-exits}
+use Rattle.type_chain.proofs.short_chain.Statement.{statement}
+use Rattle.type_chain.proofs.short_chain.Tie as tie
 
 abbrev Inv-loop : tie.InvT-loop
 Inv-loop rows codes x at₀ left₀ at left = Climb (view rows codes) x at left

@@ -1,8 +1,8 @@
--- `type_rules::descriptor_follows` meets its contract: a supertype without descriptor allows either.
+-- `type_follow::descriptor_follows` meets its contract: a supertype without descriptor allows either.
 use borrow.Author.Needs.{needs}
-use Rattle.type_rules.proofs.Clauses.{descriptor-exits}
-use Rattle.type_rules.proofs.descriptor_follows.Statement.{statement}
-use Rattle.type_rules.proofs.descriptor_follows.Tie as tie
+use Rattle.type_follow.proofs.Following.{descriptor-exits}
+use Rattle.type_follow.proofs.descriptor_follows.Statement.{statement}
+use Rattle.type_follow.proofs.descriptor_follows.Tie as tie
 
 super-of-requires : tie.Need-super-of-requires
 super-of-requires c κs = search needs

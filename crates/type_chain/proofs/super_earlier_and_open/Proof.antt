@@ -1,8 +1,8 @@
--- `type_rules::super_earlier_and_open` meets its contract: the cases are those of the rule: no supertype, one, more.
+-- `type_chain::super_earlier_and_open` meets its contract: the cases are those of the rule: no supertype, one, more.
 use borrow.Author.Needs.{needs}
-use Rattle.type_rules.proofs.Supers.{super-exits}
-use Rattle.type_rules.proofs.super_earlier_and_open.Statement.{statement}
-use Rattle.type_rules.proofs.super_earlier_and_open.Tie as tie
+use Rattle.type_chain.proofs.Supers.{super-exits}
+use Rattle.type_chain.proofs.super_earlier_and_open.Statement.{statement}
+use Rattle.type_chain.proofs.super_earlier_and_open.Tie as tie
 
 supers-of-requires : tie.Need-supers-of-requires
 supers-of-requires c κs = search needs
