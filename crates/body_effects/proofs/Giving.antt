@@ -21,8 +21,8 @@ use Rattle.body_operands.specs.declared.Left.{Left}
 use Rattle.body_operands.specs.declared.Left
 use Rattle.body_operands.specs.Taking.{leftIn, leftOf}
 use Rattle.body_put.proofs.PushedState.{pushed-state, pushed-upright, pushed-stamped, pushed-types}
-use Rattle.body_frames.specs.Frames.{Ready, Marked}
-use Rattle.body_frames.proofs.MarkedState.{may-mark, marked-state, marked-upright, marked-stamped}
+use Rattle.body_marks.specs.Marks.{Ready, Marked}
+use Rattle.body_marks.proofs.MarkedState.{may-mark, marked-state, marked-upright, marked-stamped}
 use Rattle.body_push.specs.declared.Given.{Given}
 use Rattle.body_push.specs.declared.Given
 use Rattle.body_push.specs.Gives.{Long, backOf, givenOf, Gave, GivenTo}

@@ -36,7 +36,7 @@ fn give_plain(
     let stops = plan.stops;
     let m = depth as u32 + 1;
     if stops {
-        body_frames::mark(work, locals, m, marks);
+        body_marks::mark(work, locals, m, marks);
         return Step::On(Check {
             depth: depth,
             base: base,
@@ -51,7 +51,7 @@ fn give_plain(
     match given {
         Given::Full => Step::Fault(refusals::OVERSIZE),
         Given::Is(high) => {
-            body_frames::mark(work, locals, m, marks);
+            body_marks::mark(work, locals, m, marks);
             Step::On(Check {
                 depth: depth,
                 base: base,

@@ -1,4 +1,2 @@
 pub mod Writing
 pub mod Inside
-pub mod Setting
-pub mod MarkedState

@@ -1,8 +1,7 @@
--- What opening a block and setting a local leave in the scratch, by what its words then say.
-use Prim.Native.Nat.{ℕ, _+_, _-_, _*_, _<_, _≤_}
+-- What opening a block leaves in the scratch, by what its words then say.
+use Prim.Native.Nat.{ℕ, _+_, _*_, _<_, _≤_}
 use mathlib.Core.Path.{_≡_}
 use mathlib.Core.Bool.{Bool, false}
-use mathlib.Core.Option.{Option}
 use mathlib.Core.List.{List, map}
 use lib.ListN.{getD, length}
 use lib.Dec.{ltb}
@@ -13,29 +12,14 @@ use Rattle.scope.specs.TypeRules.{valNames}
 use Rattle.scope.specs.Syntax.{Val}
 use Rattle.scope.specs.Memory.{flag}
 use Rattle.scope.specs.BodyRules.{Ruled, test}
-use Rattle.scope.specs.Bodies.{marked, State, Next, entered}
+use Rattle.scope.specs.Bodies.{State, Next, entered}
 use Rattle.body_decoded.specs.Decoded.{blockResults}
 use Rattle.body_state.specs.declared.Check.{Check}
 use Rattle.body_state.specs.declared.Scene.{Scene}
 use Rattle.body_state.specs.declared.Step.{Step}
 use Rattle.body_state.specs.declared.Step
-use Rattle.body_state.specs.Layout.{stampsFrom, operandsFrom, framesFrom, frameSpan, loopWord, resultWord, baseWord, heightWord, deadWord, stampWord, usedSize}
-use Rattle.body_state.specs.State.{frameWord, setsAt, frameOf, stateAt, Upright, Stamped, stepOf}
-
--- frame m may be open
-pub record Ready (work : List ℕ) (count m : ℕ) : Type 0 where
-  pub room : usedSize ≤ length work
-  pub few : count ≤ mostLocals
-  pub some′ : 0 < m
-
--- A local is set in the frames up to number m, and in no frame around; it keeps a stamp that was there, or frame m's.
-pub record Marked (work work′ : List ℕ) (count m : ℕ) (marks : Option ℕ) : Type 0 where
-  pub here : setsAt work′ m 0 count ≡ marked marks (setsAt work m 0 count)
-  pub around : (n : ℕ) → n < m → setsAt work′ n 0 count ≡ setsAt work n 0 count
-  pub early : (at : ℕ) → frameWord work m stampWord < at → ((i : ℕ) → i < count → getD work (stampsFrom + i) 0 < at) → (i : ℕ) → i < count → getD work′ (stampsFrom + i) 0 < at
-  pub types : (i : ℕ) → i < mostLocals → getD work′ i 0 ≡ getD work i 0
-  pub beyond : (i : ℕ) → operandsFrom ≤ i → getD work′ i 0 ≡ getD work i 0
-  pub size : length work′ ≡ length work
+use Rattle.body_state.specs.Layout.{framesFrom, frameSpan, loopWord, resultWord, baseWord, heightWord, deadWord, stampWord, usedSize}
+use Rattle.body_state.specs.State.{frameWord, frameOf, stateAt, Upright, Stamped, stepOf}
 
 -- frame m has its eight words
 pub record FrameRoom (work : List ℕ) (m : ℕ) : Type 0 where

@@ -1,4 +1,4 @@
-// Frames and locals, written: a block is opened, a local is set.
+// Frames, written: a block is opened.
 use body_state::Check;
 use body_state::Scene;
 use body_state::Step;
@@ -9,35 +9,13 @@ ghost use mathlib.Core.List.{map};
 ghost use Rattle.scope.specs.Lists.{joined};
 ghost use Rattle.scope.specs.TypeRules.{valNames};
 ghost use Rattle.scope.specs.Memory.{flag};
-ghost use Rattle.type_table.specs.View.{linkAt};
 ghost use Rattle.type_reach.specs.Names.{allBelow};
 ghost use Rattle.body_state.specs.Layout.{loopWord, resultWord, baseWord, heightWord, deadWord, stampWord};
 ghost use Rattle.body_decoded.specs.Decoded.{blockResults};
-ghost use Rattle.body_frames.specs.Frames.{Ready, Marked, FrameRoom, ThreePut, Entering, Entered, Opening, Opened};
+ghost use Rattle.body_frames.specs.Frames.{FrameRoom, ThreePut, Entering, Entered, Opening, Opened};
 
 // "64 frames, the function's own counted": by the type of a depth.
 const MOST_BLOCKS: u16 = sizes::MOST_BLOCKS as u16;
-
-// Sets a local in frame m: 0 is none, else one more than its number. What is set already stays as it is: it was set in a
-// frame that is still open.
-pub fn mark(work: &mut [u32], locals: u16, m: u32, marks: u64)
-    requires { ⌜ Ready (now work) locals m ⌝ }
-    ensures { λ r. ⌜ Marked (now (work .entry)) (now (work .exit)) locals m (linkAt marks) ⌝ }
-{
-    if marks == 0 {
-        return;
-    }
-    let x = marks - 1;
-    if locals as u64 <= x {
-        return;
-    }
-    if body_state::is_set(work, m, x as u32) {
-        return;
-    }
-    let stamp = body_state::frame_word(work, m, body_state::STAMP);
-    lent_u32::put32(work, body_state::MARKS + x, m as u64);
-    lent_u32::put32(work, body_state::STAMPS + x, stamp);
-}
 
 // 1 for true.
 fn flag_of(b: bool) -> u64

@@ -1,8 +1,8 @@
--- `body_frames::mark` meets its contract.
+-- `body_marks::mark` meets its contract.
 use borrow.Author.Needs.{needs}
-use Rattle.body_frames.proofs.Setting.{mark-exits}
-use Rattle.body_frames.proofs.mark.Statement.{statement}
-use Rattle.body_frames.proofs.mark.Tie as tie
+use Rattle.body_marks.proofs.Setting.{mark-exits, mark-new}
+use Rattle.body_marks.proofs.mark.Statement.{statement}
+use Rattle.body_marks.proofs.mark.Tie as tie
 
 returns : tie.Need-returns
 returns c = search (mark-exits, needs)
@@ -44,7 +44,7 @@ same-length-2 : tie.Need-same-length-2
 same-length-2 c = search (mark-exits, needs)
 
 returns-4 : tie.Need-returns-4
-returns-4 c = search (mark-exits, needs)
+returns-4 c = search mark-new
 
 pub mark-spec : {M : Type 1} → statement M
 mark-spec =

@@ -9,7 +9,7 @@ use Rattle.body_state.specs.declared.Check.{Check}
 use Rattle.body_state.specs.Layout.{operandsFrom, framesFrom, frameSpan, stampWord}
 use Rattle.body_state.specs.State.{stack, setsAt, framesAt, stateAt, Upright, Stamped}
 use Rattle.body_state.proofs.Alike.{Around, stack-alike, rests-around, frames-around}
-use Rattle.body_frames.specs.Frames.{Ready, Marked}
+use Rattle.body_marks.specs.Marks.{Ready, Marked}
 
 module _ {work : List ℕ} {count : ℕ} {st : Check} (u : Upright work count st) where
   pub may-mark : Ready work count (st .depth + 1)

@@ -19,7 +19,7 @@ use Rattle.lent_u32.specs.Scratch.{Word32At}
 use Rattle.body_state.specs.Layout.{marksFrom, stampsFrom, framesFrom, frameSpan, stampWord, wordBound}
 use Rattle.body_state.specs.State.{frameWord, isSetAt, setsAt}
 use Rattle.body_state.proofs.Alike.{is-set-same, sets-same, sets-length, sets-there, set-further, both-false}
-use Rattle.body_frames.specs.Frames.{Ready, Marked}
+use Rattle.body_marks.specs.Marks.{Ready, Marked}
 use Rattle.lent_u16.proofs.Stores.{Stored, stored}
 
 -- a list of marks with one more
