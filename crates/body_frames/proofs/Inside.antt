@@ -33,7 +33,8 @@ use Rattle.body_state.specs.declared.Step
 use Rattle.body_state.specs.Layout.{marksFrom, stampsFrom, framesFrom, frameSpan, loopWord, resultWord, baseWord, heightWord, deadWord, stampWord, codeBound}
 use Rattle.body_state.specs.State.{valAtWord, resultsAt, frameWord, stack, isSetAt, setsAt, frameOf, frameAt, framesAt, stateAt, Rests, above, Upright, Stamped}
 use Rattle.body_state.proofs.Alike.{Alike, alike-less, stack-same, sets-same, sets-alike, rests-alike, frames-alike, frames-length, frames-more}
-use Rattle.body_frames.specs.Frames.{FrameRoom, ThreePut, Entering, Entered, Opening, opens, Opened}
+use Rattle.body_frame_words.specs.FrameWords.{FrameRoom, ThreePut}
+use Rattle.body_frames.specs.Frames.{Entering, Entered, Opening, opens, Opened}
 
 -- the block's result
 

@@ -9,7 +9,7 @@ use Rattle.scope.specs.Memory.{flag}
 use Rattle.type_table.proofs.CodesBack.{flag-small}
 use Rattle.lent_u16.proofs.Stores.{Stored, stored}
 use Rattle.body_state.specs.Layout.{framesFrom, frameSpan, loopWord, resultWord, baseWord, heightWord, deadWord, stampWord, wordBound}
-use Rattle.body_frames.specs.Frames.{FrameRoom, ThreePut}
+use Rattle.body_frame_words.specs.FrameWords.{FrameRoom, ThreePut}
 
 module _ {work work₁ work₂ work₃ : List ℕ} {m : ℕ} (r : FrameRoom work m) {j k l : ℕ} (a : j < k) (b : k < l) (c : l < frameSpan) {x y z : ℕ} where
   three : Stored work work₁ (framesFrom + frameSpan * m + j) x → Stored work₁ work₂ (framesFrom + frameSpan * m + k) y → Stored work₂ work₃ (framesFrom + frameSpan * m + l) z → ThreePut work work₃ m j k l x y z
