@@ -1,4 +1,2 @@
-pub mod Packs
 pub mod Made
-pub mod Asked
-pub mod Filling
+pub mod Room

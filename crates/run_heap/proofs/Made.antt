@@ -22,8 +22,10 @@ use Rattle.type_table.specs.View.{linkAt}
 use Rattle.run_values.specs.Values.{valueAt, valuesFrom, AllCanon}
 use Rattle.run_values.proofs.Numbered.{numbered-more, numbered-same}
 use Rattle.run_values.proofs.Laws.{entries-same}
-use Rattle.run_heap.specs.Heap.{objectWord, objectWith, objectAt, storeAt, cellsBelow, Packed, Kept, withRow, RowPut, Filled}
-use Rattle.run_heap.proofs.Packs.{below-next, packed-none, packed-inside}
+use Rattle.run_cells.specs.Cells.{Filled}
+use Rattle.run_objects.specs.Objects.{objectWord, objectWith, objectAt, storeAt, cellsBelow, Packed, Kept}
+use Rattle.run_objects.proofs.Packs.{below-next, packed-none, packed-inside}
+use Rattle.run_heap.specs.Heap.{withRow, RowPut}
 
 -- one store after the other
 

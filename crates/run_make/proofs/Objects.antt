@@ -14,7 +14,8 @@ use Rattle.scope.specs.Machine.{Value}
 use Rattle.scope.proofs.Impossible.{impossible}
 use Rattle.run_value.specs.declared.Value
 use Rattle.run_values.specs.Values.{valuesFrom, AllCanon}
-use Rattle.run_heap.specs.Heap.{withRow, CellRoom, Filled, CellsCopied, CellsDefault}
+use Rattle.run_cells.specs.Cells.{CellRoom, Filled, CellsCopied, CellsDefault}
+use Rattle.run_heap.specs.Heap.{withRow}
 use Rattle.run_heap.proofs.Made.{row-put}
 use Rattle.run_stack.specs.Pile.{Room, Pushed}
 use Rattle.run_state.specs.declared.Stage.{Stage}

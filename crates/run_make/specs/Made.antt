@@ -9,7 +9,9 @@ use Rattle.scope.specs.Sizes.{mostOperands, mostObjects, mostCells}
 use Rattle.scope.specs.Machine.{Value}
 use Rattle.run_value.specs.declared.Value
 use Rattle.run_values.specs.Values.{AllCanon}
-use Rattle.run_heap.specs.Heap.{Kept, RowPut, Filled}
+use Rattle.run_cells.specs.Cells.{Filled}
+use Rattle.run_objects.specs.Objects.{Kept}
+use Rattle.run_heap.specs.Heap.{RowPut}
 use Rattle.run_stack.specs.Pile.{Pushed}
 use Rattle.run_state.specs.declared.Stage.{Stage}
 use Rattle.run_state.specs.declared.Stepped.{Stepped}

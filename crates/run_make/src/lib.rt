@@ -66,7 +66,7 @@ pub fn make_given(
     }
     let base = stage.base;
     let total = stage.cells;
-    run_heap::copy_cells(cells, operands, base + left, total, k);
+    run_cells::copy_cells(cells, operands, base + left, total, k);
     let later = put_made(objects, operands, stage, left, x, d, k);
     Stepped::Goes(later)
 }
@@ -97,7 +97,7 @@ pub fn make_default(
         return Stepped::Astray;
     }
     let total = stage.cells;
-    run_heap::default_cells(codes, cells, first, k, total);
+    run_cells::default_cells(codes, cells, first, k, total);
     let later = put_made(objects, operands, stage, left, x, d, k);
     Stepped::Goes(later)
 }

@@ -18,11 +18,11 @@ use Rattle.run_value.specs.declared.Value.{Value as Carrier}
 use Rattle.type_table.specs.declared.Link.{Link}
 use Rattle.type_table.specs.declared.Link
 use Rattle.type_table.proofs.Laws.{link-nothing, link-to}
-use Rattle.run_heap.specs.declared.Held.{Held}
-use Rattle.run_heap.specs.declared.Held
-use Rattle.run_heap.specs.Heap.{objectWord, objectAt, DescriptorOf, HeldField}
-use Rattle.run_heap.proofs.Packs.{object-there, object-none}
-use Rattle.run_heap.proofs.Asked.{fields-length, field-got, field-missed}
+use Rattle.run_objects.specs.declared.Held.{Held}
+use Rattle.run_objects.specs.declared.Held
+use Rattle.run_objects.specs.Objects.{objectWord, objectAt, DescriptorOf, HeldField}
+use Rattle.run_objects.proofs.Packs.{object-there, object-none}
+use Rattle.run_objects.proofs.Asked.{fields-length, field-got, field-missed}
 use Rattle.run_stack.specs.declared.Topmost.{Topmost}
 use Rattle.run_stack.specs.declared.Topmost
 use Rattle.run_state.specs.declared.Move

@@ -1,5 +1,5 @@
 // The moves of the instructions that look into an object: struct.get, struct.set and ref.get_desc.
-use run_heap::Held;
+use run_objects::Held;
 use run_stack::Topmost;
 use run_state::Move;
 use run_state::Reference;
@@ -28,7 +28,7 @@ pub fn get_field_move(
             if n as u64 <= o {
                 return Move::Astray;
             }
-            let held = run_heap::held_field(objects, cells, o as u32, i);
+            let held = run_objects::held_field(objects, cells, o as u32, i);
             match held {
                 Held::Absent => Move::Astray,
                 Held::Is(v) => Move::Gives(1, v),
@@ -60,7 +60,7 @@ pub fn set_field_move(
             if n as u64 <= o {
                 return Move::Astray;
             }
-            let held = run_heap::held_field(objects, cells, o as u32, i);
+            let held = run_objects::held_field(objects, cells, o as u32, i);
             match held {
                 Held::Absent => Move::Astray,
                 Held::Is(_) => Move::SetsField(2, o as u32, i as u32, v),
@@ -81,7 +81,7 @@ pub fn get_descriptor_move(objects: &[u16], cells: &[u64], n: u32, first: Topmos
             if n as u64 <= o {
                 return Move::Astray;
             }
-            let link = run_heap::descriptor_of(objects, o as u32);
+            let link = run_objects::descriptor_of(objects, o as u32);
             match link {
                 Link::Nothing => Move::Astray,
                 Link::To(d) => Move::Gives(1, Value::Object(d)),

@@ -22,10 +22,12 @@ use Rattle.type_table.specs.declared.Shape.{Shape}
 use Rattle.type_table.specs.declared.Shape
 use Rattle.body_state.proofs.Answers.{codes-length}
 use Rattle.body_plan_defaults.specs.Defaults.{allDefault}
-use Rattle.run_heap.specs.Heap.{storeAt, Kept, RoomFor, startOf}
-use Rattle.run_heap.proofs.Packs.{heap-length}
+use Rattle.run_cells.specs.Cells.{startOf}
+use Rattle.run_cells.proofs.Filling.{every-default, some-without}
+use Rattle.run_objects.specs.Objects.{storeAt, Kept}
+use Rattle.run_objects.proofs.Packs.{heap-length}
+use Rattle.run_heap.specs.Heap.{RoomFor}
 use Rattle.run_heap.proofs.Made.{link-more}
-use Rattle.run_heap.proofs.Filling.{every-default, some-without}
 use Rattle.run_stack.specs.declared.Topmost.{Topmost}
 use Rattle.run_stack.proofs.Laws.{take-split, few-split}
 use Rattle.run_state.specs.declared.Move.{Move}

@@ -5,7 +5,7 @@ use mathlib.Core.List.{List}
 use lib.ListN.{length, drop}
 use Rattle.scope.specs.Machine.{Machine, Program, makeGiven, makeDefault}
 use Rattle.type_table.specs.View.{view, linkAt}
-use Rattle.run_heap.specs.Heap.{storeAt, Kept}
+use Rattle.run_objects.specs.Objects.{storeAt, Kept}
 use Rattle.run_state.specs.declared.Move.{Move}
 use Rattle.run_state.specs.Moved.{MoveIs}
 

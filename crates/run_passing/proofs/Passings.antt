@@ -16,8 +16,8 @@ use Rattle.type_table.specs.declared.Link.{Link}
 use Rattle.type_table.specs.declared.Link
 use Rattle.type_table.proofs.Codes.{heap-at-code}
 use Rattle.type_table.proofs.Laws.{link-nothing, link-to}
-use Rattle.run_heap.specs.Heap.{storeAt, objectAt, TypeOf, DescriptorOf}
-use Rattle.run_heap.proofs.Packs.{store-there, store-none}
+use Rattle.run_objects.specs.Objects.{storeAt, objectAt, TypeOf, DescriptorOf}
+use Rattle.run_objects.proofs.Packs.{store-there, store-none}
 use Rattle.run_stack.specs.declared.Topmost.{Topmost}
 use Rattle.run_stack.specs.Pile.{headOf}
 use Rattle.run_state.specs.declared.Reference.{Reference}

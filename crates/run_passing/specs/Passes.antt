@@ -7,7 +7,7 @@ use mathlib.Core.List.{List}
 use lib.ListN.{length, drop}
 use Rattle.scope.specs.Machine.{Value, Machine, Program, Outcome, stuck, onTaken, onDescriptor, castPasses, descriptorCastPasses}
 use Rattle.type_table.specs.View.{heapAtCode, view}
-use Rattle.run_heap.specs.Heap.{storeAt}
+use Rattle.run_objects.specs.Objects.{storeAt}
 use Rattle.run_stack.specs.declared.Topmost.{Topmost}
 use Rattle.run_stack.specs.Pile.{headOf}
 use Rattle.run_state.specs.declared.Move.{Move}

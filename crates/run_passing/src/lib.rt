@@ -34,7 +34,7 @@ fn passes_cast(
             if n as u64 <= o {
                 return Passing::Wrong;
             }
-            let made = run_heap::type_of(objects, o as u32);
+            let made = run_objects::type_of(objects, o as u32);
             let below = type_order::heap_below(rows, codes, 11 + 2 * made, h);
             Passing::Is(below)
         }
@@ -53,7 +53,7 @@ fn passes_descriptor(objects: &[u16], n: u32, top: Topmost, null: bool, d: u64) 
             if n as u64 <= o {
                 return Passing::Wrong;
             }
-            let link = run_heap::descriptor_of(objects, o as u32);
+            let link = run_objects::descriptor_of(objects, o as u32);
             match link {
                 Link::Nothing => Passing::Is(false),
                 Link::To(e) => Passing::Is(e == d),

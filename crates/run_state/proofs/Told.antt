@@ -18,7 +18,7 @@ use Rattle.run_values.specs.Layout.{kindWord, placeWord, belowWord}
 use Rattle.run_values.specs.Values.{valueAt, entryIn}
 use Rattle.run_values.proofs.Numbered.{numbered-length}
 use Rattle.run_values.proofs.Laws.{held-canon-words}
-use Rattle.run_heap.proofs.Packs.{store-length, packed-fields, objects-words, cells-words}
+use Rattle.run_objects.proofs.Packs.{store-length, packed-fields, objects-words, cells-words}
 use Rattle.run_stack.specs.Pile.{pile}
 use Rattle.run_stack.proofs.Laws.{pile-length, pile-words}
 use Rattle.run_stack.proofs.Held.{locals-length}

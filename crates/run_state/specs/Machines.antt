@@ -16,7 +16,7 @@ use Rattle.scope.specs.Machine.{Value, Block, openBlock, openLoop, Machine, Pro
 use Rattle.run_values.specs.Layout.{kindWord, placeWord, belowWord, openedBlock, openedLoop}
 use Rattle.type_table.specs.View.{view}
 use Rattle.run_values.specs.Values.{heldFrom, AllCanon, AllHeldCanon}
-use Rattle.run_heap.specs.Heap.{storeAt, Kept}
+use Rattle.run_objects.specs.Objects.{storeAt, Kept}
 use Rattle.run_stack.specs.Pile.{pile, LocalRoom}
 use Rattle.run_ends.specs.Matching.{onRead, codeAt, Reached, EndsOf}
 use Rattle.run_state.specs.declared.Stage.{Stage}

@@ -12,7 +12,7 @@ use Rattle.scope.specs.Machine.{Value, object, Object, Machine, Program, Outcom
 use Rattle.scope.specs.Memory.{allOperands}
 use Rattle.type_table.specs.View.{linkAt, fieldAtCode, codesAt}
 use Rattle.run_value.specs.Carried.{decoded}
-use Rattle.run_heap.specs.Heap.{startOf}
+use Rattle.run_cells.specs.Cells.{startOf}
 use Rattle.run_state.specs.declared.Stage.{Stage}
 use Rattle.run_state.specs.declared.Move.{Move}
 use Rattle.run_state.specs.declared.Move

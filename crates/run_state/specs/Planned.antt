@@ -9,7 +9,7 @@ use Rattle.type_table.specs.View.{view}
 use Rattle.run_values.specs.Values.{heldFrom}
 use Rattle.run_value.specs.declared.Value
 use Rattle.run_value.specs.declared.Value.{Value as Carrier}
-use Rattle.run_heap.specs.Heap.{storeAt, Kept}
+use Rattle.run_objects.specs.Objects.{storeAt, Kept}
 use Rattle.run_stack.specs.declared.Topmost.{Topmost}
 use Rattle.run_stack.specs.declared.Topmost
 use Rattle.run_stack.specs.Pile.{topOf, headOf, pile}

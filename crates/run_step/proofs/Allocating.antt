@@ -15,8 +15,8 @@ use Rattle.scope.proofs.Impossible.{contradiction}
 use Rattle.run_values.specs.Values.{valuesFrom, heldFrom, AllCanon}
 use Rattle.type_table.specs.View.{linkAt}
 use Rattle.run_values.proofs.Laws.{all-less}
-use Rattle.run_heap.specs.Heap.{storeAt}
-use Rattle.run_heap.proofs.Packs.{store-length, packed-cells}
+use Rattle.run_objects.specs.Objects.{storeAt}
+use Rattle.run_objects.proofs.Packs.{store-length, packed-cells}
 use Rattle.run_heap.proofs.Made.{store-made, kept-more}
 use Rattle.run_stack.specs.Pile.{pile}
 use Rattle.run_stack.proofs.Laws.{pile-length, drop-pile, values-above}

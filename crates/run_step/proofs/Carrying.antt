@@ -15,8 +15,8 @@ use Rattle.scope.specs.Reading.{given}
 use Rattle.scope.proofs.Impossible.{impossible}
 use Rattle.run_value.specs.declared.Value.{Value as Carrier}
 use Rattle.run_value.specs.Carried.{decoded}
-use Rattle.run_heap.specs.Heap.{objectAt, storeAt, FieldSet}
-use Rattle.run_heap.proofs.Packs.{store-there, store-found}
+use Rattle.run_objects.specs.Objects.{objectAt, storeAt, FieldSet}
+use Rattle.run_objects.proofs.Packs.{store-there, store-found}
 use Rattle.run_stack.specs.Pile.{pile, Room, Pushed, LocalRoom, LocalSet}
 use Rattle.run_stack.proofs.Laws.{drop-pile}
 use Rattle.run_ends.specs.Matching.{codeAt}

@@ -5,7 +5,7 @@ use mathlib.Core.Path.{_≡_, refl, _∙_}
 use mathlib.Core.List.{List}
 use Rattle.scope.specs.Machine.{Outcome, goes, ends}
 use Rattle.run_values.specs.Values.{heldFrom}
-use Rattle.run_heap.specs.Heap.{storeAt}
+use Rattle.run_objects.specs.Objects.{storeAt}
 use Rattle.run_stack.specs.Pile.{pile}
 use Rattle.run_ends.specs.Matching.{codeAt}
 use Rattle.run_state.specs.declared.Stage.{Stage}

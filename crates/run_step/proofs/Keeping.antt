@@ -14,7 +14,7 @@ use Rattle.scope.proofs.Impossible.{impossible}
 use Rattle.run_values.specs.Values.{AllHeldCanon}
 use Rattle.run_value.specs.declared.Value.{Value as Carrier}
 use Rattle.run_values.proofs.Laws.{all-less}
-use Rattle.run_heap.specs.Heap.{Kept}
+use Rattle.run_objects.specs.Objects.{Kept}
 use Rattle.run_stack.specs.Pile.{Pushed, LocalRoom}
 use Rattle.run_stack.proofs.Laws.{pile-length}
 use Rattle.run_state.specs.declared.Stage.{Stage}

@@ -51,7 +51,7 @@ fn carry_out(
             Stepped::Goes(later)
         }
         Move::SetsField(n, o, i, v) => {
-            run_heap::set_field(objects, cells, o, i, v);
+            run_objects::set_field(objects, cells, o, i, v);
             let later = run_state::at_height(stage, height - n);
             Stepped::Goes(later)
         }

@@ -1,8 +1,8 @@
--- `run_heap::type_of` meets its contract.
+-- `run_objects::type_of` meets its contract.
 use borrow.Author.Needs.{needs}
-use Rattle.run_heap.proofs.Asked.{ask-exits}
-use Rattle.run_heap.proofs.type_of.Statement.{statement}
-use Rattle.run_heap.proofs.type_of.Tie as tie
+use Rattle.run_objects.proofs.Asked.{ask-exits}
+use Rattle.run_objects.proofs.type_of.Statement.{statement}
+use Rattle.run_objects.proofs.type_of.Tie as tie
 
 object-word-requires : tie.Need-object-word-requires
 object-word-requires c κs = search (ask-exits, needs)

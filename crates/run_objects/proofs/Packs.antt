@@ -22,7 +22,7 @@ use Rattle.type_table.specs.View.{linkAt}
 use Rattle.run_values.specs.Values.{numbered, valueAt, entryIn, valuesFrom, setValue, Canon, AllCanon}
 use Rattle.run_values.proofs.Numbered.{numbered-length, numbered-there, numbered-none, numbered-append, numbered-more, numbered-same, numbered-set}
 use Rattle.run_values.proofs.Laws.{canon-words, put-other, put-among, put-all}
-use Rattle.run_heap.specs.Heap.{objectWord, objectWith, objectAt, storeAt, cellsBelow, Packed}
+use Rattle.run_objects.specs.Objects.{objectWord, objectWith, objectAt, storeAt, cellsBelow, Packed}
 
 -- objects by number
 

@@ -1,8 +1,8 @@
--- `run_heap::default_kind` meets its contract.
+-- `run_cells::default_kind` meets its contract.
 use borrow.Author.Needs.{needs}
-use Rattle.run_heap.proofs.Filling.{kind-exits}
-use Rattle.run_heap.proofs.default_kind.Statement.{statement}
-use Rattle.run_heap.proofs.default_kind.Tie as tie
+use Rattle.run_cells.proofs.Filling.{kind-exits}
+use Rattle.run_cells.proofs.default_kind.Statement.{statement}
+use Rattle.run_cells.proofs.default_kind.Tie as tie
 
 val-of-requires : tie.Need-val-of-requires
 val-of-requires c κs = search (kind-exits, needs)

@@ -1,9 +1,9 @@
--- `run_heap::copy_cells` meets its contract: each turn copies one more value.
+-- `run_cells::copy_cells` meets its contract: each turn copies one more value.
 use Prim.Native.Nat.{_-_}
 use borrow.Author.Needs.{needs}
-use Rattle.run_heap.proofs.Filling.{CopiedSoFar, copy-exits}
-use Rattle.run_heap.proofs.copy_cells.Statement.{statement}
-use Rattle.run_heap.proofs.copy_cells.Tie as tie
+use Rattle.run_cells.proofs.Filling.{CopiedSoFar, copy-exits}
+use Rattle.run_cells.proofs.copy_cells.Statement.{statement}
+use Rattle.run_cells.proofs.copy_cells.Tie as tie
 
 abbrev Inv-loop : tie.InvT-loop
 Inv-loop cells₀ from at total k i₀ cells i = CopiedSoFar from cells₀ cells at total k i

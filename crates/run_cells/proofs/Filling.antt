@@ -24,7 +24,7 @@ use Rattle.type_table.proofs.Laws.{is-number, is-ref}
 use Rattle.run_values.specs.Values.{Word64At, numbered, valueAt, entryIn, valuesFrom, setValue, Canon, AllCanon}
 use Rattle.run_values.proofs.Numbered.{numbered-more}
 use Rattle.run_values.proofs.Laws.{zero-of-code, value-null, canon-zero, canon-null, all-less, put-long, put-beside, put-next, put-all-more}
-use Rattle.run_heap.specs.Heap.{CellRoom, Filled, CellsCopied, startOf, DefaultKind, CellsDefault}
+use Rattle.run_cells.specs.Cells.{CellRoom, Filled, CellsCopied, startOf, DefaultKind, CellsDefault}
 
 filled-none : (cells : List ℕ) (total : ℕ) → Filled cells cells total 0 []
 unfolding numbered

@@ -1,9 +1,9 @@
--- `run_heap::default_cells` meets its contract: each turn puts the default of one more field.
+-- `run_cells::default_cells` meets its contract: each turn puts the default of one more field.
 use Prim.Native.Nat.{_-_}
 use borrow.Author.Needs.{needs}
-use Rattle.run_heap.proofs.Filling.{DefaultSoFar, default-exits}
-use Rattle.run_heap.proofs.default_cells.Statement.{statement}
-use Rattle.run_heap.proofs.default_cells.Tie as tie
+use Rattle.run_cells.proofs.Filling.{DefaultSoFar, default-exits}
+use Rattle.run_cells.proofs.default_cells.Statement.{statement}
+use Rattle.run_cells.proofs.default_cells.Tie as tie
 
 abbrev Inv-loop : tie.InvT-loop
 Inv-loop codes cells₀ first k total i₀ cells i = DefaultSoFar codes cells₀ cells first k total i

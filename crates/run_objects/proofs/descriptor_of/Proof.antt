@@ -1,8 +1,8 @@
--- `run_heap::descriptor_of` meets its contract.
+-- `run_objects::descriptor_of` meets its contract.
 use borrow.Author.Needs.{needs}
-use Rattle.run_heap.proofs.Asked.{ask-exits}
-use Rattle.run_heap.proofs.descriptor_of.Statement.{statement}
-use Rattle.run_heap.proofs.descriptor_of.Tie as tie
+use Rattle.run_objects.proofs.Asked.{ask-exits}
+use Rattle.run_objects.proofs.descriptor_of.Statement.{statement}
+use Rattle.run_objects.proofs.descriptor_of.Tie as tie
 
 object-word-requires : tie.Need-object-word-requires
 object-word-requires c κs = search (ask-exits, needs)

@@ -1,16 +1,14 @@
--- Each way out of the questions that are asked of the heap, and of a store in a field.
+-- Each way out of the questions that are asked of an object, and of a store in a field.
 use Prim.Native.Nat.{ℕ, _+_, _-_, _*_, _%_, _≤_, _<_}
 use mathlib.Core.Path.{_≡_, sym, ap, ap₂, _∙_}
-use mathlib.Core.Bool.{false}
 use mathlib.Core.Option.{none, some}
 use mathlib.Core.List.{List}
 use native.Mathlib.Omega.{arith}
 use native.Mathlib.Nat.{mod-eq-of-lt}
 use lib.ListN.{length, getD, getElem?, set}
-use lib.Dec.{leb}
-use borrow.Author.Tests.{ne-eqb, lt-ltb, le-ltb, leb-true}
+use borrow.Author.Tests.{ne-eqb}
 use Rattle.scope.specs.Layout.{objectSpan}
-use Rattle.scope.specs.Sizes.{mostObjects, mostCells}
+use Rattle.scope.specs.Sizes.{mostCells}
 use Rattle.scope.specs.Machine.{Value, withField}
 use Rattle.lent_u16.specs.Words.{WordAt}
 use Rattle.type_table.specs.declared.Link.{Link}
@@ -21,10 +19,10 @@ use Rattle.run_value.specs.Carried.{decoded, valueKind, valueBits, withValue, V
 use Rattle.run_value.proofs.Laws.{said, canon-said}
 use Rattle.run_values.proofs.Numbered.{numbered-length, numbered-there, numbered-none}
 use Rattle.run_values.proofs.Laws.{put-long}
-use Rattle.run_heap.specs.declared.Held.{Held}
-use Rattle.run_heap.specs.declared.Held
-use Rattle.run_heap.specs.Heap.{objectWord, objectAt, storeAt, TypeOf, DescriptorOf, FieldCount, heldOption, HeldField, FieldSet, RoomFor}
-use Rattle.run_heap.proofs.Packs.{store-length, packed-inside, packed-cells, store-set, set-canon}
+use Rattle.run_objects.specs.declared.Held.{Held}
+use Rattle.run_objects.specs.declared.Held
+use Rattle.run_objects.specs.Objects.{objectWord, objectAt, storeAt, TypeOf, DescriptorOf, FieldCount, heldOption, HeldField, FieldSet}
+use Rattle.run_objects.proofs.Packs.{packed-inside, store-set, set-canon}
 use Rattle.scope.proofs.Impossible.{impossible}
 use Rattle.lent_u32.specs.Scratch.{word32Limit}
 use Rattle.run_values.specs.Layout.{kindPlace, bitsPlace, typeWord, descriptorWord, firstWord, countWord}
@@ -119,23 +117,4 @@ module _ {objects : List ℕ} {o first : ℕ} (a : WordAt objects (objectSpan * 
           let small : (first + i) % word32Limit ≡ first + i = mod-eq-of-lt (omega arith) in
           e ∙ ap (λ (j : ℕ). withValue cells j v) (small ∙ ap (λ (f : ℕ). f + i) place)
 
--- room
-
-module _ {n total need : ℕ} where
-  pub room-none : mostObjects ≤ n → RoomFor n total need false
-  room-none h =
-      record {
-        is = λ objects cells p. rw (store-length objects cells n, le-ltb n mostObjects h);
-        few = λ e. impossible cc;
-        most = λ e. impossible cc;
-      }
-
-  pub room-by : n < mostObjects → RoomFor n total need (leb (total + need) mostCells)
-  room-by h =
-      record {
-        is = λ objects cells p. rw (store-length objects cells n, lt-ltb n mostObjects h, packed-cells p cells);
-        few = λ e. h;
-        most = λ e. leb-true (total + need) mostCells e;
-      }
-
-pub ruleset ask-exits = (type-is, descriptor-none, descriptor-some, count-is, field-absent, field-held, field-set, room-none, room-by)
+pub ruleset ask-exits = (type-is, descriptor-none, descriptor-some, count-is, field-absent, field-held, field-set)

@@ -1,8 +1,8 @@
--- `run_heap::set_field` meets its contract.
+-- `run_objects::set_field` meets its contract.
 use borrow.Author.Needs.{needs}
-use Rattle.run_heap.proofs.Asked.{ask-exits}
-use Rattle.run_heap.proofs.set_field.Statement.{statement}
-use Rattle.run_heap.proofs.set_field.Tie as tie
+use Rattle.run_objects.proofs.Asked.{ask-exits}
+use Rattle.run_objects.proofs.set_field.Statement.{statement}
+use Rattle.run_objects.proofs.set_field.Tie as tie
 
 object-word-requires : tie.Need-object-word-requires
 object-word-requires c κs = search (ask-exits, needs)

@@ -1,8 +1,8 @@
--- `run_heap::field_count` meets its contract.
+-- `run_objects::field_count` meets its contract.
 use borrow.Author.Needs.{needs}
-use Rattle.run_heap.proofs.Asked.{ask-exits}
-use Rattle.run_heap.proofs.field_count.Statement.{statement}
-use Rattle.run_heap.proofs.field_count.Tie as tie
+use Rattle.run_objects.proofs.Asked.{ask-exits}
+use Rattle.run_objects.proofs.field_count.Statement.{statement}
+use Rattle.run_objects.proofs.field_count.Tie as tie
 
 object-word-requires : tie.Need-object-word-requires
 object-word-requires c κs = search (ask-exits, needs)
