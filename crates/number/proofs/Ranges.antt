@@ -1,17 +1,15 @@
 -- From the bits of a number to its value and range: what `u32_at`, `s32_at` and `s33_at` answer is what the definitions
 -- `unsigned` and `signed` say, each way out by the test that led there. One law over the width.
-use Prim.Native.Nat.{ℕ, suc, _-_, _*_, _^_, _≤_, _<_}
+use Prim.Native.Nat.{ℕ, _-_, _^_, _≤_, _<_}
 use mathlib.Core.Path.{_≡_, refl, sym, ap, _∙_}
 use mathlib.Core.Bool.{Bool, true, false, cond}
 use mathlib.Core.List.{List}
 use native.Mathlib.Omega.{arith}
-use mir.Syntax.{w64}
-use mir.Val.{Fits}
 use lib.Dec.{ltb, lit≤}
-use borrow.Author.Tests.{ltb-true, ltb-false, lt-ltb, le-ltb, le-leb, lt-leb}
+use borrow.Author.Tests.{ltb-true, ltb-false, lt-ltb, le-leb}
 use Rattle.scope.specs.Refusals.{bytesEnd, badNumber}
 use Rattle.scope.specs.Reading.{got}
-use Rattle.scope.specs.Numbers.{Bits, bits, bitsAt, greatestLength, unlessPadded, inRange, Whole, plus, minus, signed-of, withinSigned, unsigned, signed, u32, s32, s33}
+use Rattle.scope.specs.Numbers.{Bits, bits, bitsAt, greatestLength, inRange, Whole, plus, minus, signed-of, withinSigned, unsigned, signed, u32, s32, s33}
 use Rattle.number_bits.specs.declared.Leb.{Leb}
 use Rattle.number_bits.specs.declared.Leb
 use Rattle.number_values.specs.declared.Natural.{Natural}

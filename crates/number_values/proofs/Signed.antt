@@ -1,7 +1,7 @@
 -- The sign of so many bytes, and the number that they are with it: each way out of `sign_weight`, `signed_of` and `signed_byte` by
 -- the test that led there.
 use Prim.Native.Nat.{ℕ, suc, _-_, _*_, _^_, _≤_, _<_}
-use mathlib.Core.Path.{_≡_, refl}
+use mathlib.Core.Path.{_≡_}
 use native.Mathlib.Omega.{arith}
 use mir.Syntax.{w64}
 use mir.Val.{Fits}
@@ -21,39 +21,17 @@ use Rattle.number_values.proofs.Needed.{few-counts}
 not-so : {n k : ℕ} → (k ≡ n → ⊥) → n ≤ k → suc n ≤ k
 not-so h p = omega arith
 
-module _ {k : ℕ} where
-  pub sign-one : k ≡ 1 → SignWeight k 64
-  sign-one e = rw e (record { is = λ p q. refl; twice = λ p q. refl; small = lit≤ tt })
+-- a weight that is written out
+pub sign-arm : {k n w : ℕ} → k ≡ n → w ≡ 2 ^ (7 * n - 1) → 2 * w ≡ 2 ^ (7 * n) → w ≤ 2 ^ 62 → SignWeight k w
+sign-arm e is twice small = rw e (record { is = λ p q. is; twice = λ p q. twice; small = small })
 
-  pub sign-two : k ≡ 2 → SignWeight k 8192
-  sign-two e = rw e (record { is = λ p q. refl; twice = λ p q. refl; small = lit≤ tt })
-
-  pub sign-three : k ≡ 3 → SignWeight k 1048576
-  sign-three e = rw e (record { is = λ p q. refl; twice = λ p q. refl; small = lit≤ tt })
-
-  pub sign-four : k ≡ 4 → SignWeight k 134217728
-  sign-four e = rw e (record { is = λ p q. refl; twice = λ p q. refl; small = lit≤ tt })
-
-  pub sign-five : k ≡ 5 → SignWeight k 17179869184
-  sign-five e = rw e (record { is = λ p q. refl; twice = λ p q. refl; small = lit≤ tt })
-
-  pub sign-six : k ≡ 6 → SignWeight k 2199023255552
-  sign-six e = rw e (record { is = λ p q. refl; twice = λ p q. refl; small = lit≤ tt })
-
-  pub sign-seven : k ≡ 7 → SignWeight k 281474976710656
-  sign-seven e = rw e (record { is = λ p q. refl; twice = λ p q. refl; small = lit≤ tt })
-
-  pub sign-eight : k ≡ 8 → SignWeight k 36028797018963968
-  sign-eight e = rw e (record { is = λ p q. refl; twice = λ p q. refl; small = lit≤ tt })
-
-  pub sign-nine : (k ≡ 1 → ⊥) → (k ≡ 2 → ⊥) → (k ≡ 3 → ⊥) → (k ≡ 4 → ⊥) → (k ≡ 5 → ⊥) → (k ≡ 6 → ⊥) → (k ≡ 7 → ⊥) → (k ≡ 8 → ⊥) → SignWeight k 4611686018427387904
-  sign-nine a b c d e f g h =
-      record { is = λ p q. rw (nine p q); twice = λ p q. rw (nine p q); small = lit≤ tt }
-    where
-      nine : 1 ≤ k → k ≤ 9 → k ≡ 9
-      nine p q = let eight-less : 9 ≤ k = not-so h (not-so g (not-so f (not-so e (not-so d (not-so c (not-so b (not-so a p))))))) in omega arith
-
-pub ruleset sign-exits = (sign-one, sign-two, sign-three, sign-four, sign-five, sign-six, sign-seven, sign-eight, sign-nine)
+-- and the last, of all counts that are none of the others
+pub sign-nine : {k : ℕ} → (k ≡ 1 → ⊥) → (k ≡ 2 → ⊥) → (k ≡ 3 → ⊥) → (k ≡ 4 → ⊥) → (k ≡ 5 → ⊥) → (k ≡ 6 → ⊥) → (k ≡ 7 → ⊥) → (k ≡ 8 → ⊥) → SignWeight k 4611686018427387904
+sign-nine {k} a b c d e f g h =
+    record { is = λ p q. rw (nine p q); twice = λ p q. rw (nine p q); small = lit≤ tt }
+  where
+    nine : 1 ≤ k → k ≤ 9 → k ≡ 9
+    nine p q = let eight-less : 9 ≤ k = not-so h (not-so g (not-so f (not-so e (not-so d (not-so c (not-so b (not-so a p))))))) in omega arith
 
 -- signed_of
 
