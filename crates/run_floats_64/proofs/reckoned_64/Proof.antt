@@ -1,6 +1,6 @@
 -- `run_floats_64::reckoned_64` meets its contract.
 use borrow.Author.Needs.{needs}
-use Rattle.run_floats_64.proofs.Exits.{exits-64}
+use Rattle.run_floats_64.proofs.Exits.{below-wrong-64, exits-64, reckoned-64, top-wrong-64}
 use Rattle.run_floats_64.proofs.reckoned_64.Statement.{statement}
 use Rattle.run_floats_64.proofs.reckoned_64.Tie as tie
 
@@ -29,13 +29,13 @@ result-64-requires : tie.Need-result-64-requires
 result-64-requires c κs = search (exits-64, needs)
 
 returns : tie.Need-returns
-returns c = search (exits-64, needs)
+returns c = search (top-wrong-64, needs)
 
 returns-2 : tie.Need-returns-2
-returns-2 c = search (exits-64, needs)
+returns-2 c = search (below-wrong-64, needs)
 
 returns-3 : tie.Need-returns-3
-returns-3 c = search (exits-64, needs)
+returns-3 c = search (reckoned-64, needs)
 
 pub reckoned-64-spec : {M : Type 1} → statement M
 reckoned-64-spec = tie.close (tie.spec double-of-requires double-of-requires-2 enum-told enum-known-top enum-told-2 enum-known-below operated-64-requires result-64-requires returns returns-2 returns-3)
