@@ -1,6 +1,6 @@
 -- `body_locals::entry_at` meets its contract: count, type, reach and size, each refused in its turn.
 use borrow.Author.Needs.{needs}
-use Rattle.body_locals.proofs.OneEntry.{entry-exits}
+use Rattle.body_locals.proofs.OneEntry.{entry-exits, entry-got, entry-over}
 use Rattle.body_locals.proofs.entry_at.Statement.{statement}
 use Rattle.body_locals.proofs.entry_at.Tie as tie
 
@@ -32,7 +32,7 @@ add-if2 : tie.Need-add-if2
 add-if2 c = search (entry-exits, needs)
 
 returns-2 : tie.Need-returns-2
-returns-2 c = search (entry-exits, needs)
+returns-2 c = search entry-over
 
 returns-3 : tie.Need-returns-3
 returns-3 c = search (entry-exits, needs)
@@ -41,7 +41,7 @@ returns-4 : tie.Need-returns-4
 returns-4 c = search (entry-exits, needs)
 
 returns-5 : tie.Need-returns-5
-returns-5 c = search (entry-exits, needs)
+returns-5 c = search entry-got
 
 pub entry-at-spec : {M : Type 1} → statement M
 entry-at-spec =

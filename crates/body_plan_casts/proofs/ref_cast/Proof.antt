@@ -1,6 +1,6 @@
 -- `body_plan_casts::ref_cast` meets its contract.
 use borrow.Author.Needs.{needs}
-use Rattle.body_plan_casts.proofs.Casting.{casting-exits}
+use Rattle.body_plan_casts.proofs.Casting.{cast-planned, casting-exits}
 use Rattle.body_plan_casts.proofs.ref_cast.Statement.{statement}
 use Rattle.body_plan_casts.proofs.ref_cast.Tie as tie
 
@@ -29,7 +29,7 @@ takes-requires : tie.Need-takes-requires
 takes-requires c κs = search (casting-exits, needs)
 
 returns-2 : tie.Need-returns-2
-returns-2 c = search (casting-exits, needs)
+returns-2 c = search cast-planned
 
 pub ref-cast-spec : {M : Type 1} → statement M
 ref-cast-spec =

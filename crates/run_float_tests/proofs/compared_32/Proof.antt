@@ -1,6 +1,6 @@
 -- `run_float_tests::compared_32` meets its contract.
 use borrow.Author.Needs.{needs}
-use Rattle.run_float_tests.proofs.Exits.{exits-32}
+use Rattle.run_float_tests.proofs.Exits.{compared-32, exits-32}
 use Rattle.run_float_tests.proofs.compared_32.Statement.{statement}
 use Rattle.run_float_tests.proofs.compared_32.Tie as tie
 
@@ -35,7 +35,7 @@ returns-2 : tie.Need-returns-2
 returns-2 c = search (exits-32, needs)
 
 returns-3 : tie.Need-returns-3
-returns-3 c = search (exits-32, needs)
+returns-3 c = search compared-32
 
 pub compared-32-spec : {M : Type 1} → statement M
 compared-32-spec = tie.close (tie.spec single-of-requires single-of-requires-2 enum-told enum-known-top enum-told-2 enum-known-below holds-32-requires truth-requires returns returns-2 returns-3)

@@ -35,7 +35,7 @@ returns-2 : tie.Need-returns-2
 returns-2 c = search (below-wrong-32, needs)
 
 returns-3 : tie.Need-returns-3
-returns-3 c = search (reckoned-32, needs)
+returns-3 c = search reckoned-32
 
 pub reckoned-32-spec : {M : Type 1} → statement M
 reckoned-32-spec = tie.close (tie.spec single-of-requires single-of-requires-2 enum-told enum-known-top enum-told-2 enum-known-below operated-32-requires result-32-requires returns returns-2 returns-3)

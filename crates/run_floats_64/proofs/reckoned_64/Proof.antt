@@ -35,7 +35,7 @@ returns-2 : tie.Need-returns-2
 returns-2 c = search (below-wrong-64, needs)
 
 returns-3 : tie.Need-returns-3
-returns-3 c = search (reckoned-64, needs)
+returns-3 c = search reckoned-64
 
 pub reckoned-64-spec : {M : Type 1} → statement M
 reckoned-64-spec = tie.close (tie.spec double-of-requires double-of-requires-2 enum-told enum-known-top enum-told-2 enum-known-below operated-64-requires result-64-requires returns returns-2 returns-3)

@@ -32,7 +32,7 @@ returns-2 : tie.Need-returns-2
 returns-2 c = search (second-wrong-32, needs)
 
 returns-3 : tie.Need-returns-3
-returns-3 c = search (subtracted-32, needs)
+returns-3 c = search subtracted-32
 
 pub subtracted-32-spec : {M : Type 1} → statement M
 subtracted-32-spec = tie.close (tie.spec word-32-requires word-32-requires-2 enum-told enum-known-y enum-told-2 enum-known-x wrapping-sub-u32-requires returns returns-2 returns-3)

@@ -38,7 +38,7 @@ enum-known-other : tie.Need-enum-known-other
 enum-known-other c = search (eq-exits, needs)
 
 returns : tie.Need-returns
-returns c = search (eq-same, needs)
+returns c = search eq-same
 
 returns-2 : tie.Need-returns-2
 returns-2 c = search (eq-exits, needs)
@@ -59,7 +59,7 @@ returns-7 : tie.Need-returns-7
 returns-7 c = search (eq-exits, needs)
 
 returns-8 : tie.Need-returns-8
-returns-8 c = search (eq-other, needs)
+returns-8 c = search eq-other
 
 pub eq-move-spec : {M : Type 1} → statement M
 eq-move-spec =
