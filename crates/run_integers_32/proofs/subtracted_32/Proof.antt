@@ -1,6 +1,6 @@
 -- `run_integers_32::subtracted_32` meets its contract.
 use borrow.Author.Needs.{needs}
-use Rattle.run_integers_32.proofs.Exits.{exits-32, first-wrong-32, second-wrong-32, subtracted-32}
+use Rattle.run_integers_32.proofs.Exits.{first-wrong-32, second-wrong-32, subtracted-32}
 use Rattle.run_integers_32.proofs.subtracted_32.Statement.{statement}
 use Rattle.run_integers_32.proofs.subtracted_32.Tie as tie
 
