@@ -1,5 +1,5 @@
--- What every instruction has that is read from bytes: the bits of a constant are within the width of its kind, and a numeric
--- code is one of the list.
+-- What every instruction has that is read: the bits of a constant are within the width of its kind, those of a float where the
+-- input is bytes, and a numeric code is one of the list.
 use Prim.Native.Nat.{ℕ, _<_, _^_}
 use mathlib.Core.Path.{_≡_}
 use mathlib.Core.Option.{some}
@@ -24,8 +24,8 @@ pub data CodeListed (b : ℕ) : Type 0 where
   code-listed : {ks : List Number} {r : Number} → Listed b ks r → CodeListed b
 
 abbrev pub ProperOp : List ℕ → Op → Type 0
-ProperOp s (i32-const n) = AreBytes s → n < 2 ^ widthOf i32
-ProperOp s (i64-const n) = AreBytes s → n < 2 ^ widthOf i64
+ProperOp s (i32-const n) = n < 2 ^ widthOf i32
+ProperOp s (i64-const n) = n < 2 ^ widthOf i64
 ProperOp s (f32-const n) = AreBytes s → n < 2 ^ widthOf f32
 ProperOp s (f64-const n) = AreBytes s → n < 2 ^ widthOf f64
 ProperOp s (numeric b) = CodeListed b

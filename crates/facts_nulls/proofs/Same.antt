@@ -24,7 +24,8 @@ use Rattle.scope.proofs.Accepted.{accepted-passes}
 use Rattle.facts_bodies.proofs.Premises.{Ordered, passes-ordered}
 use Rattle.facts_refusals.specs.Numbers.{ByteFault, is-bytes-end, is-bad-number, is-not-listed, is-oversize, is-left-over, is-padded, RuleFault, is-out-of-reach, is-bad-supertype, is-long-chain, is-no-match, is-clause-not-on-struct, is-describes-not-earlier, is-clauses-disagree, is-bad-descriptor, is-bad-describes}
 use Rattle.facts_refusals.specs.Sections.{SaysNo, of-bytes, of-rules}
-use Rattle.facts_refusals.proofs.Reading.{Heeds, refuses, goes-on, unsigned-heeds, val-heeds, instr-heeds}
+use Rattle.facts_refusals.proofs.Reading.{Heeds, refuses, goes-on, unsigned-heeds, val-heeds}
+use Rattle.facts_refusals.proofs.ReadingBodies.{instr-heeds}
 use Rattle.facts_refusals.proofs.Sections.{says-no}
 use Rattle.facts_nulls.specs.Before.{takeBefore, doPlanBefore, judgeEndBefore, judgeInstrBefore, judgeFromBefore, bodyBefore, judgeBodyBefore, as20, readAs20, NothingElse}
 use Rattle.facts_nulls.proofs.Kept.{ruled20, test-kept, plan-kept}

@@ -65,12 +65,13 @@ capped a b = go (leb a b) refl
     go true e = let h = leb-true a b e in rw (min-eq-left h) h
     go false e = let h = leb-false a b e in rw (min-eq-right (le-of-lt h)) (le-refl b)
 
-record Proper (w : Width) : Type 0 where
+-- of a format: infinity, the canonical NaN and every magnitude lie below the sign
+record UnderSign (w : Width) : Type 0 where
   top : infinite w < signBit w
   nan : canonicalNan w < signBit w
   left : (b : ℕ) → magnitude w b < signBit w
 
-module _ (w : Width) (proper : Proper w) where
+module _ (w : Width) (lies : UnderSign w) where
   either : (t : Bool) {a b : ℕ} → a < 2 * signBit w → b < 2 * signBit w → cond t a b < 2 * signBit w
   either true a b = a
   either false a b = b
@@ -80,20 +81,20 @@ module _ (w : Width) (proper : Proper w) where
 
   round : (n d : ℕ) → rounded w n d < signBit w
   unfolding rounded
-  round n d = under _ (infinite w) (signBit w) (capped _ (infinite w)) (proper .top)
+  round n d = under _ (infinite w) (signBit w) (capped _ (infinite w)) (lies .top)
     where
       under : (a b c : ℕ) → a ≤ b → b < c → a < c
       under a b c h l = omega arith
 
   infinity : (s : Bool) → withSign w s (infinite w) < 2 * signBit w
-  infinity s = signed s (proper .top)
+  infinity s = signed s (lies .top)
 
   canonical : canonicalNan w < 2 * signBit w
-  canonical = below-two (signBit w) (canonicalNan w) (proper .nan)
+  canonical = below-two (signBit w) (canonicalNan w) (lies .nan)
 
   neg-fits : (b : ℕ) → floatNeg w b < 2 * signBit w
   unfolding floatNeg
-  neg-fits b = signed (not (negative w b)) (proper .left b)
+  neg-fits b = signed (not (negative w b)) (lies .left b)
 
   sum-fits : (s : Bool) (m : ℕ) (t : Bool) (n : ℕ) → sumOf w s m t n < 2 * signBit w
   sum-fits s m t n =
@@ -123,47 +124,47 @@ module _ (w : Width) (proper : Proper w) where
       let s = unlike (negative w a) (negative w b) in
       either (eitherNan w a b) canonical
       (either (isInfinite w a) (either (isInfinite w b) canonical (infinity s))
-      (either (isInfinite w b) (signed s (none-left-over (signBit w) (infinite w) (proper .top)))
+      (either (isInfinite w b) (signed s (none-left-over (signBit w) (infinite w) (lies .top)))
       (either (isZero w b) (either (isZero w a) canonical (infinity s)) (signed s (round _ (unitsOf w b))))))
     where
       none-left-over : (x y : ℕ) → y < x → 0 < x
       none-left-over x y h = omega arith
 
-single-proper : Proper single
-single-proper = record { top = omega arith; nan = omega arith; left = λ b. omega arith }
+single-lies : UnderSign single
+single-lies = record { top = omega arith; nan = omega arith; left = λ b. omega arith }
 
-double-proper : Proper double
-double-proper = record { top = omega arith; nan = omega arith; left = λ b. omega arith }
+double-lies : UnderSign double
+double-lies = record { top = omega arith; nan = omega arith; left = λ b. omega arith }
 
 neg-single : (a : ℕ) → floatNeg single a < 2 ^ 32
-neg-single = neg-fits single single-proper
+neg-single = neg-fits single single-lies
 
 add-single : (a b : ℕ) → floatAdd single a b < 2 ^ 32
-add-single = add-fits single single-proper
+add-single = add-fits single single-lies
 
 sub-single : (a b : ℕ) → floatSub single a b < 2 ^ 32
-sub-single = sub-fits single single-proper
+sub-single = sub-fits single single-lies
 
 mul-single : (a b : ℕ) → floatMul single a b < 2 ^ 32
-mul-single = mul-fits single single-proper
+mul-single = mul-fits single single-lies
 
 div-single : (a b : ℕ) → floatDiv single a b < 2 ^ 32
-div-single = div-fits single single-proper
+div-single = div-fits single single-lies
 
 neg-double : (a : ℕ) → floatNeg double a < 2 ^ 64
-neg-double = neg-fits double double-proper
+neg-double = neg-fits double double-lies
 
 add-double : (a b : ℕ) → floatAdd double a b < 2 ^ 64
-add-double = add-fits double double-proper
+add-double = add-fits double double-lies
 
 sub-double : (a b : ℕ) → floatSub double a b < 2 ^ 64
-sub-double = sub-fits double double-proper
+sub-double = sub-fits double double-lies
 
 mul-double : (a b : ℕ) → floatMul double a b < 2 ^ 64
-mul-double = mul-fits double double-proper
+mul-double = mul-fits double double-lies
 
 div-double : (a b : ℕ) → floatDiv double a b < 2 ^ 64
-div-double = div-fits double double-proper
+div-double = div-fits double double-lies
 
 -- line by line
 

@@ -1,3 +1,4 @@
 pub mod Computed
 pub mod Fitting
+pub mod StepWidths
 pub mod Widths

@@ -1,4 +1,5 @@
 pub mod Reading
+pub mod ReadingBodies
 pub mod Sections
 pub mod Judged
 pub mod Asked

@@ -26,7 +26,8 @@ use Rattle.facts_bodies.specs.Typing.{Entry, EntriesAt, no-entry, next-entry, I
 use Rattle.facts_refusals.specs.Numbers.{is-left-over, InstructionFault, type-out-of-reach, is-absent, is-bad-struct, is-field-fixed, is-bad-branch, is-no-default, is-not-set, is-only-null, is-bad-operand, is-values-left, is-too-many, entry-out-of-reach, entry-too-many}
 use Rattle.facts_refusals.specs.Instructions.{Question, codeListed, heapsReached, typeReached, labelThere, localThere, isStruct, hasField, noDescriptor, hasDescriptor, castDescribed, fieldMutable, supertypeShared, labelHasTypes, labelTakes, allDefaults, localSet, numberOf, ruleOf, asks, rising}
 use Rattle.facts_refusals.specs.Bodies.{conditions, FaultAt, in-bytes, in-instruction, EntryFault, count-bytes, type-bytes, type-unreached, too-many, FaultyEntry, this-entry, later-entry, LocalsStand, BodySaysNo, by-section, by-size, by-type, by-count, by-locals, by-instruction, by-rest, BodyPlace, of-section, of-whole-size, of-type-number, of-bytes, of-entry, of-instruction, BodyRefusals}
-use Rattle.facts_refusals.proofs.Reading.{Heeds, unsigned-heeds, val-heeds, instr-heeds}
+use Rattle.facts_refusals.proofs.Reading.{Heeds, unsigned-heeds, val-heeds}
+use Rattle.facts_refusals.proofs.ReadingBodies.{instr-heeds}
 use Rattle.facts_refusals.proofs.Sections.{heeded, says-no}
 use Rattle.facts_refusals.proofs.Faulty.{instruction-fault}
 use Rattle.facts_refusals.proofs.Bodies.{body-no, body-no-exactly}

@@ -6,7 +6,7 @@ use native.Mathlib.Omega.{arith}
 use mathlib.Core.Path.{_≡_, refl}
 use mathlib.Core.Bool.{Bool, true, false, cond, _&&_}
 use mathlib.Core.Option.{Option, none, some}
-use mathlib.Core.List.{List, [], _∷_}
+use mathlib.Core.List.{List}
 use lib.ListN.{length, getElem?}
 use lib.Dec.{ltb, eqb}
 use Rattle.scope.specs.Sizes.{mostBytes, mostEach, mostTypes}
@@ -14,10 +14,8 @@ use Rattle.scope.specs.Refusals.{bytesEnd}
 use Rattle.scope.specs.Reading.{Read, got, refused, Reader, given, then, onByte, entries}
 use Rattle.scope.specs.Numbers.{Bits, inRange, Whole, plus, minus, unsigned, signed, littleEndian, floatBytes, u32}
 use Rattle.scope.specs.Abstract.{abstractOf}
-use Rattle.scope.specs.Syntax.{Val, ref}
+use Rattle.scope.specs.Syntax.{ref}
 use Rattle.scope.specs.Sections.{typeNumber, heapAt, numberOf, valAt, flagAt, fieldAt, fewAt, supersAt, headAt, Head, clauseAt, describesCode, descriptorCode, formAt, definitionAt, groupAt, groupsAt, ended, readSection}
-use Rattle.scope.specs.Numeric.{numericOf}
-use Rattle.scope.specs.Instructions.{Op, numeric, Instr, bare, having, havingTwo, blockTypeAt, castAt, opening, closing, firstBytes, afterFB, find, instrAt}
 use Rattle.scope.proofs.Forward.{byte-inside, float-inside, BitsEnd, cuts, longs, stand, bits-end}
 use Rattle.facts_refusals.specs.Numbers.{ByteFault, is-bytes-end, is-bad-number, is-not-listed, is-oversize, is-left-over, is-padded}
 
@@ -68,7 +66,7 @@ unfolding signed
 signed-heeds width = record { heeds = λ s at h. range-heeds width at _ _ h (bits-end _ s at) }
 
 -- a float's bytes are one item
-float-heeds : (n : ℕ) → Heedful (floatBytes (suc n))
+pub float-heeds : (n : ℕ) → Heedful (floatBytes (suc n))
 unfolding floatBytes
 float-heeds n = record { heeds = λ s at h. go s at h (littleEndian (suc n) s at) refl }
   where
@@ -221,120 +219,3 @@ section-heeds s =
     heeds-cond (ltb mostBytes (length s)) (refuses is-oversize (omega arith))
     (heeds-then (unsigned-heeds 32 .heeds s 0 (omega arith)) (λ n next a.
     heeds-then (groups-heed n 0 s next a) (λ gs end b. ended-heeds s gs end b)))
-
--- the readers of an instruction
-
-block-type-heeds : Heedful blockTypeAt
-unfolding blockTypeAt
-block-type-heeds =
-    record {
-      heeds = λ s at h.
-          heeds-byte s at _ h (λ b inside.
-          heeds-cond (eqb b 0x40) (goes-on (omega arith)) (heeds-then (val-heeds .heeds s at h) (λ v next a. goes-on a)));
-    }
-
-cast-heeds : Heedful castAt
-unfolding castAt
-cast-heeds =
-    record {
-      heeds = λ s at h.
-          heeds-byte s at _ h (λ flags inside.
-          heeds-cond (ltb flags 4)
-          (heeds-then (unsigned-heeds 32 .heeds s (at + 1) (omega arith)) (λ l next a.
-          heeds-then (heap-heeds .heeds s next a) (λ k after b.
-          heeds-then (heap-heeds .heeds s after b) (λ m stop c. goes-on c))))
-          (refuses is-not-listed h));
-    }
-
--- every row of a table heeds
-
-bare-heeds : (o : Op) → Heedful (bare o)
-bare-heeds o = record { heeds = λ s at h. goes-on h }
-
-closing-heeds : Heedful closing
-closing-heeds = record { heeds = λ s at h. goes-on h }
-
-opening-heeds : (make : List Val → Instr) → Heedful (opening make)
-opening-heeds make = record { heeds = λ s at h. heeds-then (block-type-heeds .heeds s at h) (λ rs next a. goes-on a) }
-
-having-heeds : {A : Type 0} {one : Reader A} → Heedful one → (make : A → Op) → Heedful (having one make)
-having-heeds t make = record { heeds = λ s at h. heeds-then (t .heeds s at h) (λ x next a. goes-on a) }
-
-having-two-heeds : (make : ℕ → ℕ → Op) → Heedful (havingTwo make)
-having-two-heeds make =
-    record {
-      heeds = λ s at h.
-          heeds-then (unsigned-heeds 32 .heeds s at h) (λ x next a.
-          heeds-then (unsigned-heeds 32 .heeds s next a) (λ y end b. goes-on b));
-    }
-
-data Rows : List (ℕ × Reader Instr) → Type 0 where
-  none-left : Rows []
-  row-and : {code : ℕ} {r : Reader Instr} {more : List (ℕ × Reader Instr)} → Heedful r → Rows more → Rows ((code, r) ∷ more)
-
-numbers : Heedful u32
-numbers = unsigned-heeds 32
-
-first-rows : Rows firstBytes
-first-rows =
-    row-and (bare-heeds _)
-    (row-and (bare-heeds _)
-    (row-and (opening-heeds _)
-    (row-and (opening-heeds _)
-    (row-and closing-heeds
-    (row-and (having-heeds numbers _)
-    (row-and (having-heeds numbers _)
-    (row-and (bare-heeds _)
-    (row-and (bare-heeds _)
-    (row-and (having-heeds numbers _)
-    (row-and (having-heeds numbers _)
-    (row-and (having-heeds numbers _)
-    (row-and (having-heeds (signed-heeds 32) _)
-    (row-and (having-heeds (signed-heeds 64) _)
-    (row-and (having-heeds (float-heeds 3) _)
-    (row-and (having-heeds (float-heeds 7) _)
-    (row-and (having-heeds heap-heeds _)
-    (row-and (bare-heeds _)
-    (row-and (bare-heeds _)
-    (row-and (bare-heeds _)
-    none-left)))))))))))))))))))
-
-later-rows : Rows afterFB
-later-rows =
-    row-and (having-heeds numbers _)
-    (row-and (having-heeds numbers _)
-    (row-and (having-two-heeds _)
-    (row-and (having-two-heeds _)
-    (row-and (having-heeds heap-heeds _)
-    (row-and (having-heeds heap-heeds _)
-    (row-and (having-heeds heap-heeds _)
-    (row-and (having-heeds heap-heeds _)
-    (row-and (having-heeds cast-heeds _)
-    (row-and (having-heeds cast-heeds _)
-    (row-and (having-heeds numbers _)
-    (row-and (having-heeds numbers _)
-    (row-and (having-heeds numbers _)
-    (row-and (having-heeds heap-heeds _)
-    (row-and (having-heeds heap-heeds _)
-    (row-and (having-heeds cast-heeds _)
-    (row-and (having-heeds cast-heeds _)
-    none-left))))))))))))))))
-
-found-heeds : (b : ℕ) {rows : List (ℕ × Reader Instr)} → Rows rows → {other : Read Instr} (s : List ℕ) (at : ℕ) → at ≤ length s → Heeds (length s) other → Heeds (length s) (given (find b rows) other (λ r. r s at))
-found-heeds b none-left s at h o = o
-found-heeds b (row-and {code} {r} {more} k rest) {other} s at h o = go (eqb b code) (found-heeds b rest s at h o)
-  where
-    go : (t : Bool) → Heeds (length s) (given (find b more) other (λ q. q s at)) → Heeds (length s) (given (cond t (some r) (find b more)) other (λ q. q s at))
-    go true later = k .heeds s at h
-    go false later = later
-
-pub instr-heeds : Heedful instrAt
-unfolding instrAt
-instr-heeds =
-    record {
-      heeds = λ s at h.
-          heeds-byte s at _ h (λ b inside.
-          heeds-cond (eqb b 0xFB)
-          (heeds-then (numbers .heeds s (at + 1) (omega arith)) (λ n next a. found-heeds n later-rows s next a (refuses is-not-listed (omega arith))))
-          (found-heeds b first-rows s (at + 1) (omega arith) (heeds-given (numericOf b) (refuses is-not-listed h) (λ kinds. bare-heeds (numeric b) .heeds s (at + 1) (omega arith)))));
-    }
