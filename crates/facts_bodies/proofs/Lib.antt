@@ -11,4 +11,3 @@ pub mod Bytes
 pub mod Verdict
 pub mod Main
 pub mod Examples
-pub mod Witnesses

@@ -2,4 +2,3 @@ pub mod Premises
 pub mod Apart
 pub mod Rules
 pub mod Typing
-pub mod Samples

@@ -14,12 +14,12 @@ use Rattle.scope.specs.BodyRules.{oneHierarchy}
 use Rattle.scope.specs.Bodies.{Body, instructions, judgeBody}
 use Rattle.scope.proofs.Computes.{computes}
 use Rattle.scope.proofs.Impossible.{contradiction}
 use Rattle.facts_bodies.specs.Premises.{abstract-reached, defined-reached}
 use Rattle.facts_bodies.specs.Apart.{ShareSupertype, OneHierarchy}
 use Rattle.facts_bodies.specs.Typing.{AllowedBody}
-use Rattle.facts_bodies.specs.Samples.{W, everyKind, everyNumber, otherNumber, mixedNumbers, testGivesNoOther, forgotten, remembered, unwantedDescriptor, missingDescriptor, fixedField, targetAbove, targetBeside, otherHierarchy, labelWithoutTypes, valuesLeft, noDefault, numberAsReference, unknownAsNumber, blockStartsEmpty, labelAbsent}
+use Rattle.facts_witnesses.specs.Samples.{W, everyKind, everyNumber, otherNumber, mixedNumbers, testGivesNoOther, forgotten, remembered, unwantedDescriptor, missingDescriptor, fixedField, targetAbove, targetBeside, otherHierarchy, labelWithoutTypes, valuesLeft, noDefault, numberAsReference, unknownAsNumber, blockStartsEmpty, labelAbsent}
 use Rattle.facts_bodies.proofs.Hierarchies.{tested-shares, matching-shares, shared-exactly-in-one-hierarchy, one-hierarchy-exactly-tested}
 use Rattle.facts_bodies.proofs.Main.{accepted-exactly-when-allowed}
 
 abbrev definitionsOf : Judged (List Definition) → List Definition
 definitionsOf (accepted ds) = ds
