@@ -1,6 +1,6 @@
 -- Which fault of a section's rules is the first, in document 01's order: "type by type, 6, 7 and the chain; then, type by
 -- type again, 8 to 13 in rising number." The rules are the relations, each with the number that is said where it is
--- broken. Rule 2 is asked by each type's own form (specs/OwnForms.antt): the order of rule 6 says the same only of a table
+-- broken. Rule 2 is asked by each type's own form (OwnForms.antt of facts_types): the order of rule 6 says the same only of a table
 -- whose forms are equal along supertypes, and a fault may be said before that is known.
 use Prim.Native.Nat.{ℕ, _<_}
 use mathlib.Core.Path.{_≡_}

@@ -1,4 +1,4 @@
--- Why specs/FirstFault.antt asks rule 2 by each type's own form. In this section type 3, a function, stands below type 0, a
+-- Why FirstFault.antt of facts_sections asks rule 2 by each type's own form. In this section type 3, a function, stands below type 0, a
 -- struct, and type 2 has a field of type 3 where its supertype has one of struct. By the order's relation type 3 is below
 -- struct, by way of type 0; so type 2 keeps rule 2 and only type 3 breaks it. By its own form type 3 is not: 8 of type 2.
 use Prim.Native.Nat.{ℕ}
