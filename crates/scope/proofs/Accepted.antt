@@ -1,13 +1,14 @@
 -- What an accepted section keeps: a scan that ends without a fault met none at any number, and a fault that is none is a
 -- list of rules that are all kept. `blank` keeps every rule too, so each rule holds at every number, with no bound to carry.
 -- `Passes` is what the order of heap types needs of that.
+use Rattle.scope.specs.declared.Place.{Place}
 use Prim.Native.Nat.{ℕ, zero, suc, _+_, _<_, _≤_}
 use native.Mathlib.Omega.{arith}
 use mathlib.Core.Path.{_≡_, refl, sym, subst}
 use mathlib.Core.Logic.{_⊎_, inl, inr}
 use mathlib.Core.Bool.{Bool, true, false, cond, false≢true}
 use mathlib.Core.Option.{Option, none, some}
-use mathlib.Core.List.{List, [], _∷_}
+use mathlib.Core.List.{List, [], _∷_, _++_}
 use lib.ListN.{length, List·getD-eq-default}
 use lib.Dec.{ltb}
 use borrow.Author.Tests.{ltb-true, ltb-false}
@@ -17,14 +18,14 @@ use Rattle.scope.specs.Lists.{joined}
 use Rattle.scope.specs.Syntax.{Form, struct, func, Definition, Group, Types, blank, typesOf, firstOf, superOf}
 use Rattle.scope.specs.Order.{kindOf}
 use Rattle.scope.specs.TypeRules.{names, inReach, oneSuper, superEarlierAndOpen, shortChain, formMatches, matchesSuper, clausesOnStruct, describesEarlier, clausesAgree, descriptorFollows, describesFollows}
-use Rattle.scope.specs.Judging.{Judged, accepted, rejected, andThen, linksFault, ruleFault, scan, judgeTypes, judgeRead, judgeSection}
-use Rattle.scope.specs.Sections.{readSection}
+use Rattle.scope.specs.Judging.{Judged, accepted, rejected, andThen, linksFault, ruleFault, scan, judgeTypes, judgeRead, judgeLibrary, Joined, judgeMore, judgeJoined, judgeSections, inLibrary, plain}
+use Rattle.scope.specs.Sections.{readAfter}
 use Rattle.scope.proofs.Truths.{none-is-not-some, decided, from-both}
 use Rattle.scope.proofs.Impossible.{contradiction}
 
 -- A rejection is no acceptance
 
-rejected-is-not-accepted : {A : Type 0} {n p : ℕ} {x : A} → rejected n p ≡ accepted x → ⊥
+rejected-is-not-accepted : {A : Type 0} {n : ℕ} {p : Place} {x : A} → rejected n p ≡ accepted x → ⊥
 rejected-is-not-accepted e = contradiction cc
 
 -- The scan
@@ -35,7 +36,7 @@ scan-met-none fault x zero e y from to = absurd (omega arith)
 scan-met-none fault x (suc n) {m} e y from to = go (fault x) refl e (decided (ltb x y)) (λ f. scan-met-none fault (x + 1) n f y)
   where
     go : (o : Option ℕ) → fault x ≡ o
-        → given o (scan fault (x + 1) n) (λ number. rejected number x) ≡ accepted m
+        → given o (scan fault (x + 1) n) (λ number. rejected number (plain x)) ≡ accepted m
         → (ltb x y ≡ true) ⊎ (ltb x y ≡ false)
         → (scan fault (x + 1) n ≡ accepted m → x + 1 ≤ y → y < x + 1 + n → fault y ≡ none)
         → fault y ≡ none
@@ -118,19 +119,91 @@ module _ (ds : List Definition) {n : ℕ} (e : judgeTypes (typesOf ds) (length d
   pub judged-kept : Kept (typesOf ds)
   judged-kept = record { links = λ x. links-kept (typesOf ds) x (no-fault x .0); rules = λ x. rules-kept (typesOf ds) x (no-fault x .1) }
 
-pub accepted-judged : (s : List ℕ) {ds : List Definition} → judgeSection s ≡ accepted ds → (n : ℕ) × (judgeTypes (typesOf ds) (length ds) ≡ accepted n)
-unfolding judgeSection
-accepted-judged s {ds} e = go (readSection s) e
-  where
-    go : (r : Read (List Group)) → judgeRead r ≡ accepted ds → (n : ℕ) × (judgeTypes (typesOf ds) (length ds) ≡ accepted n)
-    go (refused n p) f = absurd (rejected-is-not-accepted f)
-    go (got gs end) f =
-        let (n, judged, same) = then-accepted (judgeTypes (typesOf (joined gs)) (length (joined gs))) (λ all. accepted (joined gs)) f in
-        let q : joined gs ≡ ds = cc in
-        (n, subst (λ (es : List Definition). judgeTypes (typesOf es) (length es) ≡ accepted n) q judged)
+-- the rules were asked of the joined list
+pub more-judged : (ls : List Definition) (r : Read (List Group)) {j : Joined} → judgeMore ls r ≡ accepted j
+    → (n : ℕ) × (judgeTypes (typesOf (j .types)) (length (j .types)) ≡ accepted n)
+more-judged ls (refused n p) f = absurd (rejected-is-not-accepted f)
+more-judged ls (got gs end) {j} f =
+    let ds : List Definition = ls ++ joined gs in
+    let (n, judged, same) = then-accepted (judgeTypes (typesOf ds) (length ds)) (λ all. accepted (record { before = length ls; types = ds })) f in
+    let q : record { before = length ls; types = ds } ≡ j = cc in
+    (n, subst (λ (k : Joined). judgeTypes (typesOf (k .types)) (length (k .types)) ≡ accepted n) q judged)
 
-pub accepted-kept : (s : List ℕ) {ds : List Definition} → judgeSection s ≡ accepted ds → Kept (typesOf ds)
-accepted-kept s {ds} e = judged-kept ds (accepted-judged s e .1)
+pub joined-judged : (library addon : List ℕ) {j : Joined} → judgeJoined library addon ≡ accepted j → (n : ℕ) × (judgeTypes (typesOf (j .types)) (length (j .types)) ≡ accepted n)
+unfolding judgeJoined
+joined-judged library addon e =
+    let (ls, judged, more) = then-accepted (judgeLibrary library) (λ ls. judgeMore ls (readAfter (length ls) addon)) e in
+    more-judged ls (readAfter (length ls) addon) more
+
+pub accepted-kept : (library addon : List ℕ) {j : Joined} → judgeJoined library addon ≡ accepted j → Kept (typesOf (j .types))
+accepted-kept library addon {j} e = judged-kept (j .types) (joined-judged library addon e .1)
+
+-- of the types alone
+
+pub sections-joined : (library addon : List ℕ) {ds : List Definition} → judgeSections library addon ≡ accepted ds → (j : Joined) × (judgeJoined library addon ≡ accepted j) × (j .types ≡ ds)
+unfolding judgeSections
+sections-joined library addon {ds} e =
+    let (j, judged, same) = then-accepted (judgeJoined library addon) (λ j. accepted (j .types)) e in
+    let q : j .types ≡ ds = cc in
+    (j, judged, q)
+
+pub joined-sections : (library addon : List ℕ) {j : Joined} → judgeJoined library addon ≡ accepted j → judgeSections library addon ≡ accepted (j .types)
+unfolding judgeSections
+joined-sections library addon e = rw e
+
+pub sections-kept : (library addon : List ℕ) {ds : List Definition} → judgeSections library addon ≡ accepted ds → Kept (typesOf ds)
+sections-kept library addon {ds} e = go (sections-joined library addon e)
+  where
+    go : (j : Joined) × (judgeJoined library addon ≡ accepted j) × (j .types ≡ ds) → Kept (typesOf ds)
+    go (j, judged, same) = rw (← same) (accepted-kept library addon judged)
+
+-- An acceptance, taken apart: what was read of each section, and the verdict on the joined list
+
+pub record JoinedParts (library section : List ℕ) (j : Joined) : Type 0 where
+  pub gs : List Group
+  pub more : List Group
+  pub end : ℕ
+  pub stop : ℕ
+  pub many : ℕ
+  pub read : readAfter 0 library ≡ got gs end
+  pub readOwn : readAfter (length (joined gs)) section ≡ got more stop
+  pub kept : judgeTypes (typesOf (joined gs ++ joined more)) (length (joined gs ++ joined more)) ≡ accepted many
+  pub is : j ≡ record { before = length (joined gs); types = joined gs ++ joined more }
+
+pub joined-parts : (library section : List ℕ) {j : Joined} → judgeJoined library section ≡ accepted j → JoinedParts library section j
+unfolding judgeJoined judgeLibrary
+joined-parts library section {j} e = first (readAfter 0 library) refl e
+  where
+    second : (gs : List Group) (end : ℕ) → readAfter 0 library ≡ got gs end → (o : Read (List Group)) → readAfter (length (joined gs)) section ≡ o → judgeMore (joined gs) o ≡ accepted j → JoinedParts library section j
+    second gs end r (refused n p) s g = absurd (rejected-is-not-accepted g)
+    second gs end r (got more stop) s g =
+        let ds : List Definition = joined gs ++ joined more in
+        let (m, judged, same) = then-accepted (judgeTypes (typesOf ds) (length ds)) (λ all. accepted (record { before = length (joined gs); types = ds })) g in
+        let is : j ≡ record { before = length (joined gs); types = ds } = cc in
+        record { gs = gs; more = more; end = end; stop = stop; many = m; read = r; readOwn = s; kept = judged; is = is }
+
+    ruled : (gs : List Group) (end : ℕ) → readAfter 0 library ≡ got gs end → (o : Judged ℕ)
+        → andThen (andThen o (λ all. accepted (joined gs))) (λ ls. judgeMore ls (readAfter (length ls) section)) ≡ accepted j → JoinedParts library section j
+    ruled gs end r (rejected n p) g = absurd (rejected-is-not-accepted g)
+    ruled gs end r (accepted m) g = second gs end r (readAfter (length (joined gs)) section) refl g
+
+    first : (o : Read (List Group)) → readAfter 0 library ≡ o → andThen (judgeRead inLibrary o) (λ ls. judgeMore ls (readAfter (length ls) section)) ≡ accepted j → JoinedParts library section j
+    first (refused n p) r g = absurd (rejected-is-not-accepted g)
+    first (got gs end) r g = ruled gs end r (judgeTypes (typesOf (joined gs)) (length (joined gs))) g
+
+-- the verdict by what was read of the library
+
+pub joined-first : (library addon : List ℕ) {n p : ℕ} → readAfter 0 library ≡ refused n p → judgeJoined library addon ≡ rejected n (inLibrary p)
+unfolding judgeJoined judgeLibrary
+joined-first library addon e = rw e
+
+pub joined-rules : (library addon : List ℕ) (gs : List Group) {end n : ℕ} {p : Place} → readAfter 0 library ≡ got gs end → judgeTypes (typesOf (joined gs)) (length (joined gs)) ≡ rejected n p → judgeJoined library addon ≡ rejected n p
+unfolding judgeJoined judgeLibrary
+joined-rules library addon gs e f = rw (e, f)
+
+pub joined-more : (library addon : List ℕ) (gs : List Group) {end m : ℕ} → readAfter 0 library ≡ got gs end → judgeTypes (typesOf (joined gs)) (length (joined gs)) ≡ accepted m → judgeJoined library addon ≡ judgeMore (joined gs) (readAfter (length (joined gs)) addon)
+unfolding judgeJoined judgeLibrary
+joined-more library addon gs e f = rw (e, f)
 
 -- What the order needs
 
@@ -170,5 +243,5 @@ kept-passes ds kept =
       sameKind = λ x {p} e. matching-kinds (typesOf ds) (typesOf ds x .form) (typesOf ds p .form) (super-matches (typesOf ds) x (kept .rules x .matches) e);
     }
 
-pub accepted-passes : (s : List ℕ) {ds : List Definition} → judgeSection s ≡ accepted ds → Passes ds
-accepted-passes s {ds} e = kept-passes ds (accepted-kept s e)
+pub accepted-passes : (library addon : List ℕ) {j : Joined} → judgeJoined library addon ≡ accepted j → Passes (j .types)
+accepted-passes library addon {j} e = kept-passes (j .types) (accepted-kept library addon e)

@@ -6,30 +6,31 @@ use mathlib.Core.Path.{_≡_, refl}
 use mathlib.Core.Bool.{true, false}
 use mathlib.Core.Option.{none, some}
 use mathlib.Core.List.{List, [], _∷_}
+use Rattle.scope.specs.Sections.{emptyLibrary}
 use Rattle.scope.specs.Refusals.{noMatch}
 use Rattle.scope.specs.Abstract.{STRUCT}
 use Rattle.scope.specs.Syntax.{abstract, defined, struct, func, Definition, typesOf, superOf}
 use Rattle.scope.specs.Order.{HeapOrder, supertype, kind, transitive, heapBelow}
-use Rattle.scope.specs.Judging.{Judged, accepted, rejected, linksFault, judgeTypes, judgeSection}
+use Rattle.scope.specs.Judging.{Judged, accepted, rejected, linksFault, judgeTypes, Joined, judgeJoined, plain}
 use Rattle.scope.proofs.Computes.{computes}
 use Rattle.scope.proofs.Accepted.{Passes, accepted-passes}
 
-abbrev definitionsOf : Judged (List Definition) → List Definition
-definitionsOf (accepted ds) = ds
-definitionsOf (rejected n p) = []
+abbrev joinedOf : Judged Joined → Joined
+joinedOf (accepted j) = j
+joinedOf (rejected n p) = record { before = 0; types = [] }
 
 -- document 01's example of 3 types: type 1 is below type 0, and type 2 is its descriptor
 abbrev threeTypes : List ℕ
 threeTypes = 0x02 ∷ 0x50 ∷ 0x00 ∷ 0x5F ∷ 0x00 ∷ 0x4E ∷ 0x02 ∷ 0x4F ∷ 0x01 ∷ 0x00 ∷ 0x4D ∷ 0x02 ∷ 0x5F ∷ 0x00 ∷ 0x4C ∷ 0x01 ∷ 0x5F ∷ 0x00 ∷ []
 
-pub three-accepted : judgeSection threeTypes ≡ accepted (definitionsOf (judgeSection threeTypes))
+pub three-accepted : judgeJoined emptyLibrary threeTypes ≡ accepted (joinedOf (judgeJoined emptyLibrary threeTypes))
 unfolding computes
 three-accepted = refl
 
-pub three-pass : Passes (definitionsOf (judgeSection threeTypes))
-three-pass = accepted-passes threeTypes three-accepted
+pub three-pass : Passes (joinedOf (judgeJoined emptyLibrary threeTypes) .types)
+three-pass = accepted-passes emptyLibrary threeTypes three-accepted
 
-pub one-below-zero : superOf (typesOf (definitionsOf (judgeSection threeTypes)) 1) ≡ some 0
+pub one-below-zero : superOf (typesOf (joinedOf (judgeJoined emptyLibrary threeTypes) .types) 1) ≡ some 0
 unfolding computes
 one-below-zero = refl
 
@@ -51,6 +52,6 @@ pub test-says-no : heapBelow (typesOf unequalForms) (defined 1) (abstract STRUCT
 unfolding computes
 test-says-no = refl
 
-pub refused-by-rule-2 : judgeTypes (typesOf unequalForms) 2 ≡ rejected noMatch 1
+pub refused-by-rule-2 : judgeTypes (typesOf unequalForms) 2 ≡ rejected noMatch (plain 1)
 unfolding computes
 refused-by-rule-2 = refl

@@ -8,9 +8,10 @@ use mathlib.Core.Bool.{Bool, true}
 use mathlib.Core.List.{List, [], _∷_, _++_, map}
 use lib.ListN.{replicate}
 use lib.Dec.{eqb}
+use Rattle.scope.specs.Sections.{emptyLibrary}
 use Rattle.scope.specs.Sizes.{mostEach}
 use Rattle.scope.specs.Lists.{every, pairwise, joined}
-use Rattle.scope.specs.Judging.{Judged, accepted, rejected}
+use Rattle.scope.specs.Judging.{Judged, accepted, rejected, placeNumber}
 use Rattle.scope.specs.Machine.{Machine}
 use Rattle.scope.specs.Running.{Ending, done, trapped, spent, wrong, Trial, trialRun}
 use Rattle.scope.specs.Memory.{valueWords}
@@ -28,7 +29,7 @@ endingWords (wrong steps m) = 4 ∷ steps ∷ []
 
 abbrev trialWords : Judged Trial → List ℕ
 trialWords (accepted t) = endingWords (t .ending)
-trialWords (rejected n p) = 0 ∷ n ∷ p ∷ []
+trialWords (rejected n p) = 0 ∷ n ∷ placeNumber p ∷ []
 
 -- done after so many steps with one i32; a trap in that step
 abbrev done-after : ℕ → ℕ → List ℕ
@@ -278,7 +279,7 @@ withNumbers =
 
 -- the body, of type 6, is accepted, and its run ends so
 abbrev agrees : Sample → Bool
-agrees p = pairwise eqb (trialWords (trialRun types (p .body) 6 (p .budget))) (p .ends)
+agrees p = pairwise eqb (trialWords (trialRun emptyLibrary types (p .body) 6 (p .budget))) (p .ends)
 
 pub programs-run : every agrees (throughCasts ++ toTraps ++ throughBranches ++ acrossTypes ++ withNumbers) ≡ true
 unfolding computes

@@ -13,10 +13,10 @@ use Rattle.scope.specs.Refusals.{badOperand, noMatch, clauseNotOnStruct,
 use Rattle.scope.specs.Reading.{Read, got, refused, given}
 use Rattle.scope.specs.Lists.{joined}
 use Rattle.scope.specs.Syntax.{Heap, abstract, defined, exact, i32, Val, num, ref, nullable, nonNull, Definition, Types, typesOf}
-use Rattle.scope.specs.Sections.{readSection}
+use Rattle.scope.specs.Sections.{readAfter, emptyLibrary}
 use Rattle.scope.specs.Order.{climbs}
 use Rattle.scope.specs.TypeRules.{matchesSuper, clausesOnStruct, describesEarlier, clausesAgree, descriptorFollows}
-use Rattle.scope.specs.Judging.{accepted, rejected, firstBroken, linksFault, scan, judgeSection}
+use Rattle.scope.specs.Judging.{accepted, rejected, firstBroken, linksFault, scan, judgeJoined, plain}
 use Rattle.scope.specs.Instructions.{Op, block, loop, end, op, instrAt}
 use Rattle.scope.specs.BodyRules.{Context, Scope, Wanted, value, anyValue, anyReference, values, Plan, Ruled, allowed, fault, test, andRuled, takes, fromTop, reached, structOf, described, defaulted, planOf}
 use Rattle.scope.specs.Bodies.{Operand, known, unknown, unknownReference, fits, Taken, alsoTaken, State, scopeOf, afterPlan, Code, Body, startState, contextOf, judgeBody}
@@ -64,7 +64,7 @@ codeFrom zero s at = []
 codeFrom (suc n) s at = onRead (instrAt s at) [] (λ i next. (at, i) ∷ codeFrom n s next)
 
 pub typesIn : List ℕ → List Definition
-typesIn s = onRead (readSection s) [] (λ gs stop. joined gs)
+typesIn s = onRead (readAfter 0 s) [] (λ gs stop. joined gs)
 
 -- the body with these locals and this code, of type () → i32
 bodyOf : List ℕ → List Val → Code → Body
@@ -114,7 +114,7 @@ longDescriptorBody = bodyOf shortAndLong (nullable (exact 3) ∷ []) (codeFrom 1
 pub ruled : PlanAt
 ruled at c here o = planOf c here o
 
-pub long-descriptor-refused : judgeBody shortAndLong longDescriptor 4 ≡ rejected badOperand 10
+pub long-descriptor-refused : judgeBody emptyLibrary shortAndLong longDescriptor 4 ≡ rejected badOperand (plain 10)
 unfolding computes shortAndLong longDescriptor
 long-descriptor-refused = refl
 
@@ -181,7 +181,7 @@ strangeCast =
 pub strangeBody : Body
 strangeBody = bodyOf stranger (nullable (exact 3) ∷ []) (codeFrom 100 strangeCast 5)
 
-pub stranger-refused : judgeSection stranger ≡ rejected badDescribes 3
+pub stranger-refused : judgeJoined emptyLibrary stranger ≡ rejected badDescribes (plain 3)
 unfolding computes stranger
 stranger-refused = refl
 

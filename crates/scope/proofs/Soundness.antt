@@ -2,6 +2,7 @@
 -- Of every accepted section and body, and of every number of steps from the empty heap with zero or null parameters: the
 -- machine goes on, ends with results of the declared types or stops at a trap 41 to 46; every value has the type that the
 -- checker knows it by; every object is made as its type says; and an object's type and descriptor never change.
+use Rattle.scope.specs.declared.Place.{Place}
 use Prim.Native.Nat.{ℕ, _+_, _<_}
 use mathlib.Core.Path.{_≡_}
 use mathlib.Core.Bool.{Bool, true, false}
@@ -146,8 +147,8 @@ pub data Reaches (p : Program) (m : Machine) : ℕ → Machine → Type 0 where
   oneMore : {n : ℕ} {k later : Machine} → Reaches p m n k → step p k ≡ goes later → Reaches p m (n + 1) later
 
 -- an accepted body whose function has parameters with defaults
-pub record Runs (section s : List ℕ) (x : ℕ) (b : Body) : Type 0 where
-  pub isAccepted : judgeBody section s x ≡ accepted b
+pub record Runs (library section s : List ℕ) (x : ℕ) (b : Body) : Type 0 where
+  pub isAccepted : judgeBody library section s x ≡ accepted b
   pub defaults : every hasDefault (b .function .parameters) ≡ true
 
 -- how a run of so many steps ends: its machine is the one after exactly its steps, and it is never `wrong`
@@ -172,9 +173,9 @@ pub record RanSoundly (s : List ℕ) (b : Body) (budget : ℕ) (lent later : Run
   pub operands : later .state .operands ≡ filled (lent .state .operands) (stateWords s (machineOf ending) .operands)
   pub blocks : later .state .blocks ≡ filled (lent .state .blocks) (stateWords s (machineOf ending) .blocks)
 
-pub data Answered (section s : List ℕ) (x budget : ℕ) (lent later : RunMemory) : Ran → Type 0 where
-  saidNo : {n p : ℕ} → Answered section s x budget lent later (Ran.the-variants.Refused n p)
-  ran : {b : Body} {r : Ran} → Runs section s x b → RanSoundly s b budget lent later r → Answered section s x budget lent later r
+pub data Answered (library section s : List ℕ) (x budget : ℕ) (lent later : RunMemory) : Ran → Type 0 where
+  saidNo : {n : ℕ} {p : Place} → Answered library section s x budget lent later (Ran.the-variants.Refused n p)
+  ran : {b : Body} {r : Ran} → Runs library section s x b → RanSoundly s b budget lent later r → Answered library section s x budget lent later r
 
 -- the place i lies inside the object that is there
 pub record FieldInside (heap : Store) (o i : ℕ) : Type 0 where
@@ -186,39 +187,39 @@ pub record FieldInside (heap : Store) (o i : ℕ) : Type 0 where
 
 pub record Soundness : Type 0 where
   -- after every number of steps each operand, local and field has its type, and each object is made as its type declares
-  pub typed : {section s : List ℕ} {x : ℕ} {b : Body} {n : ℕ} {m : Machine} → Runs section s x b → Reaches (programOf b) (startOf b) n m → TypedHere b m
+  pub typed : {library section s : List ℕ} {x : ℕ} {b : Body} {n : ℕ} {m : Machine} → Runs library section s x b → Reaches (programOf b) (startOf b) n m → TypedHere b m
   -- and the state of the checker that this is said against is the only one at that place
   pub oneState : {b : Body} {st now : State} {code : Code} → Stands b st code → Stands b now code → st ≡ now
   -- no step finds a value missing or of the wrong kind
   pub next :
-      {section s : List ℕ} {x : ℕ} {b : Body} {n : ℕ} {m : Machine} → Runs section s x b → Reaches (programOf b) (startOf b) n m
+      {library section s : List ℕ} {x : ℕ} {b : Body} {n : ℕ} {m : Machine} → Runs library section s x b → Reaches (programOf b) (startOf b) n m
       → Proceeds b (m .heap) (step (programOf b) m)
   -- a reference of an exact type is null where that type allows it or names an object made as that very type
   pub exactly : {ts : Types} {heap : Store} {o x : ℕ} {n : Bool} {it : Object} → Has ts heap (object o) (ref n (exact x)) → objectOf heap o ≡ some it → it .type ≡ x
   pub nullable : {ts : Types} {heap : Store} {n : Bool} {h : Heap} → Has ts heap null (ref n h) → n ≡ true
   -- an object's type and descriptor never change from the step that makes it on
   pub lasting :
-      {section s : List ℕ} {x : ℕ} {b : Body} {n j : ℕ} {k m : Machine} → Runs section s x b → Reaches (programOf b) (startOf b) n k
+      {library section s : List ℕ} {x : ℕ} {b : Body} {n j : ℕ} {k m : Machine} → Runs library section s x b → Reaches (programOf b) (startOf b) n k
       → Reaches (programOf b) k j m → Grows (k .heap) (m .heap)
   -- the same of a run with a budget, of the trial run, and of the public run's answer and memory
-  pub ended : {section s : List ℕ} {x : ℕ} {b : Body} → Runs section s x b → (budget : ℕ) → EndsWell b budget (run (programOf b) budget 0 (startOf b))
+  pub ended : {library section s : List ℕ} {x : ℕ} {b : Body} → Runs library section s x b → (budget : ℕ) → EndsWell b budget (run (programOf b) budget 0 (startOf b))
   pub tried :
-      (section s : List ℕ) (x budget : ℕ) {t : Trial} → trialRun section s x budget ≡ accepted t
-      → Runs section s x (t .body) × EndsWell (t .body) budget (t .ending)
+      (library section s : List ℕ) (x budget : ℕ) {t : Trial} → trialRun library section s x budget ≡ accepted t
+      → Runs library section s x (t .body) × EndsWell (t .body) budget (t .ending)
   pub answered :
-      {section s : List ℕ} {x budget : ℕ} {lent later : RunMemory} {r : Ran} → RunTried section s x budget lent later r
-      → Answered section s x budget lent later r
+      {library section s : List ℕ} {x budget : ℕ} {lent later : RunMemory} {r : Ran} → RunTried library section s x budget lent later r
+      → Answered library section s x budget lent later r
   -- so a trap in the public answer is one of the six, and never the number that stands for a stuck machine
-  pub named : {section s : List ℕ} {x budget t p n : ℕ} {lent later : RunMemory} → RunTried section s x budget lent later (Ran.the-variants.Trapped t p n) → Trap t
+  pub named : {library section s : List ℕ} {x budget t p n : ℕ} {lent later : RunMemory} → RunTried library section s x budget lent later (Ran.the-variants.Trapped t p n) → Trap t
 
 -- The incident: a field that is read or written lies inside the object that is there, however the reference came to be:
 -- through a supertype, a cast, a descriptor cast or a branch.
 pub record NoFieldOutside : Type 0 where
   pub read :
-      {section s : List ℕ} {x : ℕ} {b : Body} {n : ℕ} {m : Machine} {at y i o : ℕ} {code : Code} {below : List Value}
-      → Runs section s x b → Reaches (programOf b) (startOf b) n m
+      {library section s : List ℕ} {x : ℕ} {b : Body} {n : ℕ} {m : Machine} {at y i o : ℕ} {code : Code} {below : List Value}
+      → Runs library section s x b → Reaches (programOf b) (startOf b) n m
       → m .code ≡ (at, op (struct-get y i)) ∷ code → m .operands ≡ object o ∷ below → FieldInside (m .heap) o i
   pub written :
-      {section s : List ℕ} {x : ℕ} {b : Body} {n : ℕ} {m : Machine} {at y i o : ℕ} {code : Code} {v : Value} {below : List Value}
-      → Runs section s x b → Reaches (programOf b) (startOf b) n m
+      {library section s : List ℕ} {x : ℕ} {b : Body} {n : ℕ} {m : Machine} {at y i o : ℕ} {code : Code} {v : Value} {below : List Value}
+      → Runs library section s x b → Reaches (programOf b) (startOf b) n m
       → m .code ≡ (at, op (struct-set y i)) ∷ code → m .operands ≡ v ∷ object o ∷ below → FieldInside (m .heap) o i

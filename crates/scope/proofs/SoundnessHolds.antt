@@ -16,7 +16,7 @@ use Rattle.scope.specs.Reading.{given}
 use Rattle.scope.specs.Refusals.{noDefault}
 use Rattle.scope.specs.Lists.{every}
 use Rattle.scope.specs.Syntax.{Heap, ref, Types}
-use Rattle.scope.specs.Judging.{Judged, accepted, rejected}
+use Rattle.scope.specs.Judging.{Judged, accepted, rejected, plain}
 use Rattle.scope.specs.Instructions.{Op, op, struct-get, struct-set}
 use Rattle.scope.specs.BodyRules.{hasDefault}
 use Rattle.scope.specs.Bodies.{Code, Body, judgeBody}
@@ -44,7 +44,7 @@ trap-named (isTrap t) = t
 not-stuck : {b : Body} {heap : Store} → Proceeds b heap stuck → ⊥
 not-stuck p = elim p [ ]
 
-module _ {section s : List ℕ} {x : ℕ} {b : Body} (runs : Runs section s x b) where
+module _ {library section s : List ℕ} {x : ℕ} {b : Body} (runs : Runs library section s x b) where
   typed-there : {n : ℕ} {m : Machine} → Reaches (programOf b) (startOf b) n m → TypedHere b m
   typed-there reaches = reached-typed (runs-known runs .kept) (runs-known runs .accepts) (start-typed runs) reaches .0
 
@@ -75,36 +75,36 @@ module _ {section s : List ℕ} {x : ℕ} {b : Body} (runs : Runs section s x b)
 
 -- the trial run
 
-pub record TrialSound (section s : List ℕ) (x budget : ℕ) (t : Trial) : Type 0 where
-  pub runs : Runs section s x (t .body)
+pub record TrialSound (library section s : List ℕ) (x budget : ℕ) (t : Trial) : Type 0 where
+  pub runs : Runs library section s x (t .body)
   pub well : EndsWell (t .body) budget (t .ending)
 
-trial-sound : (section s : List ℕ) (x budget : ℕ) → Accepting (TrialSound section s x budget) (trialRun section s x budget)
+trial-sound : (library section s : List ℕ) (x budget : ℕ) → Accepting (TrialSound library section s x budget) (trialRun library section s x budget)
 unfolding trialRun
-trial-sound section s x budget =
-    accepts-then (judgeBody section s x) (λ b is.
+trial-sound library section s x budget =
+    accepts-then (judgeBody library section s x) (λ b is.
     accepts-either (ltb mostBudget budget) accepts-nothing (go b is (every hasDefault (b .function .parameters)) refl))
   where
     go :
-        (b : Body) → judgeBody section s x ≡ accepted b → (t : Bool) → every hasDefault (b .function .parameters) ≡ t
-        → Accepting (TrialSound section s x budget) (cond t (accepted (trialOf b budget)) (rejected noDefault 0))
-    go b is true e = let runs : Runs section s x b = record { isAccepted = is; defaults = e } in accepts-this (record { runs = runs; well = ends-well runs budget })
+        (b : Body) → judgeBody library section s x ≡ accepted b → (t : Bool) → every hasDefault (b .function .parameters) ≡ t
+        → Accepting (TrialSound library section s x budget) (cond t (accepted (trialOf b budget)) (rejected noDefault (plain 0)))
+    go b is true e = let runs : Runs library section s x b = record { isAccepted = is; defaults = e } in accepts-this (record { runs = runs; well = ends-well runs budget })
     go b is false e = accepts-nothing
 
 -- the public run
 
-call-sound : (section s : List ℕ) (x budget : ℕ) (lent : RunMemory) → Accepting (TrialSound section s x budget) (runCall section s x budget lent)
-call-sound section s x budget lent = accepts-either (runLent lent) (trial-sound section s x budget) accepts-nothing
+call-sound : (library section s : List ℕ) (x budget : ℕ) (lent : RunMemory) → Accepting (TrialSound library section s x budget) (runCall library section s x budget lent)
+call-sound library section s x budget lent = accepts-either (runLent lent) (trial-sound library section s x budget) accepts-nothing
 
 answer-sound :
-    {section s : List ℕ} {x budget : ℕ} {lent later : RunMemory} {r : Ran} → RunTried section s x budget lent later r
-    → Answered section s x budget lent later r
-answer-sound {section} {s} {x} {budget} {lent} {later} {r} tried = go (runCall section s x budget lent) refl
+    {library section s : List ℕ} {x budget : ℕ} {lent later : RunMemory} {r : Ran} → RunTried library section s x budget lent later r
+    → Answered library section s x budget lent later r
+answer-sound {library} {section} {s} {x} {budget} {lent} {later} {r} tried = go (runCall library section s x budget lent) refl
   where
-    go : (j : Judged Trial) → runCall section s x budget lent ≡ j → Answered section s x budget lent later r
-    go (rejected n p) is = subst (Answered section s x budget lent later) (sym (tried .answer ∙ ap (ranOf s) is)) saidNo
+    go : (j : Judged Trial) → runCall library section s x budget lent ≡ j → Answered library section s x budget lent later r
+    go (rejected n p) is = subst (Answered library section s x budget lent later) (sym (tried .answer ∙ ap (ranOf s) is)) saidNo
     go (accepted t) is =
-        let sound = call-sound section s x budget lent .tells t is in
+        let sound = call-sound library section s x budget lent .tells t is in
         ran (sound .runs)
         (record {
           ending = t .ending;
@@ -124,7 +124,7 @@ trap-of s (isTrapped {t = u} below reaches is trap typed) q = subst Trap (let sa
 trap-of s (isSpent reaches typed) q = impossible cc
 
 traps-named :
-    {section s : List ℕ} {x budget t p n : ℕ} {lent later : RunMemory} {r : Ran} → Answered section s x budget lent later r
+    {library section s : List ℕ} {x budget t p n : ℕ} {lent later : RunMemory} {r : Ran} → Answered library section s x budget lent later r
     → r ≡ Ran.the-variants.Trapped t p n → Trap t
 traps-named saidNo q = impossible cc
 traps-named {s} (ran runs sound) q = trap-of s (sound .endsWell) (sym q ∙ sound .answer)
@@ -139,7 +139,7 @@ soundness =
       nullable = null-allowed;
       lasting = λ runs reaches further. lasts runs reaches further;
       ended = ends-well;
-      tried = λ section s x budget {t} is. let sound = trial-sound section s x budget .tells t is in (sound .runs, sound .well);
+      tried = λ library section s x budget {t} is. let sound = trial-sound library section s x budget .tells t is in (sound .runs, sound .well);
       answered = answer-sound;
       named = λ tried. traps-named (answer-sound tried) refl;
     }

@@ -10,14 +10,14 @@ use Rattle.scope.specs.Sizes.{mostBytes}
 use Rattle.scope.specs.Numbers.{u32}
 use Rattle.scope.specs.Lists.{every}
 use Rattle.scope.specs.Syntax.{Val, num, ref, Definition, Types, typesOf}
-use Rattle.scope.specs.Judging.{judgeSection}
+use Rattle.scope.specs.Judging.{judgeSections}
 use Rattle.scope.specs.BodyRules.{hasDefault}
 use Rattle.scope.specs.Bodies.{Function, functionOf, judgeFrom, localsAt, startState, contextOf, Body, bodyAt, judgeBody}
 use Rattle.scope.specs.Machine.{Store, defaultOf}
 use Rattle.scope.specs.Running.{startOf}
 use Rattle.scope.proofs.Truths.{none-is-not-some, from-both}
 use Rattle.scope.proofs.Telling.{Gives, gives-this, gives-nothing, gives-then, gives-either, Accepting, accepts-nothing, accepts-then, accepts-either, accepts-given, accepts-read}
-use Rattle.scope.proofs.Accepted.{Kept, accepted-kept}
+use Rattle.scope.proofs.Accepted.{Kept, sections-kept}
 use Rattle.scope.proofs.Standing.{Accepts, judged-accepts}
 use Rattle.scope.proofs.Soundness.{ofNumber, ofNull, HasLocal, noValue, itsValue, Covers, notSet, isSet, contextFor, first, noBlock, TypedHere, Runs}
 
@@ -38,12 +38,12 @@ body-known ds f s kept =
     (gives-this (record { kept = kept; accepts = judged-accepts (length s) (contextOf ds f ls) (startState f ls) s at .tells code stop judged }))
     gives-nothing)))
 
-pub judged-known : (section s : List ℕ) (x : ℕ) → Accepting Known (judgeBody section s x)
+pub judged-known : (library section s : List ℕ) (x : ℕ) → Accepting Known (judgeBody library section s x)
 unfolding judgeBody
-judged-known section s x =
-    accepts-then (judgeSection section) (λ ds is.
+judged-known library section s x =
+    accepts-then (judgeSections library section) (λ ds is.
     accepts-either (ltb mostBytes (length s)) accepts-nothing
-    (accepts-given (functionOf (typesOf ds x .form)) accepts-nothing (λ f. accepts-read (bodyAt ds f s) (body-known ds f s (accepted-kept section is)))))
+    (accepts-given (functionOf (typesOf ds x .form)) accepts-nothing (λ f. accepts-read (bodyAt ds f s) (body-known ds f s (sections-kept library section is)))))
 
 -- the first machine
 
@@ -73,7 +73,7 @@ parameters-cover (p ∷ ps) ls e =
     let (one, more) = from-both (hasDefault p) (every hasDefault ps) e in
     Forall₂·cons (subst (λ (t : Bool). Covers t (defaultOf p)) one (default-covers p)) (parameters-cover ps ls more)
 
-pub start-typed : {section s : List ℕ} {x : ℕ} {b : Body} → Runs section s x b → TypedHere b (startOf b)
+pub start-typed : {library section s : List ℕ} {x : ℕ} {b : Body} → Runs library section s x b → TypedHere b (startOf b)
 start-typed {b} runs =
     record {
       state = startState (b .function) (b .locals);
@@ -88,5 +88,5 @@ start-typed {b} runs =
           };
     }
 
-pub runs-known : {section s : List ℕ} {x : ℕ} {b : Body} → Runs section s x b → Known b
-runs-known {section} {s} {x} {b} runs = judged-known section s x .tells b (runs .isAccepted)
+pub runs-known : {library section s : List ℕ} {x : ℕ} {b : Body} → Runs library section s x b → Known b
+runs-known {library} {section} {s} {x} {b} runs = judged-known library section s x .tells b (runs .isAccepted)

@@ -1,6 +1,7 @@
 -- What holds of whatever a rule allows, a reader gives or a verdict accepts. A rule, a reader and a verdict are put together
 -- from tests, from parts that may be missing and from one after the other; whatever comes out passed each of them, in order.
 -- So a law about the outcome is written along the definition itself, and has every test that passed at hand.
+use Rattle.scope.specs.declared.Place.{Place}
 use Prim.Native.Nat.{ℕ}
 use mathlib.Core.Path.{_≡_, refl, subst}
 use mathlib.Core.Bool.{Bool, true, false, cond}
@@ -90,7 +91,7 @@ module _ {A : Type 0} {P : A → Type 0} where
 accepted-is-one : {A : Type 0} {x y : A} → accepted x ≡ accepted y → x ≡ y
 accepted-is-one e = cc
 
-rejected-not-accepted : {A : Type 0} {n p : ℕ} {x : A} → rejected n p ≡ accepted x → ⊥
+rejected-not-accepted : {A : Type 0} {n : ℕ} {p : Place} {x : A} → rejected n p ≡ accepted x → ⊥
 rejected-not-accepted e = contradiction cc
 
 pub record Accepting {A : Type 0} (P : A → Type 0) (j : Judged A) : Type 0 where
@@ -100,7 +101,7 @@ module _ {A : Type 0} {P : A → Type 0} where
   pub accepts-this : {x : A} → P x → Accepting P (accepted x)
   accepts-this h = record { tells = λ y e. subst P (accepted-is-one e) h }
 
-  pub accepts-nothing : {n p : ℕ} → Accepting P (rejected n p)
+  pub accepts-nothing : {n : ℕ} {p : Place} → Accepting P (rejected n p)
   accepts-nothing = record { tells = λ y e. absurd (rejected-not-accepted e) }
 
   pub accepts-then : {B : Type 0} (j : Judged B) {f : B → Judged A} → ((x : B) → j ≡ accepted x → Accepting P (f x)) → Accepting P (andThen j f)

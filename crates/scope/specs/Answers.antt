@@ -14,19 +14,18 @@ use Rattle.scope.specs.declared.Ran.{Ran}
 use Rattle.scope.specs.declared.Ran
 use Rattle.scope.specs.Refusals.{bufferTooSmall}
 use Rattle.scope.specs.Layout.{rowsSize, codesSize, workSize, endsSize, countsSize, objectsSize, cellsSize, localsSize, operandsSize, blocksSize}
-use Rattle.scope.specs.Syntax.{Definition}
-use Rattle.scope.specs.Judging.{Judged, accepted, rejected, andThen, judgeSection, askType, partOf}
+use Rattle.scope.specs.Judging.{plain, Judged, accepted, rejected, andThen, Joined, judgeJoined, Held, askType, partOf}
 use Rattle.scope.specs.Bodies.{Body, instructions, judgeBody}
 use Rattle.scope.specs.Machine.{Machine}
 use Rattle.scope.specs.Running.{Ending, done, trapped, spent, wrong, Trial, trialRun, placeOf}
-use Rattle.scope.specs.Memory.{filled, wiped, tableRows, tableCodes, StateWords, stateWords}
+use Rattle.scope.specs.Memory.{filled, wiped, joinedRows, joinedShared, joinedCodes, StateWords, stateWords}
 
 -- 14: a lent buffer under its one size, at 0; never otherwise
 abbrev pub holds : ℕ → List ℕ → Bool
 holds size buffer = leb size (length buffer)
 
 abbrev pub lentEnough : {A : Type 0} → Bool → Judged A → Judged A
-lentEnough enough judged = cond enough judged (rejected bufferTooSmall 0)
+lentEnough enough judged = cond enough judged (rejected bufferTooSmall (plain 0))
 
 -- a refusal's number and place, or how many were counted
 abbrev pub verdictOf : {A : Type 0} → (A → ℕ) → Judged A → Verdict
@@ -38,55 +37,66 @@ abbrev pub lentAfter : {A : Type 0} → (A → List ℕ) → List ℕ → Judged
 lentAfter words buffer (accepted x) = filled buffer (words x)
 lentAfter words buffer (rejected n p) = wiped buffer
 
--- judging a section: its type count and its table
+-- judging a library and a section: the count of both's types, and their table
 
-abbrev pub tableLent : List ℕ → List ℕ → Bool
-tableLent rows codes = holds rowsSize rows && holds codesSize codes
+abbrev pub tableLent : List ℕ → List ℕ → List ℕ → Bool
+tableLent rows shared codes = holds rowsSize rows && holds codesSize shared && holds codesSize codes
 
-abbrev pub sectionCall : List ℕ → List ℕ → List ℕ → Judged (List Definition)
-sectionCall s rows codes = lentEnough (tableLent rows codes) (judgeSection s)
+abbrev pub counted : Joined → ℕ
+counted j = length (j .types)
 
-pub record SectionJudged (s rows codes rows′ codes′ : List ℕ) (r : Verdict) : Type 0 where
-  pub answer : r ≡ verdictOf length (sectionCall s rows codes)
-  pub rowsAfter : rows′ ≡ lentAfter tableRows rows (sectionCall s rows codes)
-  pub codesAfter : codes′ ≡ lentAfter tableCodes codes (sectionCall s rows codes)
+abbrev pub sectionCall : List ℕ → List ℕ → List ℕ → List ℕ → List ℕ → Judged Joined
+sectionCall library s rows shared codes = lentEnough (tableLent rows shared codes) (judgeJoined library s)
 
--- asking for a type: where its bytes lie, and the very bytes; lent memory is as after the section alone
+pub record SectionJudged (library s rows shared codes rows′ shared′ codes′ : List ℕ) (r : Verdict) : Type 0 where
+  pub answer : r ≡ verdictOf counted (sectionCall library s rows shared codes)
+  pub rowsAfter : rows′ ≡ lentAfter joinedRows rows (sectionCall library s rows shared codes)
+  pub sharedAfter : shared′ ≡ lentAfter joinedShared shared (sectionCall library s rows shared codes)
+  pub codesAfter : codes′ ≡ lentAfter joinedCodes codes (sectionCall library s rows shared codes)
 
-abbrev pub askCall : List ℕ → ℕ → List ℕ → List ℕ → Judged Definition
-askCall s x rows codes = lentEnough (tableLent rows codes) (askType s x)
+-- asking for a type: in which section its bytes lie, and where, and the very bytes; lent memory is as after the sections alone
 
-abbrev pub askedOf : Judged Definition → Asked
-askedOf (accepted d) = Asked.the-variants.Bytes (d .from) (d .to)
+abbrev pub askCall : List ℕ → List ℕ → ℕ → List ℕ → List ℕ → List ℕ → Judged Held
+askCall library s x rows shared codes = lentEnough (tableLent rows shared codes) (askType library s x)
+
+abbrev pub askedOf : Judged Held → Asked
+askedOf (accepted h) =
+    cond (h .ofLibrary)
+    (Asked.the-variants.Library (h .definition .from) (h .definition .to))
+    (Asked.the-variants.Addon (h .definition .from) (h .definition .to))
 askedOf (rejected n p) = Asked.the-variants.Refused n p
 
--- the section's types, unless the number is refused
-abbrev pub askedTypes : List ℕ → Judged Definition → List Definition → Judged (List Definition)
-askedTypes s (accepted d) ds = accepted ds
-askedTypes s (rejected n p) ds = rejected n p
+-- the sections' types, unless the number is refused
+abbrev pub askedTypes : Judged Held → Joined → Judged Joined
+askedTypes (accepted h) j = accepted j
+askedTypes (rejected n p) j = rejected n p
 
-abbrev pub askTable : List ℕ → ℕ → List ℕ → List ℕ → Judged (List Definition)
-askTable s x rows codes = andThen (sectionCall s rows codes) (askedTypes s (askCall s x rows codes))
+abbrev pub askTable : List ℕ → List ℕ → ℕ → List ℕ → List ℕ → List ℕ → Judged Joined
+askTable library s x rows shared codes =
+    andThen (sectionCall library s rows shared codes) (askedTypes (askCall library s x rows shared codes))
 
-pub record TypeAsked (s : List ℕ) (x : ℕ) (rows codes rows′ codes′ : List ℕ) (r : Asked) : Type 0 where
-  pub answer : r ≡ askedOf (askCall s x rows codes)
-  pub rowsAfter : rows′ ≡ lentAfter tableRows rows (askTable s x rows codes)
-  pub codesAfter : codes′ ≡ lentAfter tableCodes codes (askTable s x rows codes)
+pub record TypeAsked (library s : List ℕ) (x : ℕ) (rows shared codes rows′ shared′ codes′ : List ℕ) (r : Asked) : Type 0 where
+  pub answer : r ≡ askedOf (askCall library s x rows shared codes)
+  pub rowsAfter : rows′ ≡ lentAfter joinedRows rows (askTable library s x rows shared codes)
+  pub sharedAfter : shared′ ≡ lentAfter joinedShared shared (askTable library s x rows shared codes)
+  pub codesAfter : codes′ ≡ lentAfter joinedCodes codes (askTable library s x rows shared codes)
 
-pub record TypeHanded (s : List ℕ) (x : ℕ) (rows codes rows′ codes′ part : List ℕ) : Type 0 where
-  pub bytes : part ≡ partOf s (askCall s x rows codes)
-  pub rowsAfter : rows′ ≡ lentAfter tableRows rows (askTable s x rows codes)
-  pub codesAfter : codes′ ≡ lentAfter tableCodes codes (askTable s x rows codes)
+pub record TypeHanded (library s : List ℕ) (x : ℕ) (rows shared codes rows′ shared′ codes′ part : List ℕ) : Type 0 where
+  pub bytes : part ≡ partOf library s (askCall library s x rows shared codes)
+  pub rowsAfter : rows′ ≡ lentAfter joinedRows rows (askTable library s x rows shared codes)
+  pub sharedAfter : shared′ ≡ lentAfter joinedShared shared (askTable library s x rows shared codes)
+  pub codesAfter : codes′ ≡ lentAfter joinedCodes codes (askTable library s x rows shared codes)
 
 -- judging a body: its count of instructions; all lent memory is scratch, zero whatever the answer
 
-abbrev pub bodyCall : List ℕ → List ℕ → ℕ → List ℕ → List ℕ → List ℕ → Judged Body
-bodyCall section s x rows codes work =
-    lentEnough (tableLent rows codes && holds workSize work) (judgeBody section s x)
+abbrev pub bodyCall : List ℕ → List ℕ → List ℕ → ℕ → List ℕ → List ℕ → List ℕ → List ℕ → Judged Body
+bodyCall library section s x rows shared codes work =
+    lentEnough (tableLent rows shared codes && holds workSize work) (judgeBody library section s x)
 
-pub record BodyJudged (section s : List ℕ) (x : ℕ) (rows codes work rows′ codes′ work′ : List ℕ) (r : Verdict) : Type 0 where
-  pub answer : r ≡ verdictOf instructions (bodyCall section s x rows codes work)
+pub record BodyJudged (library section s : List ℕ) (x : ℕ) (rows shared codes work rows′ shared′ codes′ work′ : List ℕ) (r : Verdict) : Type 0 where
+  pub answer : r ≡ verdictOf instructions (bodyCall library section s x rows shared codes work)
   pub rowsAfter : rows′ ≡ wiped rows
+  pub sharedAfter : shared′ ≡ wiped shared
   pub codesAfter : codes′ ≡ wiped codes
   pub workAfter : work′ ≡ wiped work
 
@@ -95,6 +105,7 @@ pub record BodyJudged (section s : List ℕ) (x : ℕ) (rows codes work rows′ 
 -- the buffers of a run
 pub record RunMemory : Type 0 where
   pub rows : List ℕ
+  pub shared : List ℕ
   pub codes : List ℕ
   pub work : List ℕ
   pub ends : List ℕ
@@ -110,10 +121,10 @@ stateLent w =
     && holds blocksSize (w .blocks)
 
 abbrev pub runLent : RunMemory → Bool
-runLent m = tableLent (m .rows) (m .codes) && holds workSize (m .work) && holds endsSize (m .ends) && stateLent (m .state)
+runLent m = tableLent (m .rows) (m .shared) (m .codes) && holds workSize (m .work) && holds endsSize (m .ends) && stateLent (m .state)
 
-abbrev pub runCall : List ℕ → List ℕ → ℕ → ℕ → RunMemory → Judged Trial
-runCall section s x budget m = lentEnough (runLent m) (trialRun section s x budget)
+abbrev pub runCall : List ℕ → List ℕ → List ℕ → ℕ → ℕ → RunMemory → Judged Trial
+runCall library section s x budget m = lentEnough (runLent m) (trialRun library section s x budget)
 
 -- the machine as it stands at the end
 abbrev pub machineOf : Ending → Machine
@@ -137,15 +148,16 @@ ranOf s (rejected n p) = Ran.the-variants.Refused n p
 abbrev pub stateAfter : List ℕ → (StateWords → List ℕ) → RunMemory → Judged Trial → List ℕ
 stateAfter s part m judged = lentAfter (λ t. part (stateWords s (machineOf (t .ending)))) (part (m .state)) judged
 
-pub record RunTried (section s : List ℕ) (x budget : ℕ) (m m′ : RunMemory) (r : Ran) : Type 0 where
-  pub answer : r ≡ ranOf s (runCall section s x budget m)
+pub record RunTried (library section s : List ℕ) (x budget : ℕ) (m m′ : RunMemory) (r : Ran) : Type 0 where
+  pub answer : r ≡ ranOf s (runCall library section s x budget m)
   pub rowsAfter : m′ .rows ≡ wiped (m .rows)
+  pub sharedAfter : m′ .shared ≡ wiped (m .shared)
   pub codesAfter : m′ .codes ≡ wiped (m .codes)
   pub workAfter : m′ .work ≡ wiped (m .work)
   pub endsAfter : m′ .ends ≡ wiped (m .ends)
-  pub counts : m′ .state .counts ≡ stateAfter s (λ w. w .counts) m (runCall section s x budget m)
-  pub objects : m′ .state .objects ≡ stateAfter s (λ w. w .objects) m (runCall section s x budget m)
-  pub cells : m′ .state .cells ≡ stateAfter s (λ w. w .cells) m (runCall section s x budget m)
-  pub locals : m′ .state .locals ≡ stateAfter s (λ w. w .locals) m (runCall section s x budget m)
-  pub operands : m′ .state .operands ≡ stateAfter s (λ w. w .operands) m (runCall section s x budget m)
-  pub blocks : m′ .state .blocks ≡ stateAfter s (λ w. w .blocks) m (runCall section s x budget m)
+  pub counts : m′ .state .counts ≡ stateAfter s (λ w. w .counts) m (runCall library section s x budget m)
+  pub objects : m′ .state .objects ≡ stateAfter s (λ w. w .objects) m (runCall library section s x budget m)
+  pub cells : m′ .state .cells ≡ stateAfter s (λ w. w .cells) m (runCall library section s x budget m)
+  pub locals : m′ .state .locals ≡ stateAfter s (λ w. w .locals) m (runCall library section s x budget m)
+  pub operands : m′ .state .operands ≡ stateAfter s (λ w. w .operands) m (runCall library section s x budget m)
+  pub blocks : m′ .state .blocks ≡ stateAfter s (λ w. w .blocks) m (runCall library section s x budget m)

@@ -15,7 +15,7 @@ use Rattle.scope.specs.Syntax.{exact, defined, Val, num, ref, nullable, 
 use Rattle.scope.specs.Sections.{valAt, ended}
 use Rattle.scope.specs.Order.{Fit, itFits, butForNull, unfit, madeNonNull, valBelow}
 use Rattle.scope.specs.TypeRules.{valNames}
-use Rattle.scope.specs.Judging.{Judged, accepted, rejected, andThen, judgeSection}
+use Rattle.scope.specs.Judging.{plain, Judged, accepted, rejected, andThen, judgeSections}
 use Rattle.scope.specs.Instructions.{Instr, block, loop, end, op, instrAt}
 use Rattle.scope.specs.BodyRules.{Context, Scope, Wanted, value, anyValue, anyReference, Gives, values, itNonNull, itsDescriptor, Plan, Ruled, allowed, fault, test, andRuled, fromTop, hasDefault, reached, planOf}
 
@@ -220,7 +220,7 @@ abbrev pub functionOf : Form → Option Function
 functionOf (struct fs) = none
 functionOf (func ps rs) = some (record { parameters = ps; results = rs })
 
--- an accepted body: the section's types, the function's type, the locals after the parameters, the instructions
+-- an accepted body: the types of both sections, the function's type, the locals after the parameters, the instructions
 pub record Body : Type 0 where
   pub types : List Definition
   pub function : Function
@@ -252,11 +252,12 @@ bodyAt ds f s =
 
 abbrev pub judgedOf : {A : Type 0} → Read A → Judged A
 judgedOf (got x stop) = accepted x
-judgedOf (refused n p) = rejected n p
+judgedOf (refused n p) = rejected n (plain p)
 
 -- "A body: section, body size, 27, the locals entry by entry .., then the first faulty instruction ..; last, 5."
-unfoldable pub judgeBody : List ℕ → List ℕ → ℕ → Judged Body
-judgeBody section s x =
-    andThen (judgeSection section) (λ ds.
-    let typed = given (functionOf (typesOf ds x .form)) (rejected notAFunction 0) (λ f. judgedOf (bodyAt ds f s)) in
-    cond (ltb mostBytes (length s)) (rejected oversize 0) typed)
+-- Its types are those of the joined list. A body that is an input by itself names no input in its places.
+unfoldable pub judgeBody : List ℕ → List ℕ → List ℕ → ℕ → Judged Body
+judgeBody library section s x =
+    andThen (judgeSections library section) (λ ds.
+    let typed = given (functionOf (typesOf ds x .form)) (rejected notAFunction (plain 0)) (λ f. judgedOf (bodyAt ds f s)) in
+    cond (ltb mostBytes (length s)) (rejected oversize (plain 0)) typed)

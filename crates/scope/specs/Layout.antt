@@ -5,9 +5,9 @@ use Rattle.scope.specs.Sizes.{mostBytes, mostTypes, mostLocals, mostOper
 
 -- an entry's elements
 
--- a type's row in the table
+-- a type's row in the table: a power of two, with words to spare for what later requests keep of a type
 abbrev pub rowSpan : ℕ
-rowSpan = 12
+rowSpan = 16
 
 -- a value of a run: its kind and its bits
 abbrev pub valueSpan : ℕ
@@ -23,7 +23,8 @@ blockSpan = 3
 
 -- the buffers' sizes
 
--- the table, u16: the types' rows, and the codes of fields, parameters and results, of which each takes a byte at least
+-- the table, u16: the types' rows; and for each of the two sections the codes of fields, parameters and results, of which each
+-- takes a byte at least
 abbrev pub rowsSize : ℕ
 rowsSize = mostTypes * rowSpan
 

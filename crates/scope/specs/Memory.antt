@@ -4,12 +4,14 @@ use Prim.Native.Nat.{ℕ, _+_, _-_, _*_}
 use mathlib.Core.Bool.{Bool, cond}
 use mathlib.Core.Option.{Option}
 use mathlib.Core.List.{List, [], _∷_, _++_, map, reverse}
-use lib.ListN.{length, replicate}
+use lib.ListN.{length, replicate, take, drop}
 use Rattle.scope.specs.Reading.{given}
 use Rattle.scope.specs.Lists.{joined, sum}
 use Rattle.scope.specs.Abstract.{Abstract, NOFUNC, NOEXTERN, NONE, FUNC, EXTERN, ANY, EQ, I31, STRUCT, ARRAY}
 use Rattle.scope.specs.Syntax.{Heap, abstract, defined, exact, Val, num, ref, Field, Form, struct, func, Definition, superOf}
+use Rattle.scope.specs.Layout.{codesSize}
 use Rattle.scope.specs.Order.{numberCode}
+use Rattle.scope.specs.Judging.{Joined}
 use Rattle.scope.specs.Machine.{Value, number, null, object, Store, Block, openBlock, openLoop, Machine}
 use Rattle.scope.specs.Running.{placeOf}
 
@@ -21,7 +23,7 @@ filled buffer words = words ++ replicate (length buffer - length words) 0
 abbrev pub wiped : List ℕ → List ℕ
 wiped buffer = replicate (length buffer) 0
 
--- the table of an accepted section
+-- the table of an accepted library and section
 
 -- false 0, true 1
 abbrev pub flag : Bool → ℕ
@@ -66,6 +68,10 @@ abbrev pub formWords : Form → List ℕ
 formWords (struct fs) = 1 ∷ length fs ∷ 0 ∷ []
 formWords (func ps rs) = 2 ∷ length ps ∷ length rs ∷ []
 
+-- the last words of a row, which nothing uses yet
+abbrev pub spareWords : List ℕ
+spareWords = 0 ∷ 0 ∷ 0 ∷ 0 ∷ []
+
 -- one row of the table; its codes start at `first`
 unfoldable pub rowWords : ℕ → Definition → List ℕ
 rowWords first d =
@@ -79,18 +85,32 @@ rowWords first d =
     ∷ d .reach
     ∷ first
     ∷ (length (d .supers) - 1)
-    ∷ []
+    ∷ spareWords
 
 unfoldable pub rowsFrom : ℕ → List Definition → List ℕ
 rowsFrom first [] = []
 rowsFrom first (d ∷ ds) = rowWords first d ++ rowsFrom (first + length (formCodes (d .form))) ds
 
--- the two buffers of the table: the types' rows, and the codes of their fields, parameters and results
-abbrev pub tableRows : List Definition → List ℕ
-tableRows ds = rowsFrom 0 ds
-
+-- the three buffers of the table: the rows of all types, the library's first; the codes of the fields, parameters and results of
+-- the library's types; and those of the add-on's. A row's first code tells the two apart: the add-on's count from 0 on, so that
+-- with a library of no types its rows are what they are without one; the library's count from the size of a buffer of codes on.
 abbrev pub tableCodes : List Definition → List ℕ
 tableCodes ds = joined (map (λ d. formCodes (d .form)) ds)
+
+abbrev pub libraryTypes : Joined → List Definition
+libraryTypes j = take (j .before) (j .types)
+
+abbrev pub addonTypes : Joined → List Definition
+addonTypes j = drop (j .before) (j .types)
+
+abbrev pub joinedRows : Joined → List ℕ
+joinedRows j = rowsFrom codesSize (libraryTypes j) ++ rowsFrom 0 (addonTypes j)
+
+abbrev pub joinedShared : Joined → List ℕ
+joinedShared j = tableCodes (libraryTypes j)
+
+abbrev pub joinedCodes : Joined → List ℕ
+joinedCodes j = tableCodes (addonTypes j)
 
 -- the state of a run
 

@@ -8,7 +8,7 @@ use Rattle.scope.specs.Sizes.{mostBudget}
 use Rattle.scope.specs.Refusals.{oversize, noDefault}
 use Rattle.scope.specs.Lists.{every}
 use Rattle.scope.specs.Syntax.{typesOf}
-use Rattle.scope.specs.Judging.{Judged, accepted, rejected, andThen}
+use Rattle.scope.specs.Judging.{plain, Judged, accepted, rejected, andThen}
 use Rattle.scope.specs.BodyRules.{hasDefault}
 use Rattle.scope.specs.Bodies.{Code, Body, judgeBody}
 use Rattle.scope.specs.Machine.{Machine, Program, OutcomeOf, goes, ends, traps, stuck, defaultOf, step}
@@ -58,13 +58,13 @@ trialOf b budget = record { body = b; ending = run (programOf b) budget 0 (start
 abbrev pub withParameters : Body → ℕ → Judged Trial
 withParameters b budget =
     let trial = accepted (trialOf b budget) in
-    cond (every hasDefault (b .function .parameters)) trial (rejected noDefault 0)
+    cond (every hasDefault (b .function .parameters)) trial (rejected noDefault (plain 0))
 
-unfoldable pub trialRun : List ℕ → List ℕ → ℕ → ℕ → Judged Trial
-trialRun section s x budget =
-    andThen (judgeBody section s x) (λ b.
+unfoldable pub trialRun : List ℕ → List ℕ → List ℕ → ℕ → ℕ → Judged Trial
+trialRun library section s x budget =
+    andThen (judgeBody library section s x) (λ b.
     let allowed = withParameters b budget in
-    cond (ltb mostBudget budget) (rejected oversize 0) allowed)
+    cond (ltb mostBudget budget) (rejected oversize (plain 0)) allowed)
 
 -- the place: of the next instruction, of the trapping one after a trap, the body's length when done
 abbrev pub placeOf : List ℕ → Code → ℕ

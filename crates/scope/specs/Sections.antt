@@ -91,7 +91,7 @@ definitionAt reach s at =
     then (formAt s form) (λ f end.
     got (record { isOpen = h .isOpen; supers = h .supers; describes = d; descriptor = e; form = f; from = at; to = end; reach = reach }) end))))
 
--- Group: 4E and a list of definitions, or one definition alone; `first` types stand before it. 256 types: at the start
+-- Group: 4E and a list of definitions, or one definition alone; `first` types stand before it. 1,024 types: at the start
 -- of a group after them, no byte is 1 and any but 4E is 4.
 unfoldable pub groupAt : ℕ → Reader Group
 groupAt first s at =
@@ -109,8 +109,13 @@ groupsAt (suc n) first s at =
 abbrev pub ended : {A : Type 0} → List ℕ → A → ℕ → Read A
 ended s x at = cond (eqb at (length s)) (got x at) (refused leftOver at)
 
--- A section is the content of a type section: a list of groups. The whole size comes before the bytes.
-unfoldable pub readSection : List ℕ → Read (List Group)
-readSection s =
-    let groups = then (u32 s 0) (λ n next. then (groupsAt n 0 s next) (ended s)) in
+-- A section is the content of a type section: a list of groups. The whole size comes before the bytes. So many types stand
+-- before it: none before a library's, and the library's before an add-on's, whose "own numbers run on after it".
+unfoldable pub readAfter : ℕ → List ℕ → Read (List Group)
+readAfter first s =
+    let groups = then (u32 s 0) (λ n next. then (groupsAt n first s next) (ended s)) in
     cond (ltb mostBytes (length s)) (refused oversize 0) groups
+
+-- "A library of no types (the byte 00)"
+abbrev pub emptyLibrary : List ℕ
+emptyLibrary = 0x00 ∷ []

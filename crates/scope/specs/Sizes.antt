@@ -5,9 +5,9 @@ use Prim.Native.Nat.{ℕ, _-_}
 abbrev pub mostBytes : ℕ
 mostBytes = 32_768
 
--- 256 types
+-- 1,024 types, a library's and an add-on's together
 abbrev pub mostTypes : ℕ
-mostTypes = 256
+mostTypes = 1_024
 
 -- 64 fields, parameters or results each
 abbrev pub mostEach : ℕ

@@ -3,7 +3,7 @@
 // bytes a section or body
 pub const MOST_BYTES: usize = 32768;
 
-pub const MOST_TYPES: u64 = 256;
+pub const MOST_TYPES: u64 = 1024;
 
 // fields, parameters or results each
 pub const MOST_EACH: u64 = 64;
@@ -28,7 +28,7 @@ pub const MOST_CELLS: u64 = 4096;
 
 // an entry's elements
 
-pub const ROW: u64 = 12;
+pub const ROW: u64 = 16;
 
 pub const VALUE: u64 = 2;
 
@@ -38,8 +38,9 @@ pub const BLOCK: u64 = 3;
 
 // the buffers' sizes
 
-pub const ROWS: usize = 3072;
+pub const ROWS: usize = 16384;
 
+// of the library's codes, and of the add-on's
 pub const CODES: usize = 32768;
 
 pub const WORK: usize = 4096;
