@@ -5,9 +5,11 @@ use Prim.Native.Nat.{ℕ}
 use mathlib.Core.Path.{_≡_, refl}
 use mathlib.Core.Bool.{Bool, true, false, false≢true}
 use mathlib.Core.List.{List, [], _∷_}
+use Rattle.scope.specs.Sections.{emptyLibrary}
 use Rattle.scope.specs.Refusals.{badOperand, badStruct}
 use Rattle.scope.specs.Syntax.{Definition}
-use Rattle.scope.specs.Judging.{Judged, accepted, rejected, judgeSection}
+use Rattle.scope.specs.declared.Place.{Place}
+use Rattle.scope.specs.Judging.{plain, Judged, accepted, rejected, Joined, judgeJoined}
 use Rattle.scope.specs.Bodies.{judgeBody}
 use Rattle.scope.proofs.Computes.{computes}
 use Rattle.scope.proofs.Impossible.{contradiction}
@@ -18,9 +20,9 @@ use Rattle.facts_bodies.proofs.Main.{accepted-exactly-when-allowed}
 abbrev F : ℕ → List ℕ
 F gives = 0x02 ∷ 0x4E ∷ 0x02 ∷ 0x4D ∷ 0x01 ∷ 0x5F ∷ 0x00 ∷ 0x4C ∷ 0x00 ∷ 0x5F ∷ 0x00 ∷ 0x60 ∷ 0x00 ∷ 0x01 ∷ 0x64 ∷ 0x62 ∷ gives ∷ []
 
-abbrev definitionsOf : Judged (List Definition) → List Definition
-definitionsOf (accepted ds) = ds
-definitionsOf (rejected n p) = []
+abbrev joinedOf : Judged Joined → Joined
+joinedOf (accepted j) = j
+joinedOf (rejected n p) = record { before = 0; types = [] }
 
 abbrev isYes : {A : Type 0} → Judged A → Bool
 isYes (accepted x) = true
@@ -31,24 +33,27 @@ said-yes (accepted x) e = (x, refl)
 said-yes (rejected n p) e = absurd (false≢true e)
 
 -- the types of F1 and of F2
-abbrev types : ℕ → List Definition
-types gives = definitionsOf (judgeSection (F gives))
+abbrev both : ℕ → Joined
+both gives = joinedOf (judgeJoined emptyLibrary (F gives))
 
-F1-accepted : judgeSection (F 0) ≡ accepted (types 0)
+abbrev types : ℕ → List Definition
+types gives = both gives .types
+
+F1-accepted : judgeJoined emptyLibrary (F 0) ≡ accepted (both 0)
 unfolding computes
 F1-accepted = refl
 
-F2-accepted : judgeSection (F 1) ≡ accepted (types 1)
+F2-accepted : judgeJoined emptyLibrary (F 1) ≡ accepted (both 1)
 unfolding computes
 F2-accepted = refl
 
-module _ (gives : ℕ) (judged : judgeSection (F gives) ≡ accepted (types gives)) (s : List ℕ) where
-  derived : isYes (judgeBody (F gives) s 2) ≡ true → AllowedBody (types gives) 2 s
-  derived e = accepted-exactly-when-allowed (F gives) s 2 judged .0 (said-yes _ e)
+module _ (gives : ℕ) (judged : judgeJoined emptyLibrary (F gives) ≡ accepted (both gives)) (s : List ℕ) where
+  derived : isYes (judgeBody emptyLibrary (F gives) s 2) ≡ true → AllowedBody (types gives) 2 s
+  derived e = accepted-exactly-when-allowed emptyLibrary (F gives) s 2 judged .0 (said-yes _ e)
 
-  underivable : {n p : ℕ} → judgeBody (F gives) s 2 ≡ rejected n p → ¬ AllowedBody (types gives) 2 s
+  underivable : {n : ℕ} {p : Place} → judgeBody emptyLibrary (F gives) s 2 ≡ rejected n p → ¬ AllowedBody (types gives) 2 s
   underivable e a =
-      let (b, yes′) = accepted-exactly-when-allowed (F gives) s 2 judged .1 a in
+      let (b, yes′) = accepted-exactly-when-allowed emptyLibrary (F gives) s 2 judged .1 a in
       contradiction cc
 
 -- a yes
@@ -74,11 +79,11 @@ withoutDescriptor = 0x00 ∷ 0xFB ∷ 0x00 ∷ 0x00 ∷ 0x0B ∷ []
 
 pub without-descriptor-not-allowed : ¬ AllowedBody (types 0) 2 withoutDescriptor
 unfolding computes
-without-descriptor-not-allowed = underivable 0 F1-accepted withoutDescriptor {n = badStruct} {p = 1} refl
+without-descriptor-not-allowed = underivable 0 F1-accepted withoutDescriptor {n = badStruct} {p = plain 1} refl
 
 abbrev inexactDescriptor : List ℕ
 inexactDescriptor = 0x01 ∷ 0x01 ∷ 0x64 ∷ 0x01 ∷ 0xFB ∷ 0x00 ∷ 0x01 ∷ 0x21 ∷ 0x00 ∷ 0x20 ∷ 0x00 ∷ 0xFB ∷ 0x20 ∷ 0x00 ∷ 0x0B ∷ []
 
 pub inexact-descriptor-not-allowed : ¬ AllowedBody (types 0) 2 inexactDescriptor
 unfolding computes
-inexact-descriptor-not-allowed = underivable 0 F1-accepted inexactDescriptor {n = badOperand} {p = 11} refl
+inexact-descriptor-not-allowed = underivable 0 F1-accepted inexactDescriptor {n = badOperand} {p = plain 11} refl

@@ -7,9 +7,9 @@ use mathlib.Core.Bool.{Bool, true, false, not, _||_}
 use mathlib.Core.List.{List}
 use lib.ListN.{length}
 use Rattle.scope.specs.Abstract.{Abstract}
-use Rattle.scope.specs.Syntax.{Heap, abstract, ref, nullable, Definition, Types, typesOf}
+use Rattle.scope.specs.Syntax.{Heap, abstract, ref, nullable, Types, typesOf}
 use Rattle.scope.specs.Order.{HeapOrder, transitive, ValOrder, heaps, nulls, itself, chained, heapBelow, valBelow}
-use Rattle.scope.specs.Judging.{accepted, judgeSection}
+use Rattle.scope.specs.Judging.{accepted, Joined, judgeJoined}
 use Rattle.scope.specs.BodyRules.{topOf, oneHierarchy}
 use Rattle.scope.proofs.Truths.{from-both}
 use Rattle.scope.proofs.TenRows.{same-equal, equal-same}
@@ -64,13 +64,13 @@ module _ {ts : Types} (ordered : Ordered ts) where
   pub shares-tested : {count : ℕ} {n m : Bool} {h k : Heap} → ShareSupertype count ts (ref n h) (ref m k) → oneHierarchy ts h k ≡ true
   shares-tested shared = one-tested (shares-one shared)
 
--- over the types of an accepted section, whether the references may be null or not
-module _ (section : List ℕ) {ds : List Definition} (judged : judgeSection section ≡ accepted ds) (h k : Heap) where
-  ordered-types : Ordered (typesOf ds)
-  ordered-types = passes-ordered (accepted-passes section judged)
+-- over the types of accepted sections, whether the references may be null or not
+module _ (library section : List ℕ) {j : Joined} (judged : judgeJoined library section ≡ accepted j) (h k : Heap) where
+  ordered-types : Ordered (typesOf (j .types))
+  ordered-types = passes-ordered (accepted-passes library section judged)
 
-  pub shared-exactly-in-one-hierarchy : (n m : Bool) → ShareSupertype (length ds) (typesOf ds) (ref n h) (ref m k) ↔ OneHierarchy (typesOf ds) h k
+  pub shared-exactly-in-one-hierarchy : (n m : Bool) → ShareSupertype (length (j .types)) (typesOf (j .types)) (ref n h) (ref m k) ↔ OneHierarchy (typesOf (j .types)) h k
   shared-exactly-in-one-hierarchy n m = (shares-one ordered-types, one-shares n m)
 
-  pub one-hierarchy-exactly-tested : OneHierarchy (typesOf ds) h k ↔ (oneHierarchy (typesOf ds) h k ≡ true)
+  pub one-hierarchy-exactly-tested : OneHierarchy (typesOf (j .types)) h k ↔ (oneHierarchy (typesOf (j .types)) h k ≡ true)
   one-hierarchy-exactly-tested = (one-tested ordered-types, tested-one h k)

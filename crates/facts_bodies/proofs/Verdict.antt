@@ -15,7 +15,8 @@ use Rattle.scope.specs.Reading.{Read, got, refused, given}
 use Rattle.scope.specs.Numbers.{u32}
 use Rattle.scope.specs.Syntax.{Val, Form, struct, func, Definition, typesOf}
 use Rattle.scope.specs.Sections.{ended}
-use Rattle.scope.specs.Judging.{Judged, accepted, rejected, andThen, judgeSection}
+use Rattle.scope.specs.declared.Place.{Place}
+use Rattle.scope.specs.Judging.{plain, Judged, accepted, rejected, andThen, Joined, judgeJoined, judgeSections}
 use Rattle.scope.specs.Instructions.{Instr}
 use Rattle.scope.specs.Bodies.{State, Code, judgeFrom, localsAt, Function, functionOf, Body, startState, contextOf, bodyAt, judgedOf, judgeBody}
 use Rattle.scope.proofs.Truths.{none-is-not-some}
@@ -27,10 +28,10 @@ use Rattle.facts_bodies.proofs.Bytes.{same-got, first-got, cond-got, go
 
 -- acceptances
 
-rejected-is-not-accepted : {A : Type 0} {n p : ℕ} {x : A} → rejected n p ≡ accepted x → ⊥
+rejected-is-not-accepted : {A : Type 0} {n : ℕ} {p : Place} {x : A} → rejected n p ≡ accepted x → ⊥
 rejected-is-not-accepted e = contradiction cc
 
-not-rejected : {A : Type 0} {x : A} (t : Bool) (n p : ℕ) (more : Judged A) → cond t (rejected n p) more ≡ accepted x → (t ≡ false) × (more ≡ accepted x)
+not-rejected : {A : Type 0} {x : A} (t : Bool) (n : ℕ) (p : Place) (more : Judged A) → cond t (rejected n p) more ≡ accepted x → (t ≡ false) × (more ≡ accepted x)
 not-rejected true n p more e = absurd (rejected-is-not-accepted e)
 not-rejected false n p more e = (refl, e)
 
@@ -38,7 +39,7 @@ then-accepted : {A B : Type 0} {y : B} (j : Judged A) (f : A → Judged B) → a
 then-accepted (accepted x) f e = (x, refl, e)
 then-accepted (rejected n p) f e = absurd (rejected-is-not-accepted e)
 
-given-accepted : {A B : Type 0} {y : B} (o : Option A) (n p : ℕ) (f : A → Judged B)
+given-accepted : {A B : Type 0} {y : B} (o : Option A) (n : ℕ) (p : Place) (f : A → Judged B)
     → given o (rejected n p) f ≡ accepted y
     → (x : A) × (o ≡ some x) × (f x ≡ accepted y)
 given-accepted none n p f e = absurd (rejected-is-not-accepted e)
@@ -128,7 +129,7 @@ module _ (ds : List Definition) (ordered : Ordered (typesOf ds)) (s : List ℕ) 
   -- the verdict, section and all
 
   accepted-shown : (x : ℕ) {b : Body}
-      → cond (ltb mostBytes (length s)) (rejected oversize 0) (given (functionOf (typesOf ds x .form)) (rejected notAFunction 0) (λ f. judgedOf (bodyAt ds f s))) ≡ accepted b
+      → cond (ltb mostBytes (length s)) (rejected oversize (plain 0)) (given (functionOf (typesOf ds x .form)) (rejected notAFunction (plain 0)) (λ f. judgedOf (bodyAt ds f s))) ≡ accepted b
       → Derivation ds x s (b .function) (b .locals) (instructionsOf (b .code))
   accepted-shown x {b} e =
       let (small, more) = not-rejected _ _ _ _ e in
@@ -146,25 +147,28 @@ module _ (ds : List Definition) (ordered : Ordered (typesOf ds)) (s : List ℕ) 
         typed = shown .typed;
       }
 
-  module _ (section : List ℕ) (judged : judgeSection section ≡ accepted ds) (x : ℕ) where
-    pub accepted-derivation : {b : Body} → judgeBody section s x ≡ accepted b → Derivation ds x s (b .function) (b .locals) (instructionsOf (b .code))
-    unfolding judgeBody
+  module _ (library section : List ℕ) {n : ℕ} (judged : judgeJoined library section ≡ accepted (record { before = n; types = ds })) (x : ℕ) where
+    pub accepted-derivation : {b : Body} → judgeBody library section s x ≡ accepted b → Derivation ds x s (b .function) (b .locals) (instructionsOf (b .code))
+    unfolding judgeBody judgeSections
     accepted-derivation e = accepted-shown x (rw judged at e)
 
     pub derivation-accepted : {f : Function} {ls : List Val} {is : List Instr}
         → Derivation ds x s f ls is
-        → (code : Code) × (judgeBody section s x ≡ accepted (record { types = ds; function = f; locals = ls; code = code })) × (instructionsOf code ≡ is)
-    unfolding judgeBody
+        → (code : Code) × (judgeBody library section s x ≡ accepted (record { types = ds; function = f; locals = ls; code = code })) × (instructionsOf code ≡ is)
+    unfolding judgeBody judgeSections
     derivation-accepted {f} d =
         let (code, reading, same) = shown-got f (d .written) (d .allLocals) (from-start d) in
         (code, rw (judged, le-ltb _ _ (d .small), function-found ds x (d .isFunction), reading), same)
 
--- a body's verdict is yes only where the section's is
-pub section-accepted : (section s : List ℕ) (x : ℕ) {b : Body}
-    → judgeBody section s x ≡ accepted b
-    → (ds : List Definition) × (judgeSection section ≡ accepted ds)
-unfolding judgeBody
-section-accepted section s x {b} e = let (ds, judged, rest) = then-accepted (judgeSection section) _ e in (ds, judged)
+-- a body's verdict is yes only where the sections' is
+pub section-accepted : (library section s : List ℕ) (x : ℕ) {b : Body}
+    → judgeBody library section s x ≡ accepted b
+    → (j : Joined) × (judgeJoined library section ≡ accepted j)
+unfolding judgeBody judgeSections
+section-accepted library section s x {b} e =
+    let (ds, types, rest) = then-accepted (andThen (judgeJoined library section) (λ j. accepted (j .types))) _ e in
+    let (j, judged, same) = then-accepted (judgeJoined library section) (λ j. accepted (j .types)) types in
+    (j, judged)
 
 -- two yeses are one
 pub same-body : {j : Judged Body} {b c : Body} → j ≡ accepted b → j ≡ accepted c → b ≡ c

@@ -3,10 +3,11 @@
 use Prim.Native.Nat.{ℕ}
 use native.Mathlib.Omega.{arith}
 use mathlib.Core.Path.{_≡_, refl}
-use mathlib.Core.Bool.{false}
+use mathlib.Core.Bool.{true, false}
 use mathlib.Core.Option.{none, some}
 use mathlib.Core.List.{List, [], _∷_}
 use lib.ListN.{replicate, getElem?}
+use Rattle.scope.specs.Sections.{emptyLibrary}
 use Rattle.scope.specs.declared.Verdict.{Verdict}
 use Rattle.scope.specs.declared.Verdict
 use Rattle.scope.specs.declared.Ran.{Ran}
@@ -16,9 +17,9 @@ use Rattle.scope.specs.declared.Asked.{Asked}
 use Rattle.scope.specs.declared.Asked
 use Rattle.scope.specs.Refusals.{bufferTooSmall, outOfReach, describesNotEarlier, badStruct}
 use Rattle.scope.specs.Syntax.{struct, Definition}
-use Rattle.scope.specs.Judging.{accepted, judgeSection}
+use Rattle.scope.specs.Judging.{plain, accepted, Joined, judgeJoined}
 use Rattle.scope.specs.Bodies.{judgeBody}
-use Rattle.scope.specs.Memory.{wiped, tableRows, tableCodes}
+use Rattle.scope.specs.Memory.{wiped, joinedRows, joinedShared, joinedCodes}
 use Rattle.scope.specs.Answers.{lentAfter, sectionCall, SectionJudged, askTable, TypeAsked, TypeHanded, BodyJudged, RunMemory, runCall, ranOf, stateAfter, RunTried}
 use Rattle.scope.proofs.Computes.{computes}
 use Rattle.facts_sections.specs.FirstFault.{Refused}
@@ -30,8 +31,8 @@ use Rattle.facts_runs.specs.Counting.{taken, takenBy}
 use Rattle.facts_refusals.specs.Bodies.{BodySaysNo}
 use Rattle.facts_calls.specs.Lent.{TableSuffices, TableShort, BodySuffices, BodyShort, RunSuffices}
 use Rattle.facts_calls.specs.Meant.{SectionOf, BodyOf, CanRun}
-use Rattle.facts_calls.specs.Calls.{Stops}
-use Rattle.facts_calls.specs.Asked.{LiesIn, TypeOf, AskSaysNo}
+use Rattle.facts_calls.specs.Calls.{RowTells, Stops}
+use Rattle.facts_calls.specs.Asked.{LiesIn, library-holds, addon-holds, TypeOf, Lies, AskSaysNo}
 use Rattle.facts_calls.proofs.Placed.{accepted-body}
 use Rattle.facts_calls.proofs.OfAsked.{of-asked, of-handed}
 use Rattle.facts_calls.proofs.Holds.{sections, bodies, runs}
@@ -44,8 +45,13 @@ rows = replicate rowsSize 7
 abbrev codes : List ℕ
 codes = replicate codesSize 7
 
+abbrev shared : List ℕ
+shared = replicate codesSize 7
+
 abbrev judged : List ℕ → List ℕ → Verdict → Type 0
-judged s lent r = SectionJudged s lent codes (lentAfter tableRows lent (sectionCall s lent codes)) (lentAfter tableCodes codes (sectionCall s lent codes)) r
+judged s lent r =
+    let call = sectionCall emptyLibrary s lent shared codes in
+    SectionJudged emptyLibrary s lent shared codes (lentAfter joinedRows lent call) (lentAfter joinedShared shared call) (lentAfter joinedCodes codes call) r
 
 -- two types, each the other's clause
 abbrev pair : List ℕ
@@ -53,31 +59,31 @@ pair = 0x01 ∷ 0x4E ∷ 0x02 ∷ 0x4D ∷ 0x01 ∷ 0x5F ∷ 0x00 ∷ 0x4C ∷ 0
 
 pair-promise : judged pair rows (Verdict.the-variants.Accepted 2)
 unfolding computes
-pair-promise = record { answer = refl; rowsAfter = refl; codesAfter = refl }
+pair-promise = record { answer = refl; rowsAfter = refl; sharedAfter = refl; codesAfter = refl }
 
-pub pair-accepted : TableSuffices rows codes × SectionOf pair 2
+pub pair-accepted : TableSuffices rows shared codes × SectionOf emptyLibrary pair 2
 pair-accepted = sections pair-promise .accepted 2 .0 refl
 
 -- the same with the clauses the other way round: 10, type 0
 abbrev swapped : List ℕ
 swapped = 0x01 ∷ 0x4E ∷ 0x02 ∷ 0x4C ∷ 0x01 ∷ 0x5F ∷ 0x00 ∷ 0x4D ∷ 0x00 ∷ 0x5F ∷ 0x00 ∷ []
 
-swapped-promise : judged swapped rows (Verdict.the-variants.Refused describesNotEarlier 0)
+swapped-promise : judged swapped rows (Verdict.the-variants.Refused describesNotEarlier (plain 0))
 unfolding computes
-swapped-promise = record { answer = refl; rowsAfter = refl; codesAfter = refl }
+swapped-promise = record { answer = refl; rowsAfter = refl; sharedAfter = refl; codesAfter = refl }
 
-pub swapped-refused : Refused swapped describesNotEarlier 0
-swapped-refused = sections swapped-promise .refused describesNotEarlier 0 (pair-accepted .0) .0 refl
+pub swapped-refused : Refused emptyLibrary swapped describesNotEarlier (plain 0)
+swapped-refused = sections swapped-promise .refused describesNotEarlier (plain 0) (pair-accepted .0) .0 refl
 
--- a row short
+-- a word short
 abbrev fewRows : List ℕ
-fewRows = replicate 3_071 7
+fewRows = replicate 16_383 7
 
-short-promise : judged pair fewRows (Verdict.the-variants.Refused bufferTooSmall 0)
+short-promise : judged pair fewRows (Verdict.the-variants.Refused bufferTooSmall (plain 0))
 unfolding computes
-short-promise = record { answer = refl; rowsAfter = refl; codesAfter = refl }
+short-promise = record { answer = refl; rowsAfter = refl; sharedAfter = refl; codesAfter = refl }
 
-pub rows-short : TableShort fewRows codes
+pub rows-short : TableShort fewRows shared codes
 rows-short = sections short-promise .short .0 refl
 
 -- bodies
@@ -86,30 +92,30 @@ abbrev work : List ℕ
 work = replicate workSize 7
 
 abbrev bodyJudged : List ℕ → List ℕ → Verdict → Type 0
-bodyJudged s lent r = BodyJudged F1 s 2 rows codes lent (wiped rows) (wiped codes) (wiped lent) r
+bodyJudged s lent r = BodyJudged emptyLibrary F1 s 2 rows shared codes lent (wiped rows) (wiped shared) (wiped codes) (wiped lent) r
 
 two-promise : bodyJudged twoObjects work (Verdict.the-variants.Accepted 3)
 unfolding computes
-two-promise = record { answer = refl; rowsAfter = refl; codesAfter = refl; workAfter = refl }
+two-promise = record { answer = refl; rowsAfter = refl; sharedAfter = refl; codesAfter = refl; workAfter = refl }
 
-pub two-accepted : BodySuffices rows codes work × BodyOf F1 twoObjects 2 3
+pub two-accepted : BodySuffices rows shared codes work × BodyOf emptyLibrary F1 twoObjects 2 3
 two-accepted = bodies two-promise .accepted 3 .0 refl
 
 abbrev unwanted : List ℕ
 unwanted = 0x00 ∷ 0xFB ∷ 0x00 ∷ 0x00 ∷ 0x0B ∷ []
 
-unwanted-promise : bodyJudged unwanted work (Verdict.the-variants.Refused badStruct 1)
+unwanted-promise : bodyJudged unwanted work (Verdict.the-variants.Refused badStruct (plain 1))
 unfolding computes
-unwanted-promise = record { answer = refl; rowsAfter = refl; codesAfter = refl; workAfter = refl }
+unwanted-promise = record { answer = refl; rowsAfter = refl; sharedAfter = refl; codesAfter = refl; workAfter = refl }
 
-pub unwanted-refused : BodySaysNo F1 unwanted 2 badStruct 1
-unwanted-refused = bodies unwanted-promise .refused badStruct 1 (two-accepted .0) .0 refl
+pub unwanted-refused : BodySaysNo emptyLibrary F1 unwanted 2 badStruct (plain 1)
+unwanted-refused = bodies unwanted-promise .refused badStruct (plain 1) (two-accepted .0) .0 refl
 
-work-promise : bodyJudged twoObjects [] (Verdict.the-variants.Refused bufferTooSmall 0)
+work-promise : bodyJudged twoObjects [] (Verdict.the-variants.Refused bufferTooSmall (plain 0))
 unfolding computes
-work-promise = record { answer = refl; rowsAfter = refl; codesAfter = refl; workAfter = refl }
+work-promise = record { answer = refl; rowsAfter = refl; sharedAfter = refl; codesAfter = refl; workAfter = refl }
 
-pub work-short : BodyShort rows codes []
+pub work-short : BodyShort rows shared codes []
 work-short = bodies work-promise .short .0 refl
 
 -- runs
@@ -118,6 +124,7 @@ abbrev memory : RunMemory
 memory =
     record {
       rows = rows;
+      shared = shared;
       codes = codes;
       work = work;
       ends = replicate endsSize 7;
@@ -135,9 +142,10 @@ memory =
 -- memory after a run of so many steps of such a body
 abbrev later : List ℕ → ℕ → RunMemory
 later s budget =
-    let call = runCall F1 s 2 budget memory in
+    let call = runCall emptyLibrary F1 s 2 budget memory in
     record {
       rows = wiped rows;
+      shared = wiped shared;
       codes = wiped codes;
       work = wiped work;
       ends = wiped (memory .ends);
@@ -152,11 +160,12 @@ later s budget =
           };
     }
 
-tried : (s : List ℕ) (budget : ℕ) (r : Ran) → r ≡ ranOf s (runCall F1 s 2 budget memory) → RunTried F1 s 2 budget memory (later s budget) r
+tried : (s : List ℕ) (budget : ℕ) (r : Ran) → r ≡ ranOf s (runCall emptyLibrary F1 s 2 budget memory) → RunTried emptyLibrary F1 s 2 budget memory (later s budget) r
 tried s budget r e =
     record {
       answer = e;
       rowsAfter = refl;
+      sharedAfter = refl;
       codesAfter = refl;
       workAfter = refl;
       endsAfter = refl;
@@ -178,15 +187,15 @@ memory-suffices =
 
 -- done after 3 steps with one result: two objects, as many as allocation steps
 
-two-judged : judgeBody F1 twoObjects 2 ≡ accepted (sample twoObjects)
+two-judged : judgeBody emptyLibrary F1 twoObjects 2 ≡ accepted (sample twoObjects)
 unfolding computes
 two-judged = refl
 
-pub two-can-run : CanRun F1 twoObjects 2 3 (sample twoObjects)
+pub two-can-run : CanRun emptyLibrary F1 twoObjects 2 3 (sample twoObjects)
 unfolding computes
-two-can-run = record { isBody = accepted-body F1 twoObjects 2 two-judged; withinBudget = omega arith; defaults = of-none }
+two-can-run = record { isBody = accepted-body emptyLibrary F1 twoObjects 2 two-judged; withinBudget = omega arith; defaults = of-none }
 
-two-run : RunTried F1 twoObjects 2 3 memory (later twoObjects 3) (Ran.the-variants.Done 3 1)
+two-run : RunTried emptyLibrary F1 twoObjects 2 3 memory (later twoObjects 3) (Ran.the-variants.Done 3 1)
 unfolding computes
 two-run = tried twoObjects 3 _ refl
 
@@ -198,35 +207,95 @@ pub two-stops : Stops 3 (Ran.the-variants.Done 3 1)
 unfolding computes
 two-stops = runs two-run .loopless (sample twoObjects) memory-suffices two-can-run refl (omega arith)
 
--- asking: type 1 of the pair is `4C 00 5F 00`, from byte 7 to byte 11; there is no type 2
+-- asking: a library of one type and a section of one below it. Type 1 is `4F 01 00 5F 00`, from byte 1 to byte 6 of the section; type 0
+-- is `50 00 5F 00`, from byte 1 to byte 5 of the library; there is no type 2
 
-pair-handed : TypeHanded pair 1 rows codes (lentAfter tableRows rows (askTable pair 1 rows codes)) (lentAfter tableCodes codes (askTable pair 1 rows codes)) (0x4C ∷ 0x00 ∷ 0x5F ∷ 0x00 ∷ [])
-unfolding computes
-pair-handed = record { bytes = refl; rowsAfter = refl; codesAfter = refl }
+abbrev openStruct : List ℕ
+openStruct = 0x01 ∷ 0x50 ∷ 0x00 ∷ 0x5F ∷ 0x00 ∷ []
+
+abbrev belowIt : List ℕ
+belowIt = 0x01 ∷ 0x4F ∷ 0x01 ∷ 0x00 ∷ 0x5F ∷ 0x00 ∷ []
+
+abbrev first : Definition
+first = record { isOpen = true; supers = []; describes = none; descriptor = none; form = struct []; from = 1; to = 5; reach = 1 }
 
 abbrev second : Definition
-second = record { isOpen = false; supers = []; describes = some 0; descriptor = none; form = struct []; from = 7; to = 11; reach = 2 }
+second = record { isOpen = false; supers = 0 ∷ []; describes = none; descriptor = none; form = struct []; from = 1; to = 6; reach = 2 }
 
-pair-asked : TypeAsked pair 1 rows codes (lentAfter tableRows rows (askTable pair 1 rows codes)) (lentAfter tableCodes codes (askTable pair 1 rows codes)) (Asked.the-variants.Bytes 7 11)
+abbrev firstAndSecond : Joined
+firstAndSecond = record { before = 1; types = first ∷ second ∷ [] }
+
+both-judged : judgeJoined openStruct belowIt ≡ accepted firstAndSecond
 unfolding computes
-pair-asked = record { answer = refl; rowsAfter = refl; codesAfter = refl }
+both-judged = refl
 
-pair-judged : judgeSection pair ≡ accepted (record { isOpen = false; supers = []; describes = none; descriptor = some 1; form = struct []; from = 3; to = 7; reach = 2 } ∷ second ∷ [])
+abbrev handedOut : ℕ → List ℕ → Type 0
+handedOut x part =
+    let call = askTable openStruct belowIt x rows shared codes in
+    TypeHanded openStruct belowIt x rows shared codes (lentAfter joinedRows rows call) (lentAfter joinedShared shared call) (lentAfter joinedCodes codes call) part
+
+abbrev askedFor : ℕ → Asked → Type 0
+askedFor x r =
+    let call = askTable openStruct belowIt x rows shared codes in
+    TypeAsked openStruct belowIt x rows shared codes (lentAfter joinedRows rows call) (lentAfter joinedShared shared call) (lentAfter joinedCodes codes call) r
+
+first-handed : handedOut 0 (0x50 ∷ 0x00 ∷ 0x5F ∷ 0x00 ∷ [])
 unfolding computes
-pair-judged = refl
+first-handed = record { bytes = refl; rowsAfter = refl; sharedAfter = refl; codesAfter = refl }
 
-pub second-type : TypeOf pair 1 second
-second-type = record { types = _; allowed = accepted-exactly pair _ .0 pair-judged; present = refl }
-
-pub second-written : WritesDefinition 2 7 (0x4C ∷ 0x00 ∷ 0x5F ∷ 0x00 ∷ []) second
-second-written = of-handed pair-handed .writes second (pair-accepted .0) second-type
-
-pub second-lies : LiesIn pair (0x4C ∷ 0x00 ∷ 0x5F ∷ 0x00 ∷ []) 7 11
-second-lies = of-handed pair-handed .lies second (pair-accepted .0) second-type
-
-third-asked : TypeAsked pair 2 rows codes (wiped rows) (wiped codes) (Asked.the-variants.Refused outOfReach 2)
+second-handed : handedOut 1 (0x4F ∷ 0x01 ∷ 0x00 ∷ 0x5F ∷ 0x00 ∷ [])
 unfolding computes
-third-asked = record { answer = refl; rowsAfter = refl; codesAfter = refl }
+second-handed = record { bytes = refl; rowsAfter = refl; sharedAfter = refl; codesAfter = refl }
 
-pub third-refused : AskSaysNo pair 2 rows codes outOfReach 2
-third-refused = of-asked third-asked .refused outOfReach 2 .0 refl
+first-asked : askedFor 0 (Asked.the-variants.Library 1 5)
+unfolding computes
+first-asked = record { answer = refl; rowsAfter = refl; sharedAfter = refl; codesAfter = refl }
+
+second-asked : askedFor 1 (Asked.the-variants.Addon 1 6)
+unfolding computes
+second-asked = record { answer = refl; rowsAfter = refl; sharedAfter = refl; codesAfter = refl }
+
+pub first-type : TypeOf openStruct belowIt 0 true first
+first-type = record { both = firstAndSecond; allowed = accepted-exactly openStruct belowIt firstAndSecond .0 both-judged; present = refl; held = library-holds (omega arith) }
+
+pub second-type : TypeOf openStruct belowIt 1 false second
+second-type = record { both = firstAndSecond; allowed = accepted-exactly openStruct belowIt firstAndSecond .0 both-judged; present = refl; held = addon-holds (omega arith) }
+
+pub first-found : TableSuffices rows shared codes × Lies openStruct belowIt 0 true 1 5
+first-found = of-asked first-asked .inLibrary 1 5 .0 refl
+
+pub second-found : TableSuffices rows shared codes × Lies openStruct belowIt 1 false 1 6
+second-found = of-asked second-asked .inAddon 1 6 .0 refl
+
+pub second-written : WritesDefinition 2 1 (0x4F ∷ 0x01 ∷ 0x00 ∷ 0x5F ∷ 0x00 ∷ []) second
+second-written = of-handed second-handed .writes false second (pair-accepted .0) second-type
+
+pub second-lies : LiesIn belowIt (0x4F ∷ 0x01 ∷ 0x00 ∷ 0x5F ∷ 0x00 ∷ []) 1 6
+second-lies = of-handed second-handed .lies false second (pair-accepted .0) second-type
+
+pub first-lies : LiesIn openStruct (0x50 ∷ 0x00 ∷ 0x5F ∷ 0x00 ∷ []) 1 5
+first-lies = of-handed first-handed .lies true first (pair-accepted .0) first-type
+
+third-asked : askedFor 2 (Asked.the-variants.Refused outOfReach (plain 2))
+unfolding computes
+third-asked = record { answer = refl; rowsAfter = refl; sharedAfter = refl; codesAfter = refl }
+
+pub third-refused : AskSaysNo openStruct belowIt 2 rows shared codes outOfReach (plain 2)
+third-refused = of-asked third-asked .refused outOfReach (plain 2) .0 refl
+
+-- and judging both: the rows tell that the library holds type 0 and the section type 1
+
+abbrev bothRows : List ℕ
+bothRows = lentAfter joinedRows rows (sectionCall openStruct belowIt rows shared codes)
+
+both-promise : SectionJudged openStruct belowIt rows shared codes bothRows (lentAfter joinedShared shared (sectionCall openStruct belowIt rows shared codes)) (lentAfter joinedCodes codes (sectionCall openStruct belowIt rows shared codes)) (Verdict.the-variants.Accepted 2)
+unfolding computes
+both-promise = record { answer = refl; rowsAfter = refl; sharedAfter = refl; codesAfter = refl }
+
+pub first-told : RowTells bothRows firstAndSecond 0
+unfolding first-type
+first-told = sections both-promise .tells firstAndSecond (pair-accepted .0) (first-type .allowed) 0 (omega arith)
+
+pub second-told : RowTells bothRows firstAndSecond 1
+unfolding first-type
+second-told = sections both-promise .tells firstAndSecond (pair-accepted .0) (first-type .allowed) 1 (omega arith)

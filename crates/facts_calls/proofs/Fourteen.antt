@@ -4,7 +4,8 @@ use native.Mathlib.Omega.{arith}
 use mathlib.Core.Path.{_≡_, refl}
 use mathlib.Core.List.{List}
 use Rattle.scope.specs.Refusals.{bufferTooSmall}
-use Rattle.scope.specs.Judging.{rejected, judgeSection}
+use Rattle.scope.specs.declared.Place.{Place}
+use Rattle.scope.specs.Judging.{rejected, judgeJoined}
 use Rattle.scope.specs.Bodies.{judgeBody}
 use Rattle.facts_refusals.specs.Numbers.{ByteFault, is-bytes-end, is-bad-number, is-not-listed, is-oversize, is-left-over, is-padded, RuleFault, is-out-of-reach, is-bad-supertype, is-long-chain, is-no-match, is-clause-not-on-struct, is-describes-not-earlier, is-clauses-disagree, is-bad-descriptor, is-bad-describes, InstructionFault, type-out-of-reach, is-absent, is-bad-struct, is-field-fixed, is-bad-branch, is-no-default, is-not-set, is-only-null, is-bad-operand, is-values-left, is-too-many, EntryNumber, entry-out-of-reach, entry-too-many}
 use Rattle.facts_refusals.specs.Sections as sections
@@ -51,11 +52,13 @@ entry-fault : {n : ℕ} → EntryNumber n → ¬ Fourteen n
 entry-fault entry-out-of-reach e = omega arith
 entry-fault entry-too-many e = omega arith
 
-section-fault : {s : List ℕ} {n p : ℕ} → sections.SaysNo s n p → ¬ Fourteen n
-section-fault (sections.of-bytes unwritten fault inside) = byte-fault fault
-section-fault (sections.of-rules writes sizes first fault inside) = rule-fault fault
+section-fault : {library s : List ℕ} {n : ℕ} {p : Place} → sections.SaysNo library s n p → ¬ Fourteen n
+section-fault (sections.of-library-bytes unwritten fault inside) = byte-fault fault
+section-fault (sections.of-library-rules section first fault inside) = rule-fault fault
+section-fault (sections.of-bytes shared unwritten fault inside) = byte-fault fault
+section-fault (sections.of-rules shared section first fault own inside) = rule-fault fault
 
-body-fault : {section s : List ℕ} {x n p : ℕ} → bodies.BodyPlace section s x n p → ¬ Fourteen n
+body-fault : {library section s : List ℕ} {x n : ℕ} {p : Place} → bodies.BodyPlace library section s x n p → ¬ Fourteen n
 body-fault (bodies.of-section no′) = section-fault no′
 body-fault bodies.of-whole-size = λ e. omega arith
 body-fault bodies.of-type-number = λ e. omega arith
@@ -63,8 +66,8 @@ body-fault (bodies.of-bytes fault inside) = byte-fault fault
 body-fault (bodies.of-entry fault inside) = entry-fault fault
 body-fault (bodies.of-instruction fault read) = instruction-fault fault
 
-pub section-never-14 : (s : List ℕ) (p : ℕ) → judgeSection s ≡ rejected bufferTooSmall p → ⊥
-section-never-14 s p e = section-fault (says-no s bufferTooSmall p e) refl
+pub section-never-14 : (library s : List ℕ) (p : Place) → judgeJoined library s ≡ rejected bufferTooSmall p → ⊥
+section-never-14 library s p e = section-fault (says-no library s bufferTooSmall p e) refl
 
-pub body-never-14 : (section s : List ℕ) (x p : ℕ) → judgeBody section s x ≡ rejected bufferTooSmall p → ⊥
-body-never-14 section s x p e = body-fault (body-refusals .places section s x bufferTooSmall p e) refl
+pub body-never-14 : (library section s : List ℕ) (x : ℕ) (p : Place) → judgeBody library section s x ≡ rejected bufferTooSmall p → ⊥
+body-never-14 library section s x p e = body-fault (body-refusals .places library section s x bufferTooSmall p e) refl

@@ -13,17 +13,17 @@ use Rattle.facts_calls.proofs.OfAsked.{of-asked, of-handed}
 use Rattle.facts_calls.proofs.OfBody.{of-body}
 use Rattle.facts_calls.proofs.OfRun.{of-run}
 
-pub sections : {s rows codes rows′ codes′ : List ℕ} {r : Verdict} (promise : SectionJudged s rows codes rows′ codes′ r) → OfSection promise
+pub sections : {library s rows shared codes rows′ shared′ codes′ : List ℕ} {r : Verdict} (promise : SectionJudged library s rows shared codes rows′ shared′ codes′ r) → OfSection promise
 sections promise = of-section promise
 
-pub asked : {s : List ℕ} {x : ℕ} {rows codes rows′ codes′ : List ℕ} {r : Asked} (promise : TypeAsked s x rows codes rows′ codes′ r) → OfAsked promise
+pub asked : {library s : List ℕ} {x : ℕ} {rows shared codes rows′ shared′ codes′ : List ℕ} {r : Asked} (promise : TypeAsked library s x rows shared codes rows′ shared′ codes′ r) → OfAsked promise
 asked promise = of-asked promise
 
-pub handed : {s : List ℕ} {x : ℕ} {rows codes rows′ codes′ part : List ℕ} (promise : TypeHanded s x rows codes rows′ codes′ part) → OfHanded promise
+pub handed : {library s : List ℕ} {x : ℕ} {rows shared codes rows′ shared′ codes′ part : List ℕ} (promise : TypeHanded library s x rows shared codes rows′ shared′ codes′ part) → OfHanded promise
 handed promise = of-handed promise
 
-pub bodies : {section s : List ℕ} {x : ℕ} {rows codes work rows′ codes′ work′ : List ℕ} {r : Verdict} (promise : BodyJudged section s x rows codes work rows′ codes′ work′ r) → OfBody promise
+pub bodies : {library section s : List ℕ} {x : ℕ} {rows shared codes work rows′ shared′ codes′ work′ : List ℕ} {r : Verdict} (promise : BodyJudged library section s x rows shared codes work rows′ shared′ codes′ work′ r) → OfBody promise
 bodies promise = of-body promise
 
-pub runs : {section s : List ℕ} {x budget : ℕ} {m m′ : RunMemory} {r : Ran} (promise : RunTried section s x budget m m′ r) → OfRun promise
+pub runs : {library section s : List ℕ} {x budget : ℕ} {m m′ : RunMemory} {r : Ran} (promise : RunTried library section s x budget m m′ r) → OfRun promise
 runs promise = of-run promise

@@ -11,7 +11,7 @@ use Rattle.scope.specs.Layout.{rowsSize, codesSize, workSize, endsSize, countsS
 use Rattle.scope.specs.Memory.{StateWords}
 use Rattle.scope.specs.Answers.{holds, tableLent, stateLent, runLent, RunMemory}
 use Rattle.scope.proofs.Truths.{both, from-both}
-use Rattle.facts_calls.specs.Lent.{Fits, Under, TableSuffices, TableShort, rows-under, codes-under, BodySuffices, BodyShort, table-short, work-under, StateSuffices, StateShort, counts-under, objects-under, cells-under, locals-under, operands-under, blocks-under, RunSuffices, RunShort, body-short, ends-under, state-short}
+use Rattle.facts_calls.specs.Lent.{Fits, Under, TableSuffices, TableShort, rows-under, shared-under, codes-under, BodySuffices, BodyShort, table-short, work-under, StateSuffices, StateShort, counts-under, objects-under, cells-under, locals-under, operands-under, blocks-under, RunSuffices, RunShort, body-short, ends-under, state-short}
 
 from-neither : (a b : Bool) → a && b ≡ false → (a ≡ false) ⊎ (b ≡ false)
 from-neither true b e = inr e
@@ -50,43 +50,50 @@ undered size buffer h = go (holds size buffer) refl
 
 -- the table
 
-module _ {rows codes : List ℕ} where
-  pub table-suffices : tableLent rows codes ≡ true → TableSuffices rows codes
-  table-suffices e = let (a, b) = from-both _ _ e in record { rowsFit = fits rowsSize rows a; codesFit = fits codesSize codes b }
+-- the first two of its tests
+abbrev two-tests : List ℕ → List ℕ → Bool
+two-tests rows shared = holds rowsSize rows && holds codesSize shared
 
-  pub table-lent : TableSuffices rows codes → tableLent rows codes ≡ true
-  table-lent t = both (fitted rowsSize rows (t .rowsFit)) (fitted codesSize codes (t .codesFit))
+module _ {rows shared codes : List ℕ} where
+  pub table-suffices : tableLent rows shared codes ≡ true → TableSuffices rows shared codes
+  table-suffices e =
+      let (of-two, c) = from-both (two-tests rows shared) (holds codesSize codes) e in
+      let (a, b) = from-both (holds rowsSize rows) (holds codesSize shared) of-two in
+      record { rowsFit = fits rowsSize rows a; sharedFit = fits codesSize shared b; codesFit = fits codesSize codes c }
 
-  pub table-is-short : tableLent rows codes ≡ false → TableShort rows codes
-  table-is-short e = go (from-neither _ _ e)
-    where
-      go : (holds rowsSize rows ≡ false) ⊎ (holds codesSize codes ≡ false) → TableShort rows codes
-      go (inl a) = rows-under (under rowsSize rows a)
-      go (inr b) = codes-under (under codesSize codes b)
+  pub table-lent : TableSuffices rows shared codes → tableLent rows shared codes ≡ true
+  table-lent t = both (both (fitted rowsSize rows (t .rowsFit)) (fitted codesSize shared (t .sharedFit))) (fitted codesSize codes (t .codesFit))
 
-  pub short-table : TableShort rows codes → tableLent rows codes ≡ false
-  short-table (rows-under a) = first-fails _ (undered rowsSize rows a)
-  short-table (codes-under b) = second-fails (holds rowsSize rows) (undered codesSize codes b)
+  pub table-is-short : tableLent rows shared codes ≡ false → TableShort rows shared codes
+  table-is-short e =
+      either (two-tests rows shared) (holds codesSize codes) e (λ of-two.
+      either (holds rowsSize rows) (holds codesSize shared) of-two (λ a. rows-under (under rowsSize rows a)) (λ a. shared-under (under codesSize shared a)))
+      (λ a. codes-under (under codesSize codes a))
+
+  pub short-table : TableShort rows shared codes → tableLent rows shared codes ≡ false
+  short-table (rows-under a) = first-fails _ (first-fails (holds codesSize shared) (undered rowsSize rows a))
+  short-table (shared-under a) = first-fails _ (second-fails (holds rowsSize rows) (undered codesSize shared a))
+  short-table (codes-under a) = second-fails (two-tests rows shared) (undered codesSize codes a)
 
 -- a body's
 
-module _ {rows codes work : List ℕ} where
-  pub body-suffices : tableLent rows codes && holds workSize work ≡ true → BodySuffices rows codes work
+module _ {rows shared codes work : List ℕ} where
+  pub body-suffices : tableLent rows shared codes && holds workSize work ≡ true → BodySuffices rows shared codes work
   body-suffices e = let (a, b) = from-both _ _ e in record { table = table-suffices a; workFits = fits workSize work b }
 
-  pub body-lent : BodySuffices rows codes work → tableLent rows codes && holds workSize work ≡ true
+  pub body-lent : BodySuffices rows shared codes work → tableLent rows shared codes && holds workSize work ≡ true
   body-lent t = both (table-lent (t .table)) (fitted workSize work (t .workFits))
 
-  pub body-is-short : tableLent rows codes && holds workSize work ≡ false → BodyShort rows codes work
+  pub body-is-short : tableLent rows shared codes && holds workSize work ≡ false → BodyShort rows shared codes work
   body-is-short e = go (from-neither _ _ e)
     where
-      go : (tableLent rows codes ≡ false) ⊎ (holds workSize work ≡ false) → BodyShort rows codes work
+      go : (tableLent rows shared codes ≡ false) ⊎ (holds workSize work ≡ false) → BodyShort rows shared codes work
       go (inl a) = table-short (table-is-short a)
       go (inr b) = work-under (under workSize work b)
 
-  pub short-body : BodyShort rows codes work → tableLent rows codes && holds workSize work ≡ false
+  pub short-body : BodyShort rows shared codes work → tableLent rows shared codes && holds workSize work ≡ false
   short-body (table-short a) = first-fails _ (short-table a)
-  short-body (work-under b) = second-fails (tableLent rows codes) (undered workSize work b)
+  short-body (work-under b) = second-fails (tableLent rows shared codes) (undered workSize work b)
 
 -- a run's
 
@@ -155,7 +162,7 @@ module _ (w : StateWords) where
 
 module _ (m : RunMemory) where
   abbrev body-test : Bool
-  body-test = tableLent (m .rows) (m .codes) && holds workSize (m .work)
+  body-test = tableLent (m .rows) (m .shared) (m .codes) && holds workSize (m .work)
 
   pub run-suffices : runLent m ≡ true → RunSuffices m
   run-suffices e =

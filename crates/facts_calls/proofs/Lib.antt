@@ -6,6 +6,7 @@ pub mod OfSection
 pub mod OfBody
 pub mod OfRun
 pub mod VeryBytes
+pub mod RowTells
 pub mod OfAsked
 pub mod Holds
 pub mod Examples

@@ -14,7 +14,8 @@ use Rattle.scope.specs.declared.Ran
 use Rattle.scope.specs.Sizes.{mostBudget}
 use Rattle.scope.specs.Refusals.{bufferTooSmall, oversize, noDefault}
 use Rattle.scope.specs.Lists.{every}
-use Rattle.scope.specs.Judging.{Judged, accepted, rejected, andThen}
+use Rattle.scope.specs.declared.Place.{Place}
+use Rattle.scope.specs.Judging.{plain, Judged, accepted, rejected, andThen}
 use Rattle.scope.specs.BodyRules.{hasDefault}
 use Rattle.scope.specs.Bodies.{Body, instructions, judgeBody}
 use Rattle.scope.specs.Machine.{Machine}
@@ -40,39 +41,39 @@ use Rattle.facts_calls.proofs.Fourteen.{body-never-14}
 
 -- the verdict on a run
 
-module _ (section s : List ℕ) (x budget : ℕ) where
-  pub can-run : {b : Body} → CanRun section s x budget b → trialRun section s x budget ≡ accepted (trialOf b budget)
+module _ (library section s : List ℕ) (x budget : ℕ) where
+  pub can-run : {b : Body} → CanRun library section s x budget b → trialRun library section s x budget ≡ accepted (trialOf b budget)
   unfolding trialRun
-  can-run c = rw (body-accepted section s x (c .isBody), le-ltb _ _ (c .withinBudget), defaults-tested (c .defaults))
+  can-run c = rw (body-accepted library section s x (c .isBody), le-ltb _ _ (c .withinBudget), defaults-tested (c .defaults))
 
-  runs : {b : Body} → CanRun section s x budget b → Runs section s x b
-  runs c = record { isAccepted = body-accepted section s x (c .isBody); defaults = defaults-tested (c .defaults) }
+  runs : {b : Body} → CanRun library section s x budget b → Runs library section s x b
+  runs c = record { isAccepted = body-accepted library section s x (c .isBody); defaults = defaults-tested (c .defaults) }
 
-  rejected-one : {n p k q : ℕ} → _≡_ {A = Judged Trial} (rejected n p) (rejected k q) → (n ≡ k) × (p ≡ q)
+  rejected-one : {n k : ℕ} {p q : Place} → _≡_ {A = Judged Trial} (rejected n p) (rejected k q) → (n ≡ k) × (p ≡ q)
   rejected-one e = (cc, cc)
 
-  as-said : {n p k q : ℕ} → RunSaysNo section s x budget n p → n ≡ k → p ≡ q → RunSaysNo section s x budget k q
+  as-said : {n k : ℕ} {p q : Place} → RunSaysNo library section s x budget n p → n ≡ k → p ≡ q → RunSaysNo library section s x budget k q
   as-said no′ a b = rw (← a, ← b) no′
 
-  module _ {number place : ℕ} where
-    parameters-no : {b : Body} → IsBody section s x b → budget ≤ mostBudget → (t : Bool) → every hasDefault (b .function .parameters) ≡ t
-        → cond t (accepted (trialOf b budget)) (rejected noDefault 0) ≡ rejected number place → RunSaysNo section s x budget number place
+  module _ {number : ℕ} {place : Place} where
+    parameters-no : {b : Body} → IsBody library section s x b → budget ≤ mostBudget → (t : Bool) → every hasDefault (b .function .parameters) ≡ t
+        → cond t (accepted (trialOf b budget)) (rejected noDefault (plain 0)) ≡ rejected number place → RunSaysNo library section s x budget number place
     parameters-no is small true e f = absurd (accepted-is-not-rejected f)
     parameters-no is small false e f =
         let (a, b) = rejected-one f in
         as-said (by-parameters is small (λ ds. false≢true (sym e ∙ defaults-tested ds))) a b
 
-    budget-no : {b : Body} → IsBody section s x b → (t : Bool) → ltb mostBudget budget ≡ t → cond t (rejected oversize 0) (withParameters b budget) ≡ rejected number place → RunSaysNo section s x budget number place
+    budget-no : {b : Body} → IsBody library section s x b → (t : Bool) → ltb mostBudget budget ≡ t → cond t (rejected oversize (plain 0)) (withParameters b budget) ≡ rejected number place → RunSaysNo library section s x budget number place
     budget-no is true e f = let (a, b) = rejected-one f in as-said (by-budget is (ltb-true _ _ e)) a b
     budget-no {b} is false e f = parameters-no is (ltb-false _ _ e) (every hasDefault (b .function .parameters)) refl f
 
-    run-no : trialRun section s x budget ≡ rejected number place → RunSaysNo section s x budget number place
+    run-no : trialRun library section s x budget ≡ rejected number place → RunSaysNo library section s x budget number place
     unfolding trialRun
-    run-no e = go (judgeBody section s x) refl e
+    run-no e = go (judgeBody library section s x) refl e
       where
-        go : (j : Judged Body) → judgeBody section s x ≡ j → andThen j (λ b. cond (ltb mostBudget budget) (rejected oversize 0) (withParameters b budget)) ≡ rejected number place → RunSaysNo section s x budget number place
-        go (rejected n p) judged f = let (a, b) = rejected-one f in as-said (by-body (body-no section s x judged)) a b
-        go (accepted b) judged f = budget-no (accepted-body section s x judged) (ltb mostBudget budget) refl f
+        go : (j : Judged Body) → judgeBody library section s x ≡ j → andThen j (λ b. cond (ltb mostBudget budget) (rejected oversize (plain 0)) (withParameters b budget)) ≡ rejected number place → RunSaysNo library section s x budget number place
+        go (rejected n p) judged f = let (a, b) = rejected-one f in as-said (by-body (body-no library section s x judged)) a b
+        go (accepted b) judged f = budget-no (accepted-body library section s x judged) (ltb mostBudget budget) refl f
 
   no-defaults : (b : Body) → ¬ Each Default (b .function .parameters) → every hasDefault (b .function .parameters) ≡ false
   no-defaults b none-there = go (every hasDefault (b .function .parameters)) refl
@@ -81,17 +82,17 @@ module _ (section s : List ℕ) (x budget : ℕ) where
       go true e = absurd (none-there (tested-defaults _ e))
       go false e = refl
 
-  no-run : {number place : ℕ} → RunSaysNo section s x budget number place → trialRun section s x budget ≡ rejected number place
+  no-run : {number : ℕ} {place : Place} → RunSaysNo library section s x budget number place → trialRun library section s x budget ≡ rejected number place
   unfolding trialRun
-  no-run (by-body no′) = rw (no-body section s x no′)
-  no-run (by-budget is large) = rw (body-accepted section s x is, lt-ltb _ _ large)
-  no-run (by-parameters {b = b} is small none-there) = rw (body-accepted section s x is, le-ltb _ _ small, no-defaults b none-there)
+  no-run (by-body no′) = rw (no-body library section s x no′)
+  no-run (by-budget is large) = rw (body-accepted library section s x is, lt-ltb _ _ large)
+  no-run (by-parameters {b = b} is small none-there) = rw (body-accepted library section s x is, le-ltb _ _ small, no-defaults b none-there)
 
-  run-never-14 : (place : ℕ) → trialRun section s x budget ≡ rejected bufferTooSmall place → ⊥
+  run-never-14 : (place : Place) → trialRun library section s x budget ≡ rejected bufferTooSmall place → ⊥
   run-never-14 place e = go (run-no e) refl
     where
-      go : {n p : ℕ} → RunSaysNo section s x budget n p → n ≡ bufferTooSmall → ⊥
-      go (by-body {place = p} no′) q = body-never-14 section s x p (rw q at (no-body section s x no′))
+      go : {n : ℕ} {p : Place} → RunSaysNo library section s x budget n p → n ≡ bufferTooSmall → ⊥
+      go (by-body {place = p} no′) q = body-never-14 library section s x p (rw q at (no-body library section s x no′))
       go (by-budget is large) q = omega arith
       go (by-parameters is small none-there) q = omega arith
 
@@ -107,37 +108,37 @@ second-count : (s : List ℕ) (m : Machine) (buffer : List ℕ) → getElem? (fi
 unfolding stateWords
 second-count s m buffer = refl
 
-module _ {section s : List ℕ} {x budget : ℕ} {m m′ : RunMemory} {r : Ran} (promise : RunTried section s x budget m m′ r) where
-  own-call : RunSuffices m → runCall section s x budget m ≡ trialRun section s x budget
-  own-call t = lent-call (runLent m) (trialRun section s x budget) (run-lent m t)
+module _ {library section s : List ℕ} {x budget : ℕ} {m m′ : RunMemory} {r : Ran} (promise : RunTried library section s x budget m m′ r) where
+  own-call : RunSuffices m → runCall library section s x budget m ≡ trialRun library section s x budget
+  own-call t = lent-call (runLent m) (trialRun library section s x budget) (run-lent m t)
 
-  called : {b : Body} → RunSuffices m → CanRun section s x budget b → runCall section s x budget m ≡ accepted (trialOf b budget)
-  called t c = own-call t ∙ can-run section s x budget c
+  called : {b : Body} → RunSuffices m → CanRun library section s x budget b → runCall library section s x budget m ≡ accepted (trialOf b budget)
+  called t c = own-call t ∙ can-run library section s x budget c
 
-  said : {number place : ℕ} → r ≡ Ran.the-variants.Refused number place → runCall section s x budget m ≡ rejected number place
-  said e = ran-no s (runCall section s x budget m) (sym (promise .answer) ∙ e)
+  said : {number : ℕ} {place : Place} → r ≡ Ran.the-variants.Refused number place → runCall library section s x budget m ≡ rejected number place
+  said e = ran-no s (runCall library section s x budget m) (sym (promise .answer) ∙ e)
 
-  says : {number place : ℕ} → runCall section s x budget m ≡ rejected number place → r ≡ Ran.the-variants.Refused number place
+  says : {number : ℕ} {place : Place} → runCall library section s x budget m ≡ rejected number place → r ≡ Ran.the-variants.Refused number place
   says e = promise .answer ∙ ap (ranOf s) e
 
-  fourteen : (place : ℕ) → r ≡ Ran.the-variants.Refused bufferTooSmall place → RunShort m × (place ≡ 0)
+  fourteen : (place : Place) → r ≡ Ran.the-variants.Refused bufferTooSmall place → RunShort m × (place ≡ plain 0)
   fourteen place e =
-      lent-no (runLent m) (trialRun section s x budget) (said e)
+      lent-no (runLent m) (trialRun library section s x budget) (said e)
       (λ short at. (run-is-short m short, at))
-      (λ suffices no′. absurd (run-never-14 section s x budget place no′))
+      (λ suffices no′. absurd (run-never-14 library section s x budget place no′))
 
-  module _ (b : Body) (t : RunSuffices m) (c : CanRun section s x budget b) where
+  module _ (b : Body) (t : RunSuffices m) (c : CanRun library section s x budget b) where
     abbrev ending : Ending
     ending = run (programOf b) budget 0 (startOf b)
 
-    held : (part : StateWords → List ℕ) → stateAfter s part m (runCall section s x budget m) ≡ filled (part (m .state)) (part (stateWords s (machineOf ending)))
+    held : (part : StateWords → List ℕ) → stateAfter s part m (runCall library section s x budget m) ≡ filled (part (m .state)) (part (stateWords s (machineOf ending)))
     held part = ap (stateAfter s part m) (called t c)
 
     ran-soundly : RanSoundly s b budget m m′ r
     ran-soundly =
         record {
           ending = ending;
-          endsWell = soundness .ended (runs section s x budget c) budget;
+          endsWell = soundness .ended (runs library section s x budget c) budget;
           answer = promise .answer ∙ ap (ranOf s) (called t c);
           counts = promise .counts ∙ held (λ w. w .counts);
           objects = promise .objects ∙ held (λ w. w .objects);
@@ -157,11 +158,11 @@ module _ {section s : List ℕ} {x budget : ℕ} {m m′ : RunMemory} {r : Ran} 
     without-loop : hasLoop (b .code) ≡ false → instructions b ≤ budget → Stops (instructions b) r
     unfolding ran-soundly run
     without-loop free enough =
-        let judged = body-accepted section s x (c .isBody) in
-        let all = stopped s ending (ran-soundly .endsWell) (loopless-stops section s x judged free budget enough) (loopless-steps section s x judged free budget) in
+        let judged = body-accepted library section s x (c .isBody) in
+        let all = stopped s ending (ran-soundly .endsWell) (loopless-stops library section s x judged free budget enough) (loopless-steps library section s x judged free budget) in
         rw (ran-soundly .answer) all
 
-  all-wiped : {number place : ℕ} → runCall section s x budget m ≡ rejected number place → Wiped (m .state) (m′ .state)
+  all-wiped : {number : ℕ} {place : Place} → runCall library section s x budget m ≡ rejected number place → Wiped (m .state) (m′ .state)
   all-wiped e =
       record {
         counts = promise .counts ∙ ap (stateAfter s (λ w. w .counts) m) e;
@@ -179,9 +180,9 @@ module _ {section s : List ℕ} {x budget : ℕ} {m m′ : RunMemory} {r : Ran} 
         objects = objects-made;
         loopless = without-loop;
         never = λ b number place t c e. accepted-is-not-rejected (sym (called t c) ∙ said e);
-        short = (λ e. fourteen 0 e .0, λ t. says (short-call (runLent m) (trialRun section s x budget) (short-run m t)));
+        short = (λ e. fourteen (plain 0) e .0, λ t. says (short-call (runLent m) (trialRun library section s x budget) (short-run m t)));
         only = fourteen;
-        refused = λ number place t. (λ e. run-no section s x budget (sym (own-call t) ∙ said e), λ e. says (own-call t ∙ no-run section s x budget e));
+        refused = λ number place t. (λ e. run-no library section s x budget (sym (own-call t) ∙ said e), λ e. says (own-call t ∙ no-run library section s x budget e));
         wipes = λ number place e. all-wiped (said e);
-        scratch = (promise .rowsAfter, promise .codesAfter, promise .workAfter, promise .endsAfter);
+        scratch = (promise .rowsAfter, promise .sharedAfter, promise .codesAfter, promise .workAfter, promise .endsAfter);
       }

@@ -9,7 +9,7 @@ use lib.ListN.{length}
 use borrow.Author.Tests.{eq-eqb, le-ltb}
 use Rattle.scope.specs.Reading.{got, refused, then}
 use Rattle.scope.specs.Syntax.{Val, Definition, typesOf}
-use Rattle.scope.specs.Judging.{accepted, judgeSection}
+use Rattle.scope.specs.Judging.{accepted, judgeJoined, judgeSections}
 use Rattle.scope.specs.Instructions.{Instr, instrAt}
 use Rattle.scope.specs.BodyRules.{Context, Ruled, allowed, fault}
 use Rattle.scope.specs.Bodies.{State, Next, goesOn, finished, judgeInstr, Code, onRuled, onNext, judgeFrom, Function, Body, startState, contextOf, bodyAt, judgeBody}
@@ -73,17 +73,17 @@ placed-once {s} {at} {end = end} (next-placed {next = next} {i = i} {code = code
 
 -- both ways
 
-module _ (section s : List ℕ) (x : ℕ) where
-  module _ {ds : List Definition} (judged : judgeSection section ≡ accepted ds) {f : Function} {ls : List Val} {is : List Instr} (d : Derivation ds x s f ls is) where
+module _ (library section s : List ℕ) (x : ℕ) where
+  module _ {many : ℕ} {ds : List Definition} (judged : judgeJoined library section ≡ accepted (record { before = many; types = ds })) {f : Function} {ls : List Val} {is : List Instr} (d : Derivation ds x s f ls is) where
     ordered : Ordered (typesOf ds)
-    ordered = passes-ordered (accepted-passes section judged)
+    ordered = passes-ordered (accepted-passes library section judged)
 
     -- the body of a derivation
     pub derived-body : (code : Code)
-        × (judgeBody section s x ≡ accepted (record { types = ds; function = f; locals = ls; code = code }))
+        × (judgeBody library section s x ≡ accepted (record { types = ds; function = f; locals = ls; code = code }))
         × Placed s (d .written .first) code (length s)
         × (instructionsOf code ≡ is)
-    unfolding judgeBody bodyAt
+    unfolding judgeBody judgeSections bodyAt
     derived-body =
         let (code, walk, same) = typed-got (contextOf ds f ls) ordered s (length s) (from-start ds ordered s d) (d .written .instructions) (omega arith) in (
           code,
@@ -92,24 +92,25 @@ module _ (section s : List ℕ) (x : ℕ) where
           same,
         )
 
-  pub accepted-body : {b : Body} → judgeBody section s x ≡ accepted b → IsBody section s x b
+  pub accepted-body : {b : Body} → judgeBody library section s x ≡ accepted b → IsBody library section s x b
   accepted-body {b} e =
-      let (ds, judged) = section-accepted section s x e in
-      let d = accepted-is-derived section s x judged e in
+      let (j, judged) = section-accepted library section s x e in
+      let d = accepted-is-derived library section s x judged e in
       let (code, verdict, placed, same) = derived-body judged d in
       let one = same-body verdict e in
-      subst (IsBody section s x) one (record {
-        allowed = accepted-exactly section ds .0 judged;
-        derivation = subst (Derivation ds x s (b .function) (b .locals)) (sym same) d;
+      subst (IsBody library section s x) one (record {
+        before = j .before;
+        allowed = accepted-exactly library section j .0 judged;
+        derivation = subst (Derivation (j .types) x s (b .function) (b .locals)) (sym same) d;
         placed = placed;
       })
 
-  pub body-accepted : {b : Body} → IsBody section s x b → judgeBody section s x ≡ accepted b
+  pub body-accepted : {b : Body} → IsBody library section s x b → judgeBody library section s x ≡ accepted b
   body-accepted {b} is =
-      let judged = accepted-exactly section (b .types) .1 (is .allowed) in
+      let judged = accepted-exactly library section _ .1 (is .allowed) in
       let (code, verdict, placed, same) = derived-body judged (is .derivation) in
       let one : code ≡ b .code = placed-once placed (is .placed) same in
       verdict ∙ ap (λ (c : Code). accepted (record { types = b .types; function = b .function; locals = b .locals; code = c })) one
 
-  pub accepted-exactly-body : (b : Body) → (judgeBody section s x ≡ accepted b) ↔ IsBody section s x b
+  pub accepted-exactly-body : (b : Body) → (judgeBody library section s x ≡ accepted b) ↔ IsBody library section s x b
   accepted-exactly-body b = (accepted-body, body-accepted)

@@ -1,19 +1,22 @@
 -- Where a definition's bytes lie. A section is written as its groups one after the other, a group as its definitions one after
 -- the other; so the writing of each definition is a stretch of the section, and it begins where the definition says. The part
 -- that is cut out between the two places is that stretch.
-use Prim.Native.Nat.{ℕ, zero, suc, _+_, _-_}
+use Prim.Native.Nat.{ℕ, zero, suc, _+_, _-_, _*_, _<_, _≤_}
 use native.Mathlib.Omega.{arith}
 use native.Mathlib.Nat.{zero-add, suc-add}
 use mathlib.Core.Path.{_≡_, refl, sym, _∙_, ap}
 use mathlib.Core.Logic.{_⊎_, inl, inr}
+use mathlib.Core.Bool.{true, false}
 use mathlib.Core.Option.{some}
 use mathlib.Core.List.{List, [], _∷_, _++_, List·Memᴰ, List·Memᴰ·head, List·Memᴰ·tail}
 use lib.ListN.{length, take, drop, getElem?}
+use lib.Dec.{ltb}
+use borrow.Author.Tests.{ltb-true, ltb-false}
 use Rattle.scope.specs.Lists.{joined}
 use Rattle.scope.specs.Layout.{rowSpan}
 use Rattle.scope.specs.Syntax.{Form, struct, func, Definition, Group, superOf}
-use Rattle.scope.specs.Memory.{flag, orZero, formWords, rowWords, rowsFrom, formCodes}
-use Rattle.scope.proofs.Truths.{none-is-not-some}
+use Rattle.scope.specs.Memory.{flag, orZero, formWords, spareWords, rowWords, rowsFrom, formCodes}
+use Rattle.scope.proofs.Truths.{none-is-not-some, decided}
 use Rattle.facts_sections.specs.Writing.{Entries, an-entry, count-and-entries, WritesDefinition, a-definition, WritesGroup, several, alone, WritesGroups, a-group, WritesSection, a-section}
 use Rattle.facts_calls.specs.Asked.{LiesIn, beginsAt, endsAt}
 
@@ -33,7 +36,7 @@ append-nil : {A : Type 0} (xs : List A) → xs ++ [] ≡ xs
 append-nil [] = refl
 append-nil (x ∷ xs) = rw (append-nil xs)
 
-append-append : {A : Type 0} (xs ys zs : List A) → (xs ++ ys) ++ zs ≡ xs ++ (ys ++ zs)
+pub append-append : {A : Type 0} (xs ys zs : List A) → (xs ++ ys) ++ zs ≡ xs ++ (ys ++ zs)
 append-append [] ys zs = refl
 append-append (x ∷ xs) ys zs = rw (append-append xs ys zs)
 
@@ -108,7 +111,7 @@ in-groups {at = at} {d = d} (a-group {w = w} {u = u} {g = g} {gs = gs} this late
     go (inl p) more = put-behind u (in-group this p)
     go (inr q) more = put-before w (more q)
 
-in-section : {s : List ℕ} {gs : List Group} {d : Definition} → WritesSection s gs → List·Memᴰ d (joined gs) → Written 0 s d
+in-section : {first : ℕ} {s : List ℕ} {gs : List Group} {d : Definition} → WritesSection first s gs → List·Memᴰ d (joined gs) → Written 0 s d
 in-section (a-section {w = w} number groups) m = put-before w (rw zero-add (in-groups groups m))
 
 -- the part that is cut out
@@ -134,7 +137,7 @@ pub record Handed (s : List ℕ) (d : Definition) : Type 0 where
   pub lies : LiesIn s part (d .from) (d .to)
   pub writes : WritesDefinition (d .reach) (d .from) part d
 
-pub handed : {s : List ℕ} {gs : List Group} {d : Definition} → WritesSection s gs → List·Memᴰ d (joined gs) → Handed s d
+pub handed : {first : ℕ} {s : List ℕ} {gs : List Group} {d : Definition} → WritesSection first s gs → List·Memᴰ d (joined gs) → Handed s d
 handed section m =
     let w = in-section section m in
     record {
@@ -145,12 +148,12 @@ handed section m =
 
 -- the table's words
 
-further : {A : Type 0} (xs ys : List A) (k : ℕ) → getElem? (xs ++ ys) (length xs + k) ≡ getElem? ys k
+pub further : {A : Type 0} (xs ys : List A) (k : ℕ) → getElem? (xs ++ ys) (length xs + k) ≡ getElem? ys k
 further [] ys k = rw zero-add
 further (x ∷ xs) ys k = rw suc-add (further xs ys k)
 
 -- what stands in a row behind the words of its form
-abbrev behindForm : ℕ → Definition → List ℕ
+abbrev pub behindForm : ℕ → Definition → List ℕ
 behindForm first d =
     flag (d .isOpen)
     ∷ orZero (superOf d)
@@ -161,9 +164,9 @@ behindForm first d =
     ∷ d .reach
     ∷ first
     ∷ (length (d .supers) - 1)
-    ∷ []
+    ∷ spareWords
 
-row-length : (first : ℕ) (d : Definition) → length (rowWords first d) ≡ rowSpan
+pub row-length : (first : ℕ) (d : Definition) → length (rowWords first d) ≡ rowSpan
 unfolding rowWords
 row-length first d = go (d .form)
   where
@@ -195,3 +198,47 @@ rows-say (d ∷ ds) first (suc x) more {d = it} e =
       ap (getElem? ((rowWords first d ++ rest) ++ more)) begins ∙ rw (append-append (rowWords first d) rest more) (further (rowWords first d) (rest ++ more) (beginsAt x)) ∙ a,
       ap (getElem? ((rowWords first d ++ rest) ++ more)) ends ∙ rw (append-append (rowWords first d) rest more) (further (rowWords first d) (rest ++ more) (endsAt x)) ∙ b,
     )
+
+-- the rows of both sections
+
+pub rows-length : (ds : List Definition) (first : ℕ) → length (rowsFrom first ds) ≡ length ds * rowSpan
+unfolding rowsFrom
+rows-length [] first = refl
+rows-length (d ∷ ds) first =
+    let later = rows-length ds (first + length (formCodes (d .form))) in
+    let this = row-length first d in
+    let all = length-append (rowWords first d) (rowsFrom (first + length (formCodes (d .form))) ds) in
+    omega arith
+
+-- an entry of two lists is one of the first, or one of the second
+pub first-entry : {A : Type 0} (xs ys : List A) (x : ℕ) → x < length xs → getElem? (xs ++ ys) x ≡ getElem? xs x
+first-entry [] ys x h = absurd (omega arith)
+first-entry (y ∷ xs) ys zero h = refl
+first-entry (y ∷ xs) ys (suc x) h = first-entry xs ys x (omega arith)
+
+pub second-entry : {A : Type 0} (xs ys : List A) (x : ℕ) → length xs ≤ x → getElem? (xs ++ ys) x ≡ getElem? ys (x - length xs)
+second-entry xs ys x h = let at : x ≡ length xs + (x - length xs) = omega arith in ap (getElem? (xs ++ ys)) at ∙ further xs ys (x - length xs)
+
+pub both-rows-say : (ls ds : List Definition) (first base x : ℕ) (more : List ℕ) {d : Definition} → getElem? (ls ++ ds) x ≡ some d
+    → (getElem? ((rowsFrom first ls ++ rowsFrom base ds) ++ more) (beginsAt x) ≡ some (d .from)) × (getElem? ((rowsFrom first ls ++ rowsFrom base ds) ++ more) (endsAt x) ≡ some (d .to))
+both-rows-say ls ds first base x more {d} e = go (decided (ltb x (length ls)))
+  where
+    split : (rowsFrom first ls ++ rowsFrom base ds) ++ more ≡ rowsFrom first ls ++ (rowsFrom base ds ++ more)
+    split = append-append (rowsFrom first ls) (rowsFrom base ds) more
+
+    go : (ltb x (length ls) ≡ true) ⊎ (ltb x (length ls) ≡ false)
+        → (getElem? ((rowsFrom first ls ++ rowsFrom base ds) ++ more) (beginsAt x) ≡ some (d .from)) × (getElem? ((rowsFrom first ls ++ rowsFrom base ds) ++ more) (endsAt x) ≡ some (d .to))
+    go (inl below) =
+        let there : getElem? ls x ≡ some d = sym (first-entry ls ds x (ltb-true _ _ below)) ∙ e in
+        rw split (rows-say ls first x (rowsFrom base ds ++ more) there)
+    go (inr beyond) =
+        let past : length ls ≤ x = ltb-false _ _ beyond in
+        let there : getElem? ds (x - length ls) ≡ some d = sym (second-entry ls ds x past) ∙ e in
+        let many = rows-length ls first in
+        let begins : beginsAt x ≡ length (rowsFrom first ls) + beginsAt (x - length ls) = omega arith in
+        let ends : endsAt x ≡ length (rowsFrom first ls) + endsAt (x - length ls) = omega arith in
+        let (a, b) = rows-say ds base (x - length ls) more there in
+        rw split (
+          ap (getElem? (rowsFrom first ls ++ (rowsFrom base ds ++ more))) begins ∙ further (rowsFrom first ls) (rowsFrom base ds ++ more) (beginsAt (x - length ls)) ∙ a,
+          ap (getElem? (rowsFrom first ls ++ (rowsFrom base ds ++ more))) ends ∙ further (rowsFrom first ls) (rowsFrom base ds ++ more) (endsAt (x - length ls)) ∙ b,
+        )

@@ -2,9 +2,10 @@
 -- "The section is judged first, with its own refusals; then the answer hands back the very bytes of that definition, from its
 -- 50, 4F, clause or form byte on, and lent memory is as after the section alone. An absent number gives refusal 6 with that
 -- number as place. Every refusal gives an empty part." proofs/OfAsked.antt proves it.
-use Prim.Native.Nat.{ℕ, _+_, _*_, _≤_}
+use Prim.Native.Nat.{ℕ, _+_, _*_, _≤_, _<_}
 use mathlib.Core.Path.{_≡_}
 use mathlib.Core.Logic.{_↔_}
+use mathlib.Core.Bool.{Bool, true, false, cond}
 use mathlib.Core.Option.{some}
 use mathlib.Core.List.{List, [], _++_}
 use lib.ListN.{length, getElem?}
@@ -12,8 +13,10 @@ use Rattle.scope.specs.declared.Asked.{Asked}
 use Rattle.scope.specs.declared.Asked
 use Rattle.scope.specs.Layout.{rowSpan}
 use Rattle.scope.specs.Refusals.{bufferTooSmall, outOfReach}
+use Rattle.scope.specs.declared.Place.{Place}
 use Rattle.scope.specs.Syntax.{Definition}
-use Rattle.scope.specs.Memory.{filled, wiped, tableRows, tableCodes}
+use Rattle.scope.specs.Judging.{plain, Joined}
+use Rattle.scope.specs.Memory.{filled, wiped, joinedRows, joinedShared, joinedCodes}
 use Rattle.scope.specs.Answers.{TypeAsked, TypeHanded}
 use Rattle.facts_sections.specs.Allowed.{Allowed}
 use Rattle.facts_sections.specs.FirstFault.{Refused}
@@ -28,23 +31,36 @@ pub record LiesIn (s part : List ℕ) (from to : ℕ) : Type 0 where
   pub begins : from ≡ length before
   pub ends : to ≡ from + length part
 
--- type x of an allowed section
-pub record TypeOf (s : List ℕ) (x : ℕ) (d : Definition) : Type 0 where
-  pub types : List Definition
-  pub allowed : Allowed s types
-  pub present : getElem? types x ≡ some d
+-- "whichever of the two sections holds it": the library's numbers come first
+pub data HeldBy (j : Joined) (x : ℕ) : Bool → Type 0 where
+  library-holds : x < j .before → HeldBy j x true
+  addon-holds : j .before ≤ x → HeldBy j x false
 
--- the section is allowed and has no type x
-pub record NoType (s : List ℕ) (x : ℕ) : Type 0 where
-  pub types : List Definition
-  pub allowed : Allowed s types
-  pub absent : length types ≤ x
+-- type x of an allowed library and section, of the library or not
+pub record TypeOf (library s : List ℕ) (x : ℕ) (ofLibrary : Bool) (d : Definition) : Type 0 where
+  pub both : Joined
+  pub allowed : Allowed library s both
+  pub present : getElem? (both .types) x ≡ some d
+  pub held : HeldBy both x ofLibrary
+
+-- its bytes lie between these places of the section that holds it
+pub record Lies (library s : List ℕ) (x : ℕ) (ofLibrary : Bool) (from to : ℕ) : Type 0 where
+  pub definition : Definition
+  pub isType : TypeOf library s x ofLibrary definition
+  pub begins : definition .from ≡ from
+  pub ends : definition .to ≡ to
+
+-- the sections are allowed and have no type x
+pub record NoType (library s : List ℕ) (x : ℕ) : Type 0 where
+  pub both : Joined
+  pub allowed : Allowed library s both
+  pub absent : length (both .types) ≤ x
 
 -- why a type is not handed out
-pub data AskSaysNo (s : List ℕ) (x : ℕ) (rows codes : List ℕ) : ℕ → ℕ → Type 1 where
-  by-memory : TableShort rows codes → AskSaysNo s x rows codes bufferTooSmall 0
-  by-section : {number place : ℕ} → TableSuffices rows codes → Refused s number place → AskSaysNo s x rows codes number place
-  by-number : TableSuffices rows codes → NoType s x → AskSaysNo s x rows codes outOfReach x
+pub data AskSaysNo (library s : List ℕ) (x : ℕ) (rows shared codes : List ℕ) : ℕ → Place → Type 1 where
+  by-memory : TableShort rows shared codes → AskSaysNo library s x rows shared codes bufferTooSmall (plain 0)
+  by-section : {number : ℕ} {place : Place} → TableSuffices rows shared codes → Refused library s number place → AskSaysNo library s x rows shared codes number place
+  by-number : TableSuffices rows shared codes → NoType library s x → AskSaysNo library s x rows shared codes outOfReach (plain x)
 
 -- where a row says that its definition's bytes begin and end
 abbrev pub beginsAt : ℕ → ℕ
@@ -53,23 +69,25 @@ beginsAt x = x * rowSpan + 7
 abbrev pub endsAt : ℕ → ℕ
 endsAt x = x * rowSpan + 8
 
--- where the bytes lie: the call whose answer is the two places
-module _ {s : List ℕ} {x : ℕ} {rows codes rows′ codes′ : List ℕ} {r : Asked} where
-  pub record OfAsked (promise : TypeAsked s x rows codes rows′ codes′ r) : Type 1 where
-    pub found : (from to : ℕ) → (r ≡ Asked.the-variants.Bytes from to) ↔ (TableSuffices rows codes × ((d : Definition) × TypeOf s x d × (d .from ≡ from) × (d .to ≡ to)))
-    pub refused : (number place : ℕ) → (r ≡ Asked.the-variants.Refused number place) ↔ AskSaysNo s x rows codes number place
-    -- lent memory is as after the section alone; zero after a refusal
-    pub table : (ds : List Definition) (d : Definition) → TableSuffices rows codes → Allowed s ds → getElem? ds x ≡ some d
-        → (rows′ ≡ filled rows (tableRows ds)) × (codes′ ≡ filled codes (tableCodes ds))
-    pub wipes : (number place : ℕ) → r ≡ Asked.the-variants.Refused number place → (rows′ ≡ wiped rows) × (codes′ ≡ wiped codes)
+-- where the bytes lie: the call whose answer is the section that holds them and the two places
+module _ {library s : List ℕ} {x : ℕ} {rows shared codes rows′ shared′ codes′ : List ℕ} {r : Asked} where
+  pub record OfAsked (promise : TypeAsked library s x rows shared codes rows′ shared′ codes′ r) : Type 1 where
+    pub inLibrary : (from to : ℕ) → (r ≡ Asked.the-variants.Library from to) ↔ (TableSuffices rows shared codes × Lies library s x true from to)
+    pub inAddon : (from to : ℕ) → (r ≡ Asked.the-variants.Addon from to) ↔ (TableSuffices rows shared codes × Lies library s x false from to)
+    pub refused : (number : ℕ) (place : Place) → (r ≡ Asked.the-variants.Refused number place) ↔ AskSaysNo library s x rows shared codes number place
+    -- lent memory is as after the sections alone; zero after a refusal
+    pub table : (j : Joined) (d : Definition) → TableSuffices rows shared codes → Allowed library s j → getElem? (j .types) x ≡ some d
+        → (rows′ ≡ filled rows (joinedRows j)) × (shared′ ≡ filled shared (joinedShared j)) × (codes′ ≡ filled codes (joinedCodes j))
+    pub wipes : (number : ℕ) (place : Place) → r ≡ Asked.the-variants.Refused number place → (rows′ ≡ wiped rows) × (shared′ ≡ wiped shared) × (codes′ ≡ wiped codes)
 
 -- the very bytes: the call that hands them back
-module _ {s : List ℕ} {x : ℕ} {rows codes rows′ codes′ part : List ℕ} where
-  pub record OfHanded (promise : TypeHanded s x rows codes rows′ codes′ part) : Type 1 where
+module _ {library s : List ℕ} {x : ℕ} {rows shared codes rows′ shared′ codes′ part : List ℕ} where
+  pub record OfHanded (promise : TypeHanded library s x rows shared codes rows′ shared′ codes′ part) : Type 1 where
     -- the part is the writing of that definition, from its first byte to its end
-    pub writes : (d : Definition) → TableSuffices rows codes → TypeOf s x d → WritesDefinition (d .reach) (d .from) part d
-    pub lies : (d : Definition) → TableSuffices rows codes → TypeOf s x d → LiesIn s part (d .from) (d .to)
+    pub writes : (ofLibrary : Bool) (d : Definition) → TableSuffices rows shared codes → TypeOf library s x ofLibrary d → WritesDefinition (d .reach) (d .from) part d
+    -- in the section that holds it
+    pub lies : (ofLibrary : Bool) (d : Definition) → TableSuffices rows shared codes → TypeOf library s x ofLibrary d → LiesIn (cond ofLibrary library s) part (d .from) (d .to)
     -- and the table says where
-    pub row : (d : Definition) → TableSuffices rows codes → TypeOf s x d
+    pub row : (ofLibrary : Bool) (d : Definition) → TableSuffices rows shared codes → TypeOf library s x ofLibrary d
         → (getElem? rows′ (beginsAt x) ≡ some (d .from)) × (getElem? rows′ (endsAt x) ≡ some (d .to))
-    pub empty : (number place : ℕ) → AskSaysNo s x rows codes number place → part ≡ []
+    pub empty : (number : ℕ) (place : Place) → AskSaysNo library s x rows shared codes number place → part ≡ []

@@ -16,23 +16,25 @@ Under size buffer = length buffer < size
 
 -- the table
 
-pub record TableSuffices (rows codes : List ℕ) : Type 0 where
+pub record TableSuffices (rows shared codes : List ℕ) : Type 0 where
   pub rowsFit : Fits rowsSize rows
+  pub sharedFit : Fits codesSize shared
   pub codesFit : Fits codesSize codes
 
-pub data TableShort (rows codes : List ℕ) : Type 0 where
-  rows-under : Under rowsSize rows → TableShort rows codes
-  codes-under : Under codesSize codes → TableShort rows codes
+pub data TableShort (rows shared codes : List ℕ) : Type 0 where
+  rows-under : Under rowsSize rows → TableShort rows shared codes
+  shared-under : Under codesSize shared → TableShort rows shared codes
+  codes-under : Under codesSize codes → TableShort rows shared codes
 
 -- and the scratch of a body
 
-pub record BodySuffices (rows codes work : List ℕ) : Type 0 where
-  pub table : TableSuffices rows codes
+pub record BodySuffices (rows shared codes work : List ℕ) : Type 0 where
+  pub table : TableSuffices rows shared codes
   pub workFits : Fits workSize work
 
-pub data BodyShort (rows codes work : List ℕ) : Type 0 where
-  table-short : TableShort rows codes → BodyShort rows codes work
-  work-under : Under workSize work → BodyShort rows codes work
+pub data BodyShort (rows shared codes work : List ℕ) : Type 0 where
+  table-short : TableShort rows shared codes → BodyShort rows shared codes work
+  work-under : Under workSize work → BodyShort rows shared codes work
 
 -- and the scratch and the state of a run
 
@@ -53,11 +55,11 @@ pub data StateShort (w : StateWords) : Type 0 where
   blocks-under : Under blocksSize (w .blocks) → StateShort w
 
 pub record RunSuffices (m : RunMemory) : Type 0 where
-  pub body : BodySuffices (m .rows) (m .codes) (m .work)
+  pub body : BodySuffices (m .rows) (m .shared) (m .codes) (m .work)
   pub endsFit : Fits endsSize (m .ends)
   pub state : StateSuffices (m .state)
 
 pub data RunShort (m : RunMemory) : Type 0 where
-  body-short : BodyShort (m .rows) (m .codes) (m .work) → RunShort m
+  body-short : BodyShort (m .rows) (m .shared) (m .codes) (m .work) → RunShort m
   ends-under : Under endsSize (m .ends) → RunShort m
   state-short : StateShort (m .state) → RunShort m

@@ -1,3 +1,4 @@
 pub mod Table
 pub mod Pinned
 pub mod FirstFaults
+pub mod WithLibrary

@@ -3,8 +3,11 @@
 use Prim.Native.Nat.{ℕ}
 use mathlib.Core.Bool.{Bool}
 use mathlib.Core.List.{List, [], _∷_, _++_}
-use lib.ListN.{take}
-use Rattle.facts_words.specs.Words.{sectionWords, bodyWords, runWords, sameWords}
+use lib.ListN.{length, take}
+use Rattle.scope.specs.Sections.{emptyLibrary}
+use Rattle.scope.specs.Judging.{judgeJoined}
+use Rattle.scope.specs.Memory.{joinedRows}
+use Rattle.facts_words.specs.Words.{answered, bodyWords, runWords, sameWords}
 
 -- what is asked: a section; a body of a type of a section; a run of such a body with a budget
 pub data Question : Type 0 where
@@ -12,11 +15,11 @@ pub data Question : Type 0 where
   body : List ℕ → ℕ → List ℕ → Question
   run : List ℕ → ℕ → List ℕ → ℕ → Question
 
--- yes and the count; no, the refusal's number and place; how a run ended and all words of its state
+-- each after a library of no types: yes and the count; no, the refusal's number, place and input; how a run ended and all words of its state
 abbrev pub answer : Question → List ℕ
-answer (section s) = take 3 (sectionWords s)
-answer (body s x b) = bodyWords s x b
-answer (run s x b budget) = runWords s x b budget
+answer (section s) = answered (λ j. length (j .types) ∷ take 1 (joinedRows j)) (judgeJoined emptyLibrary s)
+answer (body s x b) = bodyWords emptyLibrary s x b
+answer (run s x b budget) = runWords emptyLibrary s x b budget
 
 pub record Case : Type 0 where
   pub asks : Question
@@ -30,8 +33,13 @@ no-types = 1 ∷ 0 ∷ []
 abbrev pub instructions : ℕ → List ℕ
 instructions n = 1 ∷ n ∷ []
 
+-- at a type's number, or at a place in a body: no input is named
 abbrev pub refusal : ℕ → ℕ → List ℕ
-refusal number place = 0 ∷ number ∷ place ∷ []
+refusal number place = 0 ∷ number ∷ place ∷ 0 ∷ []
+
+-- at a byte of the add-on's section
+abbrev pub byteRefusal : ℕ → ℕ → List ℕ
+byteRefusal number place = 0 ∷ number ∷ place ∷ 2 ∷ []
 
 -- the count of types, and the form of the first: struct
 abbrev pub structs : ℕ → List ℕ
@@ -80,7 +88,7 @@ exactOfSuper =
 abbrev pub starred : List Case
 starred =
     record { asks = section (0x00 ∷ []); says = no-types }
-    ∷ record { asks = section []; says = refusal 1 0 }
+    ∷ record { asks = section []; says = byteRefusal 1 0 }
     ∷ record { asks = section (0x01 ∷ 0x4E ∷ 0x02 ∷ 0x4D ∷ 0x01 ∷ 0x5F ∷ 0x00 ∷ 0x4C ∷ 0x00 ∷ 0x5F ∷ 0x00 ∷ []); says = structs 2 }
     ∷ record { asks = section (0x01 ∷ 0x4E ∷ 0x02 ∷ 0x4C ∷ 0x01 ∷ 0x5F ∷ 0x00 ∷ 0x4D ∷ 0x00 ∷ 0x5F ∷ 0x00 ∷ []); says = refusal 10 0 }
     ∷ record { asks = section (0x01 ∷ 0x4E ∷ 0x03 ∷ 0x5F ∷ 0x00 ∷ 0x4D ∷ 0x02 ∷ 0x5F ∷ 0x00 ∷ 0x4C ∷ 0x00 ∷ 0x5F ∷ 0x00 ∷ []); says = refusal 11 1 }
@@ -196,12 +204,12 @@ onlyNulls =
 abbrev pub paddedNumbers : List Case
 paddedNumbers =
     -- after 1 and 2: a count that is cut, out of range, too long
-    record { asks = section (0x80 ∷ []); says = refusal 1 0 }
-    ∷ record { asks = section (0x80 ∷ 0x80 ∷ 0x80 ∷ 0x80 ∷ 0x10 ∷ []); says = refusal 2 0 }
-    ∷ record { asks = section (0x80 ∷ 0x80 ∷ 0x80 ∷ 0x80 ∷ 0x80 ∷ 0x00 ∷ []); says = refusal 2 0 }
-    ∷ record { asks = section (0x80 ∷ 0x00 ∷ []); says = refusal 32 0 }
+    record { asks = section (0x80 ∷ []); says = byteRefusal 1 0 }
+    ∷ record { asks = section (0x80 ∷ 0x80 ∷ 0x80 ∷ 0x80 ∷ 0x10 ∷ []); says = byteRefusal 2 0 }
+    ∷ record { asks = section (0x80 ∷ 0x80 ∷ 0x80 ∷ 0x80 ∷ 0x80 ∷ 0x00 ∷ []); says = byteRefusal 2 0 }
+    ∷ record { asks = section (0x80 ∷ 0x00 ∷ []); says = byteRefusal 32 0 }
     -- before 3: a negative heap type, an FB number that is not listed; before 4: 257 locals
-    ∷ record { asks = section (0x01 ∷ 0x5F ∷ 0x01 ∷ 0x63 ∷ 0xF0 ∷ 0x7F ∷ 0x00 ∷ []); says = refusal 32 4 }
+    ∷ record { asks = section (0x01 ∷ 0x5F ∷ 0x01 ∷ 0x63 ∷ 0xF0 ∷ 0x7F ∷ 0x00 ∷ []); says = byteRefusal 32 4 }
     ∷ record { asks = body toNothing 0 (0x00 ∷ 0xFB ∷ 0x90 ∷ 0x00 ∷ 0x0B ∷ []); says = refusal 32 2 }
     ∷ record { asks = body toNothing 0 (0x01 ∷ 0x81 ∷ 0x82 ∷ 0x00 ∷ 0x7F ∷ 0x0B ∷ []); says = refusal 32 1 }
     -- a float's bytes are no LEB number
@@ -212,7 +220,7 @@ paddedNumbers =
     ∷ record { asks = body toNothing 0 (0x00 ∷ 0x41 ∷ 0xFF ∷ 0x7F ∷ 0x1A ∷ 0x0B ∷ []); says = refusal 32 2 }
     ∷ record { asks = body toNothing 0 (0x00 ∷ 0x41 ∷ 0x80 ∷ 0x00 ∷ 0x1A ∷ 0x0B ∷ []); says = refusal 32 2 }
     ∷ record { asks = section (0x01 ∷ 0x5F ∷ 0x01 ∷ 0x63 ∷ 0xC0 ∷ 0x00 ∷ 0x00 ∷ []); says = refusal 6 0 }
-    ∷ record { asks = section (0x01 ∷ 0x5F ∷ 0x01 ∷ 0x63 ∷ 0xBF ∷ 0x00 ∷ 0x00 ∷ []); says = refusal 32 4 }
+    ∷ record { asks = section (0x01 ∷ 0x5F ∷ 0x01 ∷ 0x63 ∷ 0xBF ∷ 0x00 ∷ 0x00 ∷ []); says = byteRefusal 32 4 }
     -- a later instruction's 32 comes after an earlier one's rule
     ∷ record { asks = body toNothing 0 (0x00 ∷ 0x1A ∷ 0x41 ∷ 0x80 ∷ 0x00 ∷ 0x0B ∷ []); says = refusal 20 1 }
     ∷ []

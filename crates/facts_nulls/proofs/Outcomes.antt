@@ -119,5 +119,5 @@ three-outcomes =
       not = λ ts v w. (not-said ts v w, not-back ts v w);
       one = one-of;
       apart = λ ts v w. (fits-or-would ts v w, fits-or-not ts v w, would-or-not ts v w);
-      related = λ section ds e v w. (fits-related (accepted-passes section e) v w, would-related (accepted-passes section e) v w);
+      related = λ library section j e v w. (fits-related (accepted-passes library section e) v w, would-related (accepted-passes library section e) v w);
     }

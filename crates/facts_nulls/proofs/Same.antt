@@ -15,7 +15,8 @@ use Rattle.scope.specs.TypeRules.{valNames}
 use Rattle.scope.specs.Order.{itFits, butForNull, unfit}
 use Rattle.scope.specs.Syntax.{Types, Definition, Val, typesOf}
 use Rattle.scope.specs.Sections.{ended}
-use Rattle.scope.specs.Judging.{Judged, accepted, rejected, andThen, judgeSection}
+use Rattle.scope.specs.declared.Place.{Place}
+use Rattle.scope.specs.Judging.{plain, Judged, accepted, rejected, andThen, Joined, judgeJoined, judgeSections}
 use Rattle.scope.specs.Instructions.{Instr, block, loop, end, op}
 use Rattle.scope.specs.BodyRules.{Context, Wanted, Plan, Ruled, allowed, fault, andRuled, fromTop, reached, planOf}
 use Rattle.scope.specs.Bodies.{Operand, unknown, fits, nonNullOf, fit, operandTest, alsoTaken, takeAll, onTop, Frame, ofBlock, ofLoop, State, scopeOf, operandsIn, Next, goesOn, finished, withinOperands, afterPlan, doPlan, noneLeft, judgeEnd, judgeInstr, Code, onRuled, onNext, judgeFrom, localsAt, Function, functionOf, Body, startState, contextOf, bodyAt, judgedOf, judgeBody}
@@ -23,7 +24,7 @@ use Rattle.scope.proofs.Impossible.{impossible}
 use Rattle.scope.proofs.Accepted.{accepted-passes}
 use Rattle.facts_bodies.proofs.Premises.{Ordered, passes-ordered}
 use Rattle.facts_refusals.specs.Numbers.{ByteFault, is-bytes-end, is-bad-number, is-not-listed, is-oversize, is-left-over, is-padded, RuleFault, is-out-of-reach, is-bad-supertype, is-long-chain, is-no-match, is-clause-not-on-struct, is-describes-not-earlier, is-clauses-disagree, is-bad-descriptor, is-bad-describes}
-use Rattle.facts_refusals.specs.Sections.{SaysNo, of-bytes, of-rules}
+use Rattle.facts_refusals.specs.Sections.{SaysNo, of-library-bytes, of-library-rules, of-bytes, of-rules}
 use Rattle.facts_refusals.proofs.Reading.{Heeds, refuses, goes-on, unsigned-heeds, val-heeds}
 use Rattle.facts_refusals.proofs.ReadingBodies.{instr-heeds}
 use Rattle.facts_refusals.proofs.Sections.{says-no}
@@ -200,28 +201,36 @@ judged-read : {A : Type 0} (r : Read A) → readAs20 (judgedOf r) ≡ judgedOf (
 judged-read (got x stop) = refl
 judged-read (refused n p) = refl
 
-section-as : (section : List ℕ) {n p : ℕ} → judgeSection section ≡ rejected n p → as20 n ≡ n
-section-as section {n} {p} e = go (says-no section n p e)
-  where
-    go : SaysNo section n p → as20 n ≡ n
-    go (of-bytes un bad inside) = byte-as bad
-    go (of-rules writes sizes first bad inside) = rule-as bad
+why-as : {library section : List ℕ} {n : ℕ} {p : Place} → SaysNo library section n p → as20 n ≡ n
+why-as (of-library-bytes un bad inside) = byte-as bad
+why-as (of-library-rules written first bad inside) = rule-as bad
+why-as (of-bytes shared un bad inside) = byte-as bad
+why-as (of-rules shared written first bad own inside) = rule-as bad
 
-pub verdict-read : (section s : List ℕ) (x : ℕ) → readAs20 (judgeBody section s x) ≡ judgeBodyBefore section s x
-unfolding judgeBody judgeBodyBefore
-verdict-read section s x = go (judgeSection section) refl
+section-as : (library section : List ℕ) {n : ℕ} {p : Place} → judgeJoined library section ≡ rejected n p → as20 n ≡ n
+section-as library section {n} {p} e = why-as (says-no library section n p e)
+
+pub verdict-read : (library section s : List ℕ) (x : ℕ) → readAs20 (judgeBody library section s x) ≡ judgeBodyBefore library section s x
+unfolding judgeBody judgeBodyBefore judgeSections
+verdict-read library section s x = go (judgeJoined library section) refl
   where
-    typed : (ds : List Definition) → Ordered (typesOf ds) → (o : Option Function) → readAs20 (given o (rejected notAFunction 0) (λ f. judgedOf (bodyAt ds f s))) ≡ given o (rejected notAFunction 0) (λ f. judgedOf (bodyBefore ds f s))
+    typed : (ds : List Definition) → Ordered (typesOf ds) → (o : Option Function) → readAs20 (given o (rejected notAFunction (plain 0)) (λ f. judgedOf (bodyAt ds f s))) ≡ given o (rejected notAFunction (plain 0)) (λ f. judgedOf (bodyBefore ds f s))
     typed ds ordered none = refl
     typed ds ordered (some f) = judged-read (bodyAt ds f s) ∙ ap judgedOf (body-read ds ordered f s)
 
-    sized : (b : Bool) (more before : Judged Body) → readAs20 more ≡ before → readAs20 (cond b (rejected oversize 0) more) ≡ cond b (rejected oversize 0) before
+    sized : (b : Bool) (more before : Judged Body) → readAs20 more ≡ before → readAs20 (cond b (rejected oversize (plain 0)) more) ≡ cond b (rejected oversize (plain 0)) before
     sized true more before e = refl
     sized false more before e = e
 
-    go : (v : Judged (List Definition)) → judgeSection section ≡ v → readAs20 (andThen v (λ ds. cond (ltb mostBytes (length s)) (rejected oversize 0) (given (functionOf (typesOf ds x .form)) (rejected notAFunction 0) (λ f. judgedOf (bodyAt ds f s))))) ≡ andThen v (λ ds. cond (ltb mostBytes (length s)) (rejected oversize 0) (given (functionOf (typesOf ds x .form)) (rejected notAFunction 0) (λ f. judgedOf (bodyBefore ds f s))))
-    go (accepted ds) e = sized (ltb mostBytes (length s)) (given (functionOf (typesOf ds x .form)) (rejected notAFunction 0) (λ f. judgedOf (bodyAt ds f s))) (given (functionOf (typesOf ds x .form)) (rejected notAFunction 0) (λ f. judgedOf (bodyBefore ds f s))) (typed ds (passes-ordered (accepted-passes section e)) (functionOf (typesOf ds x .form)))
-    go (rejected n p) e = rw (section-as section e)
+    go : (v : Judged Joined) → judgeJoined library section ≡ v
+        → readAs20 (andThen (andThen v (λ j. accepted (j .types))) (λ ds. cond (ltb mostBytes (length s)) (rejected oversize (plain 0)) (given (functionOf (typesOf ds x .form)) (rejected notAFunction (plain 0)) (λ f. judgedOf (bodyAt ds f s)))))
+        ≡ andThen (andThen v (λ j. accepted (j .types))) (λ ds. cond (ltb mostBytes (length s)) (rejected oversize (plain 0)) (given (functionOf (typesOf ds x .form)) (rejected notAFunction (plain 0)) (λ f. judgedOf (bodyBefore ds f s))))
+    go (accepted j) e =
+        let ds = j .types in
+        sized (ltb mostBytes (length s)) (given (functionOf (typesOf ds x .form)) (rejected notAFunction (plain 0)) (λ f. judgedOf (bodyAt ds f s)))
+        (given (functionOf (typesOf ds x .form)) (rejected notAFunction (plain 0)) (λ f. judgedOf (bodyBefore ds f s)))
+        (typed ds (passes-ordered (accepted-passes library section e)) (functionOf (typesOf ds x .form)))
+    go (rejected n p) e = rw (section-as library section e)
 
 accepted-read : {v u : Judged Body} {b : Body} → readAs20 v ≡ u → v ≡ accepted b → u ≡ accepted b
 accepted-read e f = sym e ∙ ap readAs20 f
@@ -234,6 +243,6 @@ pub nothing-else : NothingElse
 nothing-else =
     record {
       same = verdict-read;
-      accepts = λ section s x b. (accepted-read (verdict-read section s x), accepted-back (judgeBody section s x) (verdict-read section s x));
-      sections = λ section n p e is. let other : as20 n ≡ n = section-as section e in let same : badOperand ≡ onlyNull = rw is at other in absurd (omega (arith, same));
+      accepts = λ library section s x b. (accepted-read (verdict-read library section s x), accepted-back (judgeBody library section s x) (verdict-read library section s x));
+      sections = λ library section n p e is. let other : as20 n ≡ n = section-as library section e in let same : badOperand ≡ onlyNull = rw is at other in absurd (omega (arith, same));
     }

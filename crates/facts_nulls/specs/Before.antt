@@ -15,7 +15,8 @@ use Rattle.scope.specs.Lists.{joined}
 use Rattle.scope.specs.Syntax.{Val, Definition, Types, typesOf}
 use Rattle.scope.specs.Sections.{ended}
 use Rattle.scope.specs.TypeRules.{valNames}
-use Rattle.scope.specs.Judging.{Judged, accepted, rejected, andThen, judgeSection}
+use Rattle.scope.specs.declared.Place.{Place}
+use Rattle.scope.specs.Judging.{plain, Judged, accepted, rejected, andThen, judgeJoined, judgeSections}
 use Rattle.scope.specs.Instructions.{Instr, block, loop, end, op, instrAt}
 use Rattle.scope.specs.BodyRules.{Context, Wanted, Plan, Ruled, allowed, test, andRuled, fromTop, reached, planOf}
 use Rattle.scope.specs.Bodies.{Operand, unknown, fits, Taken, alsoTaken, onTop, Frame, ofBlock, ofLoop, State, scopeOf, Next, finished, withinOperands, afterPlan, entered, noneLeft, Code, onRuled, onNext, localsAt, Function, functionOf, Body, startState, contextOf, judgedOf, judgeBody}
@@ -66,11 +67,11 @@ bodyBefore ds f s =
     then (judgeFromBefore (length s) (contextOf ds f ls) (startState f ls) s first) (λ code stop.
     ended s (record { types = ds; function = f; locals = ls; code = code }) stop)))
 
-unfoldable pub judgeBodyBefore : List ℕ → List ℕ → ℕ → Judged Body
-judgeBodyBefore section s x =
-    andThen (judgeSection section) (λ ds.
-    let typed = given (functionOf (typesOf ds x .form)) (rejected notAFunction 0) (λ f. judgedOf (bodyBefore ds f s)) in
-    cond (ltb mostBytes (length s)) (rejected oversize 0) typed)
+unfoldable pub judgeBodyBefore : List ℕ → List ℕ → List ℕ → ℕ → Judged Body
+judgeBodyBefore library section s x =
+    andThen (judgeSections library section) (λ ds.
+    let typed = given (functionOf (typesOf ds x .form)) (rejected notAFunction (plain 0)) (λ f. judgedOf (bodyBefore ds f s)) in
+    cond (ltb mostBytes (length s)) (rejected oversize (plain 0)) typed)
 
 -- 31 read as 20
 
@@ -83,8 +84,8 @@ readAs20 (rejected n p) = rejected (as20 n) p
 
 pub record NothingElse : Type 0 where
   -- the verdict with 31 read as 20 is the verdict of before
-  pub same : (section s : List ℕ) (x : ℕ) → readAs20 (judgeBody section s x) ≡ judgeBodyBefore section s x
+  pub same : (library section s : List ℕ) (x : ℕ) → readAs20 (judgeBody library section s x) ≡ judgeBodyBefore library section s x
   -- "what is accepted" does not change
-  pub accepts : (section s : List ℕ) (x : ℕ) (b : Body) → (judgeBody section s x ≡ accepted b) ↔ (judgeBodyBefore section s x ≡ accepted b)
+  pub accepts : (library section s : List ℕ) (x : ℕ) (b : Body) → (judgeBody library section s x ≡ accepted b) ↔ (judgeBodyBefore library section s x ≡ accepted b)
   -- "Type-section refusals .. don't change": no section is refused with 31
-  pub sections : (section : List ℕ) (n p : ℕ) → judgeSection section ≡ rejected n p → n ≡ onlyNull → ⊥
+  pub sections : (library section : List ℕ) (n : ℕ) (p : Place) → judgeJoined library section ≡ rejected n p → n ≡ onlyNull → ⊥

@@ -2,10 +2,11 @@
 -- from document 02's request 9. Beside it stands what document 01 said before.
 use Prim.Native.Nat.{ℕ}
 use mathlib.Core.List.{List, [], _∷_}
+use Rattle.scope.specs.Sections.{emptyLibrary}
 use Rattle.scope.specs.Abstract.{NONE, NOFUNC, STRUCT}
-use Rattle.scope.specs.Syntax.{abstract, defined, exact, i32, i64, Val, num, nullable, nonNull, Definition, Types, typesOf}
+use Rattle.scope.specs.Syntax.{abstract, defined, exact, i32, i64, Val, num, nullable, nonNull, Types, typesOf}
 use Rattle.scope.specs.Order.{Fit, itFits, butForNull, unfit, valFit}
-use Rattle.scope.specs.Judging.{Judged, accepted, rejected, judgeSection}
+use Rattle.scope.specs.Judging.{plain, Judged, accepted, rejected, Joined, judgeJoined}
 use Rattle.scope.specs.Bodies.{Body, judgeBody}
 use Rattle.facts_nulls.specs.Before.{judgeBodyBefore}
 
@@ -15,12 +16,12 @@ use Rattle.facts_nulls.specs.Before.{judgeBodyBefore}
 abbrev pub twoStructs : List ℕ
 twoStructs = 0x02 ∷ 0x50 ∷ 0x00 ∷ 0x5F ∷ 0x00 ∷ 0x4F ∷ 0x01 ∷ 0x00 ∷ 0x5F ∷ 0x01 ∷ 0x7F ∷ 0x00 ∷ []
 
-abbrev pub definitionsOf : Judged (List Definition) → List Definition
-definitionsOf (accepted ds) = ds
-definitionsOf (rejected n p) = []
+abbrev pub joinedOf : Judged Joined → Joined
+joinedOf (accepted j) = j
+joinedOf (rejected n p) = record { before = 0; types = [] }
 
 abbrev pub types : Types
-types = typesOf (definitionsOf (judgeSection twoStructs))
+types = typesOf (joinedOf (judgeJoined emptyLibrary twoStructs) .types)
 
 pub record Tested : Type 0 where
   pub lower : Val
@@ -88,16 +89,16 @@ pub record Refused : Type 0 where
   pub place : ℕ
 
 abbrev pub verdict : Refused → Judged Body
-verdict r = judgeBody (r .section) (r .body) 1
+verdict r = judgeBody emptyLibrary (r .section) (r .body) 1
 
 abbrev pub verdictBefore : Refused → Judged Body
-verdictBefore r = judgeBodyBefore (r .section) (r .body) 1
+verdictBefore r = judgeBodyBefore emptyLibrary (r .section) (r .body) 1
 
 abbrev pub said : Refused → Judged Body
-said r = rejected (r .number) (r .place)
+said r = rejected (r .number) (plain (r .place))
 
 abbrev pub saidBefore : Refused → Judged Body
-saidBefore r = rejected (r .before) (r .place)
+saidBefore r = rejected (r .before) (plain (r .place))
 
 abbrev pub bodies : List Refused
 bodies =

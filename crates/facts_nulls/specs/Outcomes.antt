@@ -4,9 +4,9 @@ use mathlib.Core.Path.{_≡_}
 use mathlib.Core.Logic.{_⊎_, _↔_}
 use mathlib.Core.Bool.{true, false}
 use mathlib.Core.List.{List}
-use Rattle.scope.specs.Syntax.{Heap, Val, nullable, nonNull, Definition, Types, typesOf}
+use Rattle.scope.specs.Syntax.{Heap, Val, nullable, nonNull, Types, typesOf}
 use Rattle.scope.specs.Order.{itFits, butForNull, unfit, ValOrder, valBelow, valFit}
-use Rattle.scope.specs.Judging.{accepted, judgeSection}
+use Rattle.scope.specs.Judging.{accepted, Joined, judgeJoined}
 
 -- below
 abbrev pub Below : Types → Val → Val → Type 0
@@ -30,6 +30,6 @@ pub record ThreeOutcomes : Type 0 where
   -- and of what the order says for each, no two hold of the same types
   pub apart : (ts : Types) (v w : Val) → ¬ (Below ts v w × BelowButForNull ts v w) × ¬ (Below ts v w × NotBelow ts v w) × ¬ (BelowButForNull ts v w × NotBelow ts v w)
   -- "fits" and "would fit", as type rule 6 has the order
-  pub related : (section : List ℕ) (ds : List Definition) → judgeSection section ≡ accepted ds → (v w : Val)
-      → ((valFit (typesOf ds) v w ≡ itFits) ↔ ValOrder (typesOf ds) v w)
-      × ((valFit (typesOf ds) v w ≡ butForNull) ↔ (¬ ValOrder (typesOf ds) v w × ((h : Heap) × (v ≡ nullable h) × ValOrder (typesOf ds) (nonNull h) w)))
+  pub related : (library section : List ℕ) (j : Joined) → judgeJoined library section ≡ accepted j → (v w : Val)
+      → ((valFit (typesOf (j .types)) v w ≡ itFits) ↔ ValOrder (typesOf (j .types)) v w)
+      × ((valFit (typesOf (j .types)) v w ≡ butForNull) ↔ (¬ ValOrder (typesOf (j .types)) v w × ((h : Heap) × (v ≡ nullable h) × ValOrder (typesOf (j .types)) (nonNull h) w)))

@@ -7,7 +7,7 @@ use lib.Dec.{eqb, ltb}
 use Rattle.scope.specs.Sizes.{mostBytes}
 use Rattle.scope.specs.Numbers.{u32}
 use Rattle.scope.specs.Syntax.{Val, Definition, typesOf}
-use Rattle.scope.specs.Judging.{judgeSection}
+use Rattle.scope.specs.Judging.{judgeSections}
 use Rattle.scope.specs.Instructions.{instrAt}
 use Rattle.scope.specs.BodyRules.{Context}
 use Rattle.scope.specs.Bodies.{State, Function, Body, functionOf, judgeInstr, judgeFrom, localsAt, startState, contextOf, bodyAt, judgeBody}
@@ -46,10 +46,10 @@ body-proper ds f s =
     (gives-this (was-read (judged-proper (length s) (contextOf ds f ls) (startState f ls) s at .tells code stop judged)))
     gives-nothing)))
 
-accepted-proper : (section s : List ℕ) (x : ℕ) → Accepting (Read s) (judgeBody section s x)
+accepted-proper : (library section s : List ℕ) (x : ℕ) → Accepting (Read s) (judgeBody library section s x)
 unfolding judgeBody
-accepted-proper section s x =
-    accepts-then (judgeSection section) (λ ds is.
+accepted-proper library section s x =
+    accepts-then (judgeSections library section) (λ ds is.
     accepts-either (ltb mostBytes (length s)) accepts-nothing
     (accepts-given (functionOf (typesOf ds x .form)) accepts-nothing (λ f. accepts-read (bodyAt ds f s) (body-proper ds f s))))
 
@@ -70,4 +70,4 @@ reached-within bytes {p} w (oneMore {k = k} reaches e) = gone-on (rw e at (step-
 
 pub within-widths : WithinWidths
 within-widths =
-    record { after = λ section s x {b} {n} {m} bytes is reaches. reached-within bytes (start-within (accepted-proper section s x .tells b is)) reaches }
+    record { after = λ library section s x {b} {n} {m} bytes is reaches. reached-within bytes (start-within (accepted-proper library section s x .tells b is)) reaches }

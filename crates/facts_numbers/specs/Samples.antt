@@ -4,9 +4,10 @@ use Prim.Native.Nat.{ℕ}
 use mathlib.Core.Bool.{Bool}
 use mathlib.Core.List.{List, [], _∷_, map}
 use lib.Dec.{eqb}
+use Rattle.scope.specs.Sections.{emptyLibrary}
 use Rattle.scope.specs.Lists.{pairwise, joined}
 use Rattle.scope.specs.Syntax.{Number, i32, i64, f32, f64}
-use Rattle.scope.specs.Judging.{Judged, accepted, rejected}
+use Rattle.scope.specs.Judging.{placeNumber, Judged, accepted, rejected}
 use Rattle.scope.specs.Bodies.{Body, instructions as countOf, judgeBody}
 use Rattle.scope.specs.Machine.{Value, number}
 use Rattle.scope.specs.Running.{Ending, done, trapped, spent, wrong, Trial, trialRun, placeOf}
@@ -41,7 +42,7 @@ trap-at trap place steps vs = 3 ∷ trap ∷ place ∷ steps ∷ valuesOf vs
 
 abbrev bodyWords : Judged Body → List ℕ
 bodyWords (accepted b) = instructions (countOf b)
-bodyWords (rejected n p) = refusal n p
+bodyWords (rejected n p) = refusal n (placeNumber p)
 
 abbrev endingWords : List ℕ → Ending → List ℕ
 endingWords s (done steps m) = 2 ∷ steps ∷ valuesOf (m .operands)
@@ -51,11 +52,11 @@ endingWords s (wrong steps m) = 5 ∷ steps ∷ []
 
 abbrev runWords : List ℕ → Judged Trial → List ℕ
 runWords s (accepted t) = endingWords s (t .ending)
-runWords s (rejected n p) = refusal n p
+runWords s (rejected n p) = refusal n (placeNumber p)
 
 abbrev pub answer : Question → List ℕ
-answer (body section s) = bodyWords (judgeBody section s 0)
-answer (run section s) = runWords s (trialRun section s 0 9)
+answer (body section s) = bodyWords (judgeBody emptyLibrary section s 0)
+answer (run section s) = runWords s (trialRun emptyLibrary section s 0 9)
 
 abbrev pub answered : Sample → Bool
 answered q = pairwise eqb (answer (q .asks)) (q .says)

@@ -45,4 +45,4 @@ pub record MachineWithin (s : List ℕ) (m : Machine) : Type 0 where
   pub code : ProperCode s (m .code)
 
 pub record WithinWidths : Type 0 where
-  pub after : (section s : List ℕ) (x : ℕ) {b : Body} {n : ℕ} {m : Machine} → AreBytes s → judgeBody section s x ≡ accepted b → Reaches (programOf b) (startOf b) n m → MachineWithin s m
+  pub after : (library section s : List ℕ) (x : ℕ) {b : Body} {n : ℕ} {m : Machine} → AreBytes s → judgeBody library section s x ≡ accepted b → Reaches (programOf b) (startOf b) n m → MachineWithin s m

@@ -17,7 +17,8 @@ use Rattle.scope.specs.Numbers.{u32}
 use Rattle.scope.specs.Syntax.{Val, Definition, typesOf}
 use Rattle.scope.specs.Sections.{valAt, ended}
 use Rattle.scope.specs.TypeRules.{valNames}
-use Rattle.scope.specs.Judging.{Judged, accepted, rejected, andThen, judgeSection}
+use Rattle.scope.specs.declared.Place.{Place}
+use Rattle.scope.specs.Judging.{plain, Judged, accepted, rejected, andThen, Joined, judgeJoined, judgeSections}
 use Rattle.scope.specs.Instructions.{Instr}
 use Rattle.scope.specs.Bodies.{Code, judgeFrom, localsAt, Function, functionOf, Body, startState, contextOf, bodyAt, judgedOf, judgeBody}
 use Rattle.scope.proofs.Impossible.{contradiction}
@@ -102,10 +103,10 @@ module _ (count : ℕ) (s : List ℕ) where
 
 -- the whole body
 
-rejected-one : {A : Type 0} {n p k q : ℕ} → _≡_ {A = Judged A} (rejected n p) (rejected k q) → (n ≡ k) × (p ≡ q)
+rejected-one : {A : Type 0} {n k : ℕ} {p q : Place} → _≡_ {A = Judged A} (rejected n p) (rejected k q) → (n ≡ k) × (p ≡ q)
 rejected-one e = (cc, cc)
 
-accepted-is-not-rejected : {A : Type 0} {x : A} {n p : ℕ} → accepted x ≡ rejected n p → ⊥
+accepted-is-not-rejected : {A : Type 0} {x : A} {n : ℕ} {p : Place} → accepted x ≡ rejected n p → ⊥
 accepted-is-not-rejected e = contradiction cc
 
 module _ (s : List ℕ) (ds : List Definition) (f : Function) where
@@ -120,75 +121,75 @@ module _ (s : List ℕ) (ds : List Definition) (f : Function) where
   abbrev after-count : ℕ → ℕ → Read Body
   after-count n from = then (localsAt (length ds) n (length (f .parameters)) s from) after-locals
 
-module _ (section s : List ℕ) (x : ℕ) where
+module _ (library section s : List ℕ) (x : ℕ) where
   -- the same no under other names
-  as-said : {n p k q : ℕ} → BodySaysNo section s x n p → n ≡ k → p ≡ q → BodySaysNo section s x k q
+  as-said : {n k : ℕ} {p q : Place} → BodySaysNo library section s x n p → n ≡ k → p ≡ q → BodySaysNo library section s x k q
   as-said no′ a b = rw (← a, ← b) no′
 
-  module _ (ds : List Definition) (judged : judgeSection section ≡ accepted ds) where
+  module _ (ds : List Definition) {many : ℕ} (judged : judgeJoined library section ≡ accepted (record { before = many; types = ds })) where
     ordered : Ordered (typesOf ds)
-    ordered = passes-ordered (accepted-passes section judged)
+    ordered = passes-ordered (accepted-passes library section judged)
 
     locals-stand : (f : Function) {n from first : ℕ} {ls : List Val} → u32 s 0 ≡ got n from → localsAt (length ds) n (length (f .parameters)) s from ≡ got ls first → LocalsStand s ds f ls first
     locals-stand f {n} {from} counted locals =
         let read = got-locals s (length ds) n (length (f .parameters)) from locals in
         record { entries = read .entries; from = from; counted = rw (read .counted) counted; reads = read .reads; locals = read .stands }
 
-    module _ (f : Function) (begins : Begins section s x ds f) {number place : ℕ} where
+    module _ (f : Function) (begins : Begins library section s x ds f) {number place : ℕ} where
       on-end : {ls : List Val} {first : ℕ} → LocalsStand s ds f ls first → (code : Code) (stop : ℕ) → judgeFrom (length s) (contextOf ds f ls) (startState f ls) s first ≡ got code stop
-          → (b : Body) (t : Bool) → eqb stop (length s) ≡ t → cond t (got b stop) (refused leftOver stop) ≡ refused number place → BodySaysNo section s x number place
+          → (b : Body) (t : Bool) → eqb stop (length s) ≡ t → cond t (got b stop) (refused leftOver stop) ≡ refused number place → BodySaysNo library section s x number (plain place)
       on-end stand code stop walk b true same e = absurd (got-is-not-refused e)
       on-end {ls} {first} stand code stop walk b false same e =
           let (number-same, place-same) = refused-one e in
           let walked = got-walked (contextOf ds f ls) ordered s (length s) (startState f ls) first walk in
           let left : ¬ (stop ≡ length s) = λ q. false≢true (sym same ∙ eq-eqb stop (length s) q) in
-          as-said (by-rest begins stand (walked .reads) (walked .typed) left) number-same place-same
+          as-said (by-rest begins stand (walked .reads) (walked .typed) left) number-same (ap plain place-same)
 
       on-instructions : {ls : List Val} {first : ℕ} → LocalsStand s ds f ls first → (r : Read Code) → judgeFrom (length s) (contextOf ds f ls) (startState f ls) s first ≡ r
-          → then r (after-code s ds f ls) ≡ refused number place → BodySaysNo section s x number place
+          → then r (after-code s ds f ls) ≡ refused number place → BodySaysNo library section s x number (plain place)
       on-instructions {ls} {first} stand (refused n p) walk e =
           by-instruction begins stand (refused-faulty (contextOf ds f ls) ordered s (length s) (startState f ls) first (omega arith) (walk ∙ as-refused e))
       on-instructions stand (got code stop) walk e = on-end stand code stop walk _ (eqb stop (length s)) refl e
 
       on-locals : (n from : ℕ) → u32 s 0 ≡ got n from → (r : Read (List Val)) → localsAt (length ds) n (length (f .parameters)) s from ≡ r
-          → then r (after-locals s ds f) ≡ refused number place → BodySaysNo section s x number place
+          → then r (after-locals s ds f) ≡ refused number place → BodySaysNo library section s x number (plain place)
       on-locals n from counted (refused m p) locals e = by-locals begins counted (refused-entry (length ds) s n (length (f .parameters)) from (locals ∙ as-refused e))
       on-locals n from counted (got ls first) locals e = on-instructions (locals-stand f counted locals) (judgeFrom (length s) (contextOf ds f ls) (startState f ls) s first) refl e
 
-      on-count : (r : Read ℕ) → u32 s 0 ≡ r → then r (after-count s ds f) ≡ refused number place → BodySaysNo section s x number place
+      on-count : (r : Read ℕ) → u32 s 0 ≡ r → then r (after-count s ds f) ≡ refused number place → BodySaysNo library section s x number (plain place)
       on-count (refused m p) counted e = by-count begins (counted ∙ as-refused e)
       on-count (got n from) counted e = on-locals n from counted (localsAt (length ds) n (length (f .parameters)) s from) refl e
 
-      read-no : bodyAt ds f s ≡ refused number place → BodySaysNo section s x number place
+      read-no : bodyAt ds f s ≡ refused number place → BodySaysNo library section s x number (plain place)
       unfolding bodyAt
       read-no e = on-count (u32 s 0) refl e
 
-      read-says : (r : Read Body) → bodyAt ds f s ≡ r → judgedOf r ≡ rejected number place → BodySaysNo section s x number place
-      read-says (got b stop) read e = absurd (accepted-is-not-rejected e)
-      read-says (refused n p) read e = let (a, b) = rejected-one e in read-no (read ∙ rw (a, b))
+    read-says : (f : Function) → Begins library section s x ds f → {number : ℕ} {place : Place} (r : Read Body) → bodyAt ds f s ≡ r → judgedOf r ≡ rejected number place → BodySaysNo library section s x number place
+    read-says f begins (got b stop) read e = absurd (accepted-is-not-rejected e)
+    read-says f begins (refused n p) read e = let (a, b) = rejected-one e in as-said (read-no f begins read) a b
 
-    typed-no : {number place : ℕ} → length s ≤ mostBytes → (o : Option Function) → functionOf (typesOf ds x .form) ≡ o
-        → given o (rejected notAFunction 0) (λ f. judgedOf (bodyAt ds f s)) ≡ rejected number place → BodySaysNo section s x number place
+    typed-no : {number : ℕ} {place : Place} → length s ≤ mostBytes → (o : Option Function) → functionOf (typesOf ds x .form) ≡ o
+        → given o (rejected notAFunction (plain 0)) (λ f. judgedOf (bodyAt ds f s)) ≡ rejected number place → BodySaysNo library section s x number place
     typed-no small none found e =
         let (a, b) = rejected-one e in
         as-said (by-type judged small (λ f t. none-is-not-some (sym found ∙ function-found ds x t))) a b
     typed-no small (some f) found e =
-        read-says f (record { judged = judged; small = small; isFunction = found-function ds x found }) (bodyAt ds f s) refl e
+        read-says f (record { before = many; judged = judged; small = small; isFunction = found-function ds x found }) (bodyAt ds f s) refl e
 
-    sized-no : {number place : ℕ} (t : Bool) → ltb mostBytes (length s) ≡ t
-        → cond t (rejected oversize 0) (given (functionOf (typesOf ds x .form)) (rejected notAFunction 0) (λ f. judgedOf (bodyAt ds f s))) ≡ rejected number place → BodySaysNo section s x number place
+    sized-no : {number : ℕ} {place : Place} (t : Bool) → ltb mostBytes (length s) ≡ t
+        → cond t (rejected oversize (plain 0)) (given (functionOf (typesOf ds x .form)) (rejected notAFunction (plain 0)) (λ f. judgedOf (bodyAt ds f s))) ≡ rejected number place → BodySaysNo library section s x number place
     sized-no true large e = let (a, b) = rejected-one e in as-said (by-size judged (ltb-true _ _ large)) a b
     sized-no false fits e = typed-no (ltb-false _ _ fits) (functionOf (typesOf ds x .form)) refl e
 
-  pub body-no : {number place : ℕ} → judgeBody section s x ≡ rejected number place → BodySaysNo section s x number place
-  unfolding judgeBody
-  body-no {number} {place} e = go (judgeSection section) refl e
+  pub body-no : {number : ℕ} {place : Place} → judgeBody library section s x ≡ rejected number place → BodySaysNo library section s x number place
+  unfolding judgeBody judgeSections
+  body-no {number} {place} e = go (judgeJoined library section) refl e
     where
-      go : (j : Judged (List Definition)) → judgeSection section ≡ j
-          → andThen j (λ ds. cond (ltb mostBytes (length s)) (rejected oversize 0) (given (functionOf (typesOf ds x .form)) (rejected notAFunction 0) (λ f. judgedOf (bodyAt ds f s)))) ≡ rejected number place
-          → BodySaysNo section s x number place
+      go : (v : Judged Joined) → judgeJoined library section ≡ v
+          → andThen (andThen v (λ j. accepted (j .types))) (λ ds. cond (ltb mostBytes (length s)) (rejected oversize (plain 0)) (given (functionOf (typesOf ds x .form)) (rejected notAFunction (plain 0)) (λ f. judgedOf (bodyAt ds f s)))) ≡ rejected number place
+          → BodySaysNo library section s x number place
       go (rejected n p) judged f = let (a, b) = rejected-one f in as-said (by-section judged) a b
-      go (accepted ds) judged f = sized-no ds judged (ltb mostBytes (length s)) refl f
+      go (accepted j) judged f = sized-no (j .types) judged (ltb mostBytes (length s)) refl f
 
   no-function : {ds : List Definition} → ((f : Function) → ¬ FunctionType ds x f) → functionOf (typesOf ds x .form) ≡ none
   no-function {ds} no-type = go (functionOf (typesOf ds x .form)) refl
@@ -204,12 +205,12 @@ module _ (section s : List ℕ) (x : ℕ) where
       go true e = absurd (left (eqb-true _ _ e))
       go false e = refl
 
-  module _ {ds : List Definition} {f : Function} (begins : Begins section s x ds f) where
-    begun : judgeBody section s x ≡ judgedOf (bodyAt ds f s)
-    unfolding judgeBody
+  module _ {ds : List Definition} {f : Function} (begins : Begins library section s x ds f) where
+    begun : judgeBody library section s x ≡ judgedOf (bodyAt ds f s)
+    unfolding judgeBody judgeSections
     begun = rw (begins .judged, le-ltb _ _ (begins .small), function-found ds x (begins .isFunction))
 
-    read-refused : {number place : ℕ} → bodyAt ds f s ≡ refused number place → judgeBody section s x ≡ rejected number place
+    read-refused : {number place : ℕ} → bodyAt ds f s ≡ refused number place → judgeBody library section s x ≡ rejected number (plain place)
     read-refused e = begun ∙ ap judgedOf e
 
     count-refused : {number place : ℕ} → u32 s 0 ≡ refused number place → bodyAt ds f s ≡ refused number place
@@ -232,8 +233,8 @@ module _ (section s : List ℕ) (x : ℕ) where
         let (code, walk, same) = typed-got (contextOf ds f ls) (ordered ds (begins .judged)) s (length s) typed reads (omega arith) in
         rw (stand .counted, locals-got s (length ds) (stand .reads) (stand .locals), walk, not-at-end left)
 
-  pub no-body : {number place : ℕ} → BodySaysNo section s x number place → judgeBody section s x ≡ rejected number place
-  unfolding judgeBody
+  pub no-body : {number : ℕ} {place : Place} → BodySaysNo library section s x number place → judgeBody library section s x ≡ rejected number place
+  unfolding judgeBody judgeSections
   no-body (by-section judged) = rw judged
   no-body (by-size judged large) = rw (judged, lt-ltb _ _ large)
   no-body (by-type judged small no-type) = rw (judged, le-ltb _ _ small, no-function no-type)
@@ -242,5 +243,5 @@ module _ (section s : List ℕ) (x : ℕ) where
   no-body (by-instruction begins stand faulty) = read-refused begins (instruction-refused begins stand faulty)
   no-body (by-rest begins stand reads typed left) = read-refused begins (rest-refused begins stand reads typed left)
 
-  pub body-no-exactly : (number place : ℕ) → (judgeBody section s x ≡ rejected number place) ↔ BodySaysNo section s x number place
+  pub body-no-exactly : (number : ℕ) (place : Place) → (judgeBody library section s x ≡ rejected number place) ↔ BodySaysNo library section s x number place
   body-no-exactly number place = (body-no, no-body)

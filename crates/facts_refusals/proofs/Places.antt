@@ -9,8 +9,10 @@ use lib.ListN.{length}
 use Rattle.scope.specs.Refusals.{bytesEnd, notListed, badOperand, onlyNull, badStruct, oversize}
 use Rattle.scope.specs.Reading.{Read, got, refused}
 use Rattle.scope.specs.Numbers.{u32}
+use Rattle.scope.specs.declared.Place.{Place}
+use Rattle.scope.specs.Judging.{plain}
 use Rattle.scope.specs.Syntax.{Val, Definition}
-use Rattle.scope.specs.Sections.{valAt}
+use Rattle.scope.specs.Sections.{valAt, emptyLibrary}
 use Rattle.scope.specs.Instructions.{Op, Instr, block, loop, end, op, unreachable, nop, return, drop-value, br, br-if, local-get, local-set, local-tee, i32-const, i64-const, f32-const, f64-const, numeric, ref-null, ref-is-null, ref-eq, ref-as-non-null, struct-new, struct-new-default, struct-get, struct-set, ref-test, ref-cast, br-on-cast, br-on-cast-fail, struct-new-desc, struct-new-default-desc, ref-get-desc, ref-cast-desc-eq, br-on-cast-desc-eq, br-on-cast-desc-eq-fail}
 use Rattle.scope.specs.BodyRules.{Context, Scope}
 use Rattle.scope.specs.Bodies.{State, scopeOf, Function}
@@ -163,8 +165,8 @@ in-order (br-on-cast-desc-eq-fail k) = refl
 
 -- places
 
-module _ (section s : List ℕ) (x : ℕ) where
-  bytes-place : {A : Type 0} {r : Read A} {number place : ℕ} → Heeds (length s) r → r ≡ refused number place → BodyPlace section s x number place
+module _ (library section s : List ℕ) (x : ℕ) where
+  bytes-place : {A : Type 0} {r : Read A} {number place : ℕ} → Heeds (length s) r → r ≡ refused number place → BodyPlace library section s x number (plain place)
   bytes-place h e = let (number-is, inside) = heeded h e in of-bytes number-is inside
 
   -- a number that was read ends inside the body or at its length
@@ -174,13 +176,13 @@ module _ (section s : List ℕ) (x : ℕ) where
   value-end : (at : ℕ) {next : ℕ} {v : Val} → valAt s at ≡ got v next → next ≤ length s
   value-end at e = never-back val-takes s at e .1
 
-  entry-place : {count at before number place : ℕ} → at ≤ length s → EntryFault count s at before number place → BodyPlace section s x number place
+  entry-place : {count at before number place : ℕ} → at ≤ length s → EntryFault count s at before number place → BodyPlace library section s x number (plain place)
   entry-place {at = at} h (count-bytes a) = bytes-place (unsigned-heeds 32 .heeds s at h) a
   entry-place {at = at} h (type-bytes {type = type} a b) = bytes-place (val-heeds .heeds s type (number-end at a)) b
   entry-place h (type-unreached a b unreached) = of-entry entry-out-of-reach h
   entry-place h (too-many a b reach many) = of-entry entry-too-many h
 
-  entries-place : {count n from before number place : ℕ} → from ≤ length s → FaultyEntry count s n from before number place → BodyPlace section s x number place
+  entries-place : {count n from before number place : ℕ} → from ≤ length s → FaultyEntry count s n from before number place → BodyPlace library section s x number (plain place)
   entries-place h (this-entry f) = entry-place h f
   entries-place h (later-entry {type = type} a b reach few more) = entries-place (value-end type b) more
 
@@ -192,15 +194,15 @@ module _ (section s : List ℕ) (x : ℕ) where
   instrs-end h no-instr = h
   instrs-end {first} h (next-instr read more) = instrs-end (never-back instr-takes s first read .1) more
 
-  fault-place : {c : Context} {st : State} {at number place : ℕ} → at ≤ length s → FaultAt c st s at number place → BodyPlace section s x number place
+  fault-place : {c : Context} {st : State} {at number place : ℕ} → at ≤ length s → FaultAt c st s at number place → BodyPlace library section s x number (plain place)
   fault-place {at = at} h (in-bytes e) = bytes-place (instr-heeds .heeds s at h) e
   fault-place {c} {st} h (in-instruction {i = i} read b) = of-instruction (condition-number s c st i (instr-proper s _ .tells i _ read) b) read
 
   stand-end : {ds : List Definition} {f : Function} {ls : List Val} {first : ℕ} → LocalsStand s ds f ls first → first ≤ length s
   stand-end stand = entries-end (number-end 0 (stand .counted)) (stand .reads)
 
-  said-place : {number place : ℕ} → BodySaysNo section s x number place → BodyPlace section s x number place
-  said-place (by-section {number = n} {place = p} judged) = of-section (says-no section n p judged)
+  said-place : {number : ℕ} {place : Place} → BodySaysNo library section s x number place → BodyPlace library section s x number place
+  said-place (by-section {number = n} {place = p} judged) = of-section (says-no library section n p judged)
   said-place (by-size judged large) = of-whole-size
   said-place (by-type judged small no-type) = of-type-number
   said-place (by-count begins e) = bytes-place (unsigned-heeds 32 .heeds s 0 (omega arith)) e
@@ -214,7 +216,7 @@ body-refusals =
       exactly = body-no-exactly;
       first = λ c st ordered i number. instruction-fault c st (record { tested = ordered .tested }) i;
       inOrder = in-order;
-      places = λ section s x number place e. said-place section s x (body-no section s x e);
+      places = λ library section s x number place e. said-place library section s x (body-no library section s x e);
     }
 
 -- Examples: document 01's two refused bodies of F1. struct.new of a type with a descriptor: 23 at the instruction at 1. The
@@ -223,27 +225,27 @@ body-refusals =
 abbrev F1 : List ℕ
 F1 = 0x02 ∷ 0x4E ∷ 0x02 ∷ 0x4D ∷ 0x01 ∷ 0x5F ∷ 0x00 ∷ 0x4C ∷ 0x00 ∷ 0x5F ∷ 0x00 ∷ 0x60 ∷ 0x00 ∷ 0x01 ∷ 0x64 ∷ 0x62 ∷ 0x00 ∷ []
 
-pub unwanted-descriptor : BodySaysNo F1 (0x00 ∷ 0xFB ∷ 0x00 ∷ 0x00 ∷ 0x0B ∷ []) 2 badStruct 1
+pub unwanted-descriptor : BodySaysNo emptyLibrary F1 (0x00 ∷ 0xFB ∷ 0x00 ∷ 0x00 ∷ 0x0B ∷ []) 2 badStruct (plain 1)
 unfolding computes
-unwanted-descriptor = body-no _ _ 2 refl
+unwanted-descriptor = body-no emptyLibrary _ _ 2 refl
 
-pub inexact-descriptor : BodySaysNo F1 (0x01 ∷ 0x01 ∷ 0x64 ∷ 0x01 ∷ 0xFB ∷ 0x00 ∷ 0x01 ∷ 0x21 ∷ 0x00 ∷ 0x20 ∷ 0x00 ∷ 0xFB ∷ 0x20 ∷ 0x00 ∷ 0x0B ∷ []) 2 badOperand 11
+pub inexact-descriptor : BodySaysNo emptyLibrary F1 (0x01 ∷ 0x01 ∷ 0x64 ∷ 0x01 ∷ 0xFB ∷ 0x00 ∷ 0x01 ∷ 0x21 ∷ 0x00 ∷ 0x20 ∷ 0x00 ∷ 0xFB ∷ 0x20 ∷ 0x00 ∷ 0x0B ∷ []) 2 badOperand (plain 11)
 unfolding computes
-inexact-descriptor = body-no _ _ 2 refl
+inexact-descriptor = body-no emptyLibrary _ _ 2 refl
 
 -- Request 1 of document 02: a cut float is 1 at the first of its bytes; C5 is no code; a number of another kind is 20.
 
 abbrev givesF32 : List ℕ
 givesF32 = 0x01 ∷ 0x60 ∷ 0x00 ∷ 0x01 ∷ 0x7D ∷ []
 
-pub cut-float : BodySaysNo givesF32 (0x00 ∷ 0x43 ∷ 0x00 ∷ 0x00 ∷ 0x80 ∷ []) 0 bytesEnd 2
+pub cut-float : BodySaysNo emptyLibrary givesF32 (0x00 ∷ 0x43 ∷ 0x00 ∷ 0x00 ∷ 0x80 ∷ []) 0 bytesEnd (plain 2)
 unfolding computes
-cut-float = body-no _ _ 0 refl
+cut-float = body-no emptyLibrary _ _ 0 refl
 
-pub past-the-range : BodySaysNo givesF32 (0x00 ∷ 0xC5 ∷ 0x0B ∷ []) 0 notListed 1
+pub past-the-range : BodySaysNo emptyLibrary givesF32 (0x00 ∷ 0xC5 ∷ 0x0B ∷ []) 0 notListed (plain 1)
 unfolding computes
-past-the-range = body-no _ _ 0 refl
+past-the-range = body-no emptyLibrary _ _ 0 refl
 
-pub another-kind : BodySaysNo givesF32 (0x00 ∷ 0x42 ∷ 0x00 ∷ 0x8C ∷ 0x0B ∷ []) 0 badOperand 3
+pub another-kind : BodySaysNo emptyLibrary givesF32 (0x00 ∷ 0x42 ∷ 0x00 ∷ 0x8C ∷ 0x0B ∷ []) 0 badOperand (plain 3)
 unfolding computes
-another-kind = body-no _ _ 0 refl
+another-kind = body-no emptyLibrary _ _ 0 refl

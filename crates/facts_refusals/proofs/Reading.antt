@@ -15,7 +15,7 @@ use Rattle.scope.specs.Reading.{Read, got, refused, Reader, given, then, onByte
 use Rattle.scope.specs.Numbers.{Bits, inRange, Whole, plus, minus, unsigned, signed, littleEndian, floatBytes, u32}
 use Rattle.scope.specs.Abstract.{abstractOf}
 use Rattle.scope.specs.Syntax.{ref}
-use Rattle.scope.specs.Sections.{typeNumber, heapAt, numberOf, valAt, flagAt, fieldAt, fewAt, supersAt, headAt, Head, clauseAt, describesCode, descriptorCode, formAt, definitionAt, groupAt, groupsAt, ended, readSection}
+use Rattle.scope.specs.Sections.{typeNumber, heapAt, numberOf, valAt, flagAt, fieldAt, fewAt, supersAt, headAt, Head, clauseAt, describesCode, descriptorCode, formAt, definitionAt, groupAt, groupsAt, ended, readAfter}
 use Rattle.scope.proofs.Forward.{byte-inside, float-inside, BitsEnd, cuts, longs, stand, bits-end}
 use Rattle.facts_refusals.specs.Numbers.{ByteFault, is-bytes-end, is-bad-number, is-not-listed, is-oversize, is-left-over, is-padded}
 
@@ -213,9 +213,9 @@ groups-heed (suc n) first s at h =
 pub ended-heeds : {A : Type 0} (s : List ℕ) (x : A) (at : ℕ) → at ≤ length s → Heeds (length s) (ended s x at)
 ended-heeds s x at h = heeds-cond (eqb at (length s)) (goes-on h) (refuses is-left-over h)
 
-pub section-heeds : (s : List ℕ) → Heeds (length s) (readSection s)
-unfolding readSection
-section-heeds s =
+pub section-heeds : (first : ℕ) (s : List ℕ) → Heeds (length s) (readAfter first s)
+unfolding readAfter
+section-heeds first s =
     heeds-cond (ltb mostBytes (length s)) (refuses is-oversize (omega arith))
     (heeds-then (unsigned-heeds 32 .heeds s 0 (omega arith)) (λ n next a.
-    heeds-then (groups-heed n 0 s next a) (λ gs end b. ended-heeds s gs end b)))
+    heeds-then (groups-heed n first s next a) (λ gs end b. ended-heeds s gs end b)))

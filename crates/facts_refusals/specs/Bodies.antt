@@ -15,7 +15,8 @@ use Rattle.scope.specs.Numbers.{u32}
 use Rattle.scope.specs.Syntax.{Heap, Val, nullable, nonNull, Definition, Types}
 use Rattle.scope.specs.Order.{ValOrder, valBelow}
 use Rattle.scope.specs.Sections.{valAt}
-use Rattle.scope.specs.Judging.{accepted, rejected, judgeSection}
+use Rattle.scope.specs.declared.Place.{Place}
+use Rattle.scope.specs.Judging.{plain, accepted, rejected, Joined, judgeJoined}
 use Rattle.scope.specs.Instructions.{Op, Instr, block, loop, end, op, instrAt}
 use Rattle.scope.specs.BodyRules.{Context, Wanted, Plan, fault, fromTop}
 use Rattle.scope.specs.Bodies.{Operand, known, Frame, ofBlock, ofLoop, State, scopeOf, goesOn, judgeInstr, Function, startState, contextOf, judgeBody}
@@ -148,9 +149,10 @@ pub data FaultyEntry (count : ℕ) (s : List ℕ) : ℕ → ℕ → ℕ → ℕ 
 
 -- the whole body
 
--- the section is allowed, the body's size too, and x is the number of a function type
-pub record Begins (section s : List ℕ) (x : ℕ) (ds : List Definition) (f : Function) : Type 0 where
-  pub judged : judgeSection section ≡ accepted ds
+-- the sections are allowed, the body's size too, and x is the number of a function type of the joined list
+pub record Begins (library section s : List ℕ) (x : ℕ) (ds : List Definition) (f : Function) : Type 0 where
+  pub before : ℕ
+  pub judged : judgeJoined library section ≡ accepted (record { before = before; types = ds })
   pub small : length s ≤ mostBytes
   pub isFunction : FunctionType ds x f
 
@@ -162,26 +164,26 @@ pub record LocalsStand (s : List ℕ) (ds : List Definition) (f : Function) (ls 
   pub reads : EntriesAt s from entries first
   pub locals : Locals (length ds) (length (f .parameters)) entries ls
 
-pub data BodySaysNo (section s : List ℕ) (x : ℕ) : ℕ → ℕ → Type 1 where
+pub data BodySaysNo (library section s : List ℕ) (x : ℕ) : ℕ → Place → Type 1 where
   -- "section,
-  by-section : {number place : ℕ} → judgeSection section ≡ rejected number place → BodySaysNo section s x number place
+  by-section : {number : ℕ} {place : Place} → judgeJoined library section ≡ rejected number place → BodySaysNo library section s x number place
   -- body size,
-  by-size : {ds : List Definition} → judgeSection section ≡ accepted ds → mostBytes < length s → BodySaysNo section s x oversize 0
+  by-size : {j : Joined} → judgeJoined library section ≡ accepted j → mostBytes < length s → BodySaysNo library section s x oversize (plain 0)
   -- 27,
-  by-type : {ds : List Definition} → judgeSection section ≡ accepted ds → length s ≤ mostBytes → ((f : Function) → ¬ FunctionType ds x f)
-      → BodySaysNo section s x notAFunction 0
+  by-type : {j : Joined} → judgeJoined library section ≡ accepted j → length s ≤ mostBytes → ((f : Function) → ¬ FunctionType (j .types) x f)
+      → BodySaysNo library section s x notAFunction (plain 0)
   -- the locals entry by entry (bytes, 6, 4),
-  by-count : {ds : List Definition} {f : Function} {number place : ℕ} → Begins section s x ds f → u32 s 0 ≡ refused number place
-      → BodySaysNo section s x number place
-  by-locals : {ds : List Definition} {f : Function} {n from number place : ℕ} → Begins section s x ds f → u32 s 0 ≡ got n from
-      → FaultyEntry (length ds) s n from (length (f .parameters)) number place → BodySaysNo section s x number place
+  by-count : {ds : List Definition} {f : Function} {number place : ℕ} → Begins library section s x ds f → u32 s 0 ≡ refused number place
+      → BodySaysNo library section s x number (plain place)
+  by-locals : {ds : List Definition} {f : Function} {n from number place : ℕ} → Begins library section s x ds f → u32 s 0 ≡ got n from
+      → FaultyEntry (length ds) s n from (length (f .parameters)) number place → BodySaysNo library section s x number (plain place)
   -- then the first faulty instruction;
-  by-instruction : {ds : List Definition} {f : Function} {ls : List Val} {first number place : ℕ} → Begins section s x ds f
-      → LocalsStand s ds f ls first → FirstFaulty (contextOf ds f ls) (startState f ls) s first number place → BodySaysNo section s x number place
+  by-instruction : {ds : List Definition} {f : Function} {ls : List Val} {first number place : ℕ} → Begins library section s x ds f
+      → LocalsStand s ds f ls first → FirstFaulty (contextOf ds f ls) (startState f ls) s first number place → BodySaysNo library section s x number (plain place)
   -- last, 5"
-  by-rest : {ds : List Definition} {f : Function} {ls : List Val} {is : List Instr} {first stop : ℕ} → Begins section s x ds f
+  by-rest : {ds : List Definition} {f : Function} {ls : List Val} {is : List Instr} {first stop : ℕ} → Begins library section s x ds f
       → LocalsStand s ds f ls first → InstrsAt s first is stop → TypedBody (contextOf ds f ls) (startState f ls) is → ¬ (stop ≡ length s)
-      → BodySaysNo section s x leftOver stop
+      → BodySaysNo library section s x leftOver (plain stop)
 
 -- the order's relation and its test say the same of these types, as they do of an accepted section's
 pub record Ordered (ts : Types) : Type 0 where
@@ -189,21 +191,21 @@ pub record Ordered (ts : Types) : Type 0 where
 
 -- numbers and places
 
--- Which numbers, and at which places: those of the section; 4 and 27 at 0; byte faults inside the body or at its length; 6 and 4
+-- Which numbers, and at which places: those of the sections; 4 and 27 at 0; byte faults inside the body or at its length; 6 and 4
 -- at a locals entry's first byte; an instruction's at the first byte of an instruction of the body.
-pub data BodyPlace (section s : List ℕ) (x : ℕ) : ℕ → ℕ → Type 1 where
-  of-section : {number place : ℕ} → SaysNo section number place → BodyPlace section s x number place
-  of-whole-size : BodyPlace section s x oversize 0
-  of-type-number : BodyPlace section s x notAFunction 0
-  of-bytes : {number place : ℕ} → ByteFault number → place ≤ length s → BodyPlace section s x number place
-  of-entry : {number place : ℕ} → EntryNumber number → place ≤ length s → BodyPlace section s x number place
-  of-instruction : {number place next : ℕ} {i : Instr} → InstructionFault number → instrAt s place ≡ got i next → BodyPlace section s x number place
+pub data BodyPlace (library section s : List ℕ) (x : ℕ) : ℕ → Place → Type 1 where
+  of-section : {number : ℕ} {place : Place} → SaysNo library section number place → BodyPlace library section s x number place
+  of-whole-size : BodyPlace library section s x oversize (plain 0)
+  of-type-number : BodyPlace library section s x notAFunction (plain 0)
+  of-bytes : {number place : ℕ} → ByteFault number → place ≤ length s → BodyPlace library section s x number (plain place)
+  of-entry : {number place : ℕ} → EntryNumber number → place ≤ length s → BodyPlace library section s x number (plain place)
+  of-instruction : {number place next : ℕ} {i : Instr} → InstructionFault number → instrAt s place ≡ got i next → BodyPlace library section s x number (plain place)
 
 pub record BodyRefusals : Type 1 where
   -- the no to a body, both ways
-  pub exactly : (section s : List ℕ) (x number place : ℕ) → (judgeBody section s x ≡ rejected number place) ↔ BodySaysNo section s x number place
+  pub exactly : (library section s : List ℕ) (x number : ℕ) (place : Place) → (judgeBody library section s x ≡ rejected number place) ↔ BodySaysNo library section s x number place
   -- within the instruction the number is the first whose condition fails, over any types whose order is decided by its test
   pub first : (c : Context) (st : State) → Ordered (c .types) → (i : Instr) (number : ℕ) → (judgeInstr c st i ≡ fault number) ↔ FirstBroken (conditions c st i) number
   -- the questions of each instruction stand in document 01's order
   pub inOrder : (o : Op) → rising (map numberOf (asks o)) ≡ true
-  pub places : (section s : List ℕ) (x number place : ℕ) → judgeBody section s x ≡ rejected number place → BodyPlace section s x number place
+  pub places : (library section s : List ℕ) (x number : ℕ) (place : Place) → judgeBody library section s x ≡ rejected number place → BodyPlace library section s x number place

@@ -12,7 +12,7 @@ use Rattle.scope.specs.Numbers.{u32}
 use Rattle.scope.specs.Lists.{every, joined}
 use Rattle.scope.specs.Syntax.{Val, typesOf}
 use Rattle.scope.specs.TypeRules.{valNames}
-use Rattle.scope.specs.Judging.{accepted, judgeSection}
+use Rattle.scope.specs.Judging.{accepted, judgeSections}
 use Rattle.scope.specs.Instructions.{Op, Instr, block, loop, end, op, instrAt}
 use Rattle.scope.specs.BodyRules.{Context, Plan, Ruled, fromTop, reached, planOf}
 use Rattle.scope.specs.Bodies.{Operand, onTop, scopeOf, Frame, ofBlock, ofLoop, State, operandsIn, Next, goesOn, finished, withinOperands, afterPlan, takeAll, doPlan, entered, ending, noneLeft, judgeBlockEnd, judgeEnd, judgeInstr, Code, onNext, judgeFrom, localsAt, functionOf, Body, startState, contextOf, bodyAt, judgeBody}
@@ -94,10 +94,10 @@ module _ (c : Context) where
 
 -- The body
 
-accepted-ahead : (section s : List ℕ) (x : ℕ) → Accepts (λ b. hasLoop (b .code) ≡ false → Ahead zero (b .code)) (judgeBody section s x)
+accepted-ahead : (library section s : List ℕ) (x : ℕ) → Accepts (λ b. hasLoop (b .code) ≡ false → Ahead zero (b .code)) (judgeBody library section s x)
 unfolding judgeBody bodyAt
-accepted-ahead section s x =
-    accepts-then (judgeSection section) (λ ds.
+accepted-ahead library section s x =
+    accepts-then (judgeSections library section) (λ ds.
     accepts-cond (ltb mostBytes (length s)) rejecting
     (accepts-given (functionOf (typesOf ds x .form)) rejecting (λ f.
     accepts-read
@@ -106,5 +106,5 @@ accepted-ahead section s x =
     reads-then (judged-ahead (contextOf ds f ls) (length s) (startState f ls) s first) (λ code stop ahead.
     reads-cond (eqb stop (length s)) (reading ahead) refusing)))))))
 
-pub loopless-ahead : (section s : List ℕ) (x : ℕ) {b : Body} → judgeBody section s x ≡ accepted b → hasLoop (b .code) ≡ false → Ahead zero (b .code)
-loopless-ahead section s x e = accepted-is (rw e at (accepted-ahead section s x))
+pub loopless-ahead : (library section s : List ℕ) (x : ℕ) {b : Body} → judgeBody library section s x ≡ accepted b → hasLoop (b .code) ≡ false → Ahead zero (b .code)
+loopless-ahead library section s x e = accepted-is (rw e at (accepted-ahead library section s x))

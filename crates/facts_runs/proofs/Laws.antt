@@ -10,11 +10,11 @@ run-laws =
     record {
       objects = objects-counted;
       steps = steps-taken;
-      stops = λ section s x b e free. loopless-stops section s x e free;
-      within = λ section s x b e free. loopless-steps section s x e free;
+      stops = λ library section s x b e free. loopless-stops library section s x e free;
+      within = λ library section s x b e free. loopless-steps library section s x e free;
       larger = larger-budget;
-      verdict = λ section s x n j. trial-larger n j section s x;
-      promise = λ section s x n j fits e m m′ r. promise-larger n j fits e;
+      verdict = λ library section s x n j. trial-larger n j library section s x;
+      promise = λ library section s x n j fits e m m′ r. promise-larger n j fits e;
       sum = λ p n j k m steps after. run-of-sum p n j k m;
       counted = λ p n k m steps after. spent-steps p n k m;
       bounded = λ p n k m. within-steps (steps-within p n k m);

@@ -10,6 +10,7 @@ use mathlib.Core.List.{List, [], _∷_}
 use lib.ListN.{length}
 use lib.Dec.{leb}
 use borrow.Author.Tests.{leb-true, leb-false}
+use Rattle.scope.specs.Sections.{emptyLibrary}
 use Rattle.scope.specs.Judging.{accepted}
 use Rattle.scope.specs.Instructions.{nop, op}
 use Rattle.scope.specs.Bodies.{Body, instructions, judgeBody}
@@ -37,10 +38,10 @@ straight-stops p (suc n) k m s h = go (step p m) (step-does p m) (straight-stops
     go (traps number) trapping from = refl
     go stuck failing from = refl
 
-module _ (section s : List ℕ) (x : ℕ) {b : Body} (e : judgeBody section s x ≡ accepted b) (free : hasLoop (b .code) ≡ false) where
+module _ (library section s : List ℕ) (x : ℕ) {b : Body} (e : judgeBody library section s x ≡ accepted b) (free : hasLoop (b .code) ≡ false) where
   pub loopless-stops : (n : ℕ) → instructions b ≤ n → isSpent (run (programOf b) n 0 (startOf b)) ≡ false
   loopless-stops n h =
-      straight-stops (programOf b) n 0 (startOf b) (record { depth = 0; blocks = none-open; ahead = loopless-ahead section s x e free }) h
+      straight-stops (programOf b) n 0 (startOf b) (record { depth = 0; blocks = none-open; ahead = loopless-ahead library section s x e free }) h
 
   -- "A body without loop stops within as many steps as it has instructions", whatever the budget.
   pub loopless-steps : (n : ℕ) → stepsOf (run (programOf b) n 0 (startOf b)) ≤ instructions b
@@ -58,7 +59,7 @@ module _ (section s : List ℕ) (x : ℕ) {b : Body} (e : judgeBody section s x 
 
 -- Examples: a body with a branch out of a block, 6 instructions, is accepted and traps after 3 steps
 
-pub branch-accepted : judgeBody F1 branchOut 2 ≡ accepted (sample branchOut)
+pub branch-accepted : judgeBody emptyLibrary F1 branchOut 2 ≡ accepted (sample branchOut)
 unfolding computes
 branch-accepted = refl
 
@@ -67,7 +68,7 @@ unfolding computes
 branch-loopless = refl
 
 pub branch-stops : (n : ℕ) → instructions (sample branchOut) ≤ n → isSpent (run (programOf (sample branchOut)) n 0 (startOf (sample branchOut))) ≡ false
-branch-stops = loopless-stops F1 branchOut 2 branch-accepted branch-loopless
+branch-stops = loopless-stops emptyLibrary F1 branchOut 2 branch-accepted branch-loopless
 
 pub branch-steps : stepsOf (run (programOf (sample branchOut)) 6 0 (startOf (sample branchOut))) ≡ 3
 unfolding computes

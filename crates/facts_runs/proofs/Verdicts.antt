@@ -4,6 +4,7 @@ use Prim.Native.Nat.{ℕ}
 use mathlib.Core.Bool.{Bool, true, false, cond}
 use mathlib.Core.Option.{Option, none, some}
 use Rattle.scope.specs.Reading.{Read, got, refused, given, then}
+use Rattle.scope.specs.declared.Place.{Place}
 use Rattle.scope.specs.Judging.{Judged, accepted, rejected, andThen}
 use Rattle.scope.specs.BodyRules.{Ruled, allowed, fault, test, andRuled}
 use Rattle.scope.specs.Bodies.{onRuled, judgedOf}
@@ -18,7 +19,7 @@ pub data Reads {A : Type 0} (P : A → Type 0) : Read A → Type 0 where
 
 pub data Accepts {A : Type 0} (P : A → Type 0) : Judged A → Type 0 where
   accepting : {x : A} → P x → Accepts P (accepted x)
-  rejecting : {number place : ℕ} → Accepts P (rejected number place)
+  rejecting : {number : ℕ} {place : Place} → Accepts P (rejected number place)
 
 module _ {A : Type 0} {P : A → Type 0} where
   pub allows-test : (b : Bool) (number : ℕ) {r : Ruled A} → Allows P r → Allows P (test b number r)

@@ -20,17 +20,17 @@ pub record RunLaws : Type 0 where
   pub steps : (p : Program) (n k : ℕ) (m : Machine) → stepsOf (run p n k m) ≡ k + length (taken p n m)
   -- A body without `loop` stops within as many steps as it has instructions: such a budget is not spent, and with any
   -- budget there are no more steps.
-  pub stops : (section s : List ℕ) (x : ℕ) (b : Body) → judgeBody section s x ≡ accepted b → hasLoop (b .code) ≡ false
+  pub stops : (library section s : List ℕ) (x : ℕ) (b : Body) → judgeBody library section s x ≡ accepted b → hasLoop (b .code) ≡ false
       → (n : ℕ) → instructions b ≤ n → isSpent (run (programOf b) n 0 (startOf b)) ≡ false
-  pub within : (section s : List ℕ) (x : ℕ) (b : Body) → judgeBody section s x ≡ accepted b → hasLoop (b .code) ≡ false
+  pub within : (library section s : List ℕ) (x : ℕ) (b : Body) → judgeBody library section s x ≡ accepted b → hasLoop (b .code) ≡ false
       → (n : ℕ) → stepsOf (run (programOf b) n 0 (startOf b)) ≤ instructions b
   -- A larger budget that is not spent changes neither answer nor memory: the run's ending, the verdict, and what a call
   -- promises of its answer and of every lent word.
   pub larger : (p : Program) (n j k : ℕ) (m : Machine) → isSpent (run p n k m) ≡ false → run p (n + j) k m ≡ run p n k m
-  pub verdict : (section s : List ℕ) (x n j : ℕ) → n + j ≤ mostBudget → ranOut (trialRun section s x n) ≡ false
-      → trialRun section s x (n + j) ≡ trialRun section s x n
-  pub promise : (section s : List ℕ) (x n j : ℕ) → n + j ≤ mostBudget → ranOut (trialRun section s x n) ≡ false
-      → (m m′ : RunMemory) (r : Ran) → RunTried section s x n m m′ r → RunTried section s x (n + j) m m′ r
+  pub verdict : (library section s : List ℕ) (x n j : ℕ) → n + j ≤ mostBudget → ranOut (trialRun library section s x n) ≡ false
+      → trialRun library section s x (n + j) ≡ trialRun library section s x n
+  pub promise : (library section s : List ℕ) (x n j : ℕ) → n + j ≤ mostBudget → ranOut (trialRun library section s x n) ≡ false
+      → (m m′ : RunMemory) (r : Ran) → RunTried library section s x n m m′ r → RunTried library section s x (n + j) m m′ r
   -- The run of n + j steps is the run of j from the state after n, which is after n steps.
   pub sum : (p : Program) (n j k : ℕ) (m : Machine) (steps : ℕ) (after : Machine)
       → run p n k m ≡ spent steps after → run p (n + j) k m ≡ run p j steps after

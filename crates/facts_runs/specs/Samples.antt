@@ -2,6 +2,7 @@
 -- traps, one never ends. The fourth branches out of a block.
 use Prim.Native.Nat.{ℕ}
 use mathlib.Core.List.{List, [], _∷_}
+use Rattle.scope.specs.Sections.{emptyLibrary}
 use Rattle.scope.specs.Judging.{Judged, accepted, rejected}
 use Rattle.scope.specs.Bodies.{Body, judgeBody}
 
@@ -30,4 +31,4 @@ bodyOf (rejected n p) = record { types = []; function = record { parameters = []
 
 -- the body of type 2 of F1 with these bytes
 abbrev pub sample : List ℕ → Body
-sample s = bodyOf (judgeBody F1 s 2)
+sample s = bodyOf (judgeBody emptyLibrary F1 s 2)

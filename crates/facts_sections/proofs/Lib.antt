@@ -12,3 +12,9 @@ pub mod Verdict
 pub mod Exactly
 pub mod Witness
 pub mod FaultOrder
+pub mod Libraries
+pub mod LibraryExamples
+pub mod Limits
+pub mod EmptyLibrary
+pub mod ManyTypes
+pub mod FullLibrary

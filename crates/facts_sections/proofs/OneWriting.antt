@@ -16,7 +16,7 @@ use Rattle.scope.specs.Abstract.{Abstract, row}
 use Rattle.scope.specs.Syntax.{Heap, abstract, Val, ref, Field, Form, Definition, Group}
 use Rattle.scope.specs.Reading.{got}
 use Rattle.scope.specs.Lists.{every}
-use Rattle.scope.specs.Sections.{Head, readSection}
+use Rattle.scope.specs.Sections.{Head, readAfter}
 use Rattle.scope.proofs.Computes.{computes}
 use Rattle.scope.proofs.Impossible.{impossible}
 use Rattle.facts_sections.specs.Writing.{Sevens, last-seven, seven-more, Twos, not-negative, negative, Shortest, none-shorter, a-numeral, Unsigned, Signed, WritesHeap, exact-type, abstract-code, type-number, WritesVal, i32-type, i64-type, f32-type, f64-type, nullable-reference, reference, abstract-alone, WritesFlag, fixed-flag, mutable-flag, WritesField, a-field, Entries, no-entry, an-entry, Counted, count-and-entries, Anywhere, Listed, listed, WritesHead, open-with-supertypes, final-with-supertypes, neither, WritesClause, a-clause, no-clause, WritesForm, a-struct-form, a-func-form, WritesDefinition, a-definition, WritesGroup, several, alone, WritesGroups, no-group, a-group, WritesSection, a-section}
@@ -213,7 +213,7 @@ groups-one {at = at} {from = from} same (also way ways) ws us (a-group {w = w} g
     let next : at + length w ≡ from + length u = rw (same, bytes) in
     ap₂ (λ (a b : List ℕ). a ++ b) bytes (groups-one next ways rest more gs ks)
 
-section-one : {w u : List ℕ} {gs : List Group} → OneWayGroups gs → Bytes w → Bytes u → WritesSection w gs → WritesSection u gs → w ≡ u
+section-one : {first : ℕ} {w u : List ℕ} {gs : List Group} → OneWayGroups gs → Bytes w → Bytes u → WritesSection first w gs → WritesSection first u gs → w ≡ u
 section-one ways ws us (a-section {w = w} n gs) (a-section {w = u} m ks) =
     let (first, rest) = all-apart w ws in
     let (begins, more) = all-apart u us in
@@ -229,16 +229,16 @@ several-same : map (λ (t : TwoWritings). readUnplaced (t .one)) severalWritings
 unfolding computes
 several-same = refl
 
-places-same : readSection (samePlaces .one) ≡ readSection (samePlaces .other)
+places-same : readAfter 0 (samePlaces .one) ≡ readAfter 0 (samePlaces .other)
 unfolding computes
 places-same = refl
 
-one-way-read : readSection oneWay ≡ got oneWayGroups 12
+one-way-read : readAfter 0 oneWay ≡ got oneWayGroups 12
 unfolding computes
 one-way-read = refl
 
-one-way-written : WritesSection oneWay oneWayGroups
-one-way-written = section-found oneWay one-way-read .writes
+one-way-written : WritesSection 0 oneWay oneWayGroups
+one-way-written = section-found 0 (omega arith) oneWay one-way-read .section .writing
 
 bytes-below : (w : List ℕ) → every (λ b. ltb b 256) w ≡ true → Bytes w
 bytes-below [] e = none-left

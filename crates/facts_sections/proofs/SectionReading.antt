@@ -1,5 +1,5 @@
 -- Groups and the whole section are read exactly where they are written. Each group has room for the types that are left
--- of 256, so all of them together have at most 256; the section's bytes are a count and its groups and nothing after.
+-- of 1,024, so all of them together, with those that stand before, are at most 1,024; the section's bytes are a count and its groups and nothing after.
 use Prim.Native.Nat.{ℕ, zero, suc, _+_, _-_, _<_, _≤_}
 use native.Mathlib.Omega.{arith}
 use native.Mathlib.Nat.{zero-add}
@@ -14,9 +14,10 @@ use Rattle.scope.specs.Lists.{joined}
 use Rattle.scope.specs.Reading.{got, then}
 use Rattle.scope.specs.Numbers.{u32}
 use Rattle.scope.specs.Syntax.{Definition, Group}
-use Rattle.scope.specs.Sections.{definitionAt, groupAt, groupsAt, ended, readSection}
+use Rattle.scope.specs.Sections.{definitionAt, groupAt, groupsAt, ended, readAfter}
 use Rattle.facts_sections.specs.WithinSizes.{Each, DefinitionFits, WithinSizes}
 use Rattle.facts_sections.specs.Writing.{Unsigned, Anywhere, WritesDefinition, WritesGroup, several, alone, WritesGroups, no-group, a-group, WritesSection, a-section}
+use Rattle.facts_sections.specs.Allowed.{Section}
 use Rattle.facts_sections.specs.Between.{Between, nothing, byte}
 use Rattle.facts_sections.proofs.Between.{join, split-at, behind, end-is, whole, whole-only}
 use Rattle.facts_sections.proofs.Readers.{Found, Reads, AnySize, refused-is-not-got, then-got, byte-got, by-cond, found-got, this-byte}
@@ -123,58 +124,63 @@ groups-read {first} stretch (a-group {w = w} {g = g} {gs = gs} this later) each 
 
 -- The section
 
-pub record SectionFound (s : List ℕ) (gs : List Group) (end : ℕ) : Type 0 where
-  pub writes : WritesSection s gs
-  pub sizes : WithinSizes s gs
+pub record SectionFound (first : ℕ) (s : List ℕ) (gs : List Group) (end : ℕ) : Type 0 where
+  pub section : Section first s gs
   pub at-end : end ≡ length s
 
-section-lies : {n : ℕ} {s : List ℕ} {mid : ℕ} {gs : List Group} → length s ≤ mostBytes
-    → Found (Anywhere (Unsigned 32)) AnySize s 0 n mid → Found (WritesGroups 0) (GroupsFit n 0) s mid gs (length s) → SectionFound s gs (length s)
-section-lies {n} {s} {mid} {gs} small number groups =
+section-lies : {first n : ℕ} {s : List ℕ} {mid : ℕ} {gs : List Group} → first ≤ mostTypes → length s ≤ mostBytes
+    → Found (Anywhere (Unsigned 32)) AnySize s 0 n mid → Found (WritesGroups first) (GroupsFit n first) s mid gs (length s) → SectionFound first s gs (length s)
+section-lies {first} {n} {s} {mid} {gs} below small number groups =
     let count : Unsigned 32 (number .bytes) (length gs) = rw (groups .small .count) (number .writes) in
     let start : mid ≡ length (number .bytes) = let e = end-is (number .lies) in omega arith in
     let all : number .bytes ++ groups .bytes ≡ s = whole-only (join (number .lies) (groups .lies)) in
-    let bytes : WritesGroups 0 (length (number .bytes)) (groups .bytes) gs = rw start at (groups .writes) in
+    let bytes : WritesGroups first (length (number .bytes)) (groups .bytes) gs = rw start at (groups .writes) in
     record {
-      writes = subst (λ (t : List ℕ). WritesSection t gs) all (a-section count bytes);
-      sizes = record { bytes = small; types = let fits = groups .small .fits (omega arith) in omega arith; forms = groups .small .each };
+      section =
+          record {
+            writing = subst (λ (t : List ℕ). WritesSection first t gs) all (a-section count bytes);
+            sizes = record { bytes = small; types = groups .small .fits below; forms = groups .small .each };
+          };
       at-end = refl;
     }
 
-section-ends : {n : ℕ} {s : List ℕ} {mid p end : ℕ} {xs gs : List Group} → length s ≤ mostBytes
-    → Found (Anywhere (Unsigned 32)) AnySize s 0 n mid → Found (WritesGroups 0) (GroupsFit n 0) s mid xs p → p ≡ length s → got xs p ≡ got gs end → SectionFound s gs end
-section-ends {s = s} {end = end} {xs} {gs} small number groups at-end e =
+section-ends : {first n : ℕ} {s : List ℕ} {mid p end : ℕ} {xs gs : List Group} → first ≤ mostTypes → length s ≤ mostBytes
+    → Found (Anywhere (Unsigned 32)) AnySize s 0 n mid → Found (WritesGroups first) (GroupsFit n first) s mid xs p → p ≡ length s → got xs p ≡ got gs end → SectionFound first s gs end
+section-ends {s = s} {end = end} {xs} {gs} below small number groups at-end e =
     let same : xs ≡ gs = cc in
     let here : end ≡ length s = cc in
-    rw (here, ← same) (section-lies small number (rw at-end at groups))
+    rw (here, ← same) (section-lies below small number (rw at-end at groups))
 
-pub section-found : (s : List ℕ) {gs : List Group} {end : ℕ} → readSection s ≡ got gs end → SectionFound s gs end
-unfolding readSection
-section-found s e =
+pub section-found : (first : ℕ) → first ≤ mostTypes → (s : List ℕ) {gs : List Group} {end : ℕ} → readAfter first s ≡ got gs end → SectionFound first s gs end
+unfolding readAfter
+section-found first below s e =
     by-cond (ltb mostBytes (length s))
     (λ large f. absurd (refused-is-not-got f))
     (λ fits f.
-    let (n, mid, read, g) = then-got (u32 s 0) (λ n next. then (groupsAt n 0 s next) (ended s)) f in
-    let (xs, p, more, h) = then-got (groupsAt n 0 s mid) (ended s) g in
+    let (n, mid, read, g) = then-got (u32 s 0) (λ n next. then (groupsAt n first s next) (ended s)) f in
+    let (xs, p, more, h) = then-got (groupsAt n first s mid) (ended s) g in
     by-cond (eqb p (length s))
-    (λ at-end k. section-ends (ltb-false _ _ fits) (unsigned-reads 32 .sound s 0 read) (groups-found n 0 s mid more) (eqb-true p (length s) at-end) k)
+    (λ at-end k. section-ends below (ltb-false _ _ fits) (unsigned-reads 32 .sound s 0 read) (groups-found n first s mid more) (eqb-true p (length s) at-end) k)
     (λ left k. absurd (refused-is-not-got k))
     h)
     e
 
-pub section-read : {s : List ℕ} {gs : List Group} → WritesSection s gs → WithinSizes s gs → readSection s ≡ got gs (length s)
-unfolding readSection
-section-read {s} (a-section {w = w} {u = u} {gs = gs} number groups) sizes =
+writing-read : {first : ℕ} {s : List ℕ} {gs : List Group} → WritesSection first s gs → WithinSizes first s gs → readAfter first s ≡ got gs (length s)
+unfolding readAfter
+writing-read {first} {s} (a-section {w = w} {u = u} {gs = gs} number groups) sizes =
     let (here, more) = split-at w (whole (w ++ u)) in
     let types = sizes .types in
-    let read-groups = groups-read (rw zero-add at more) groups (sizes .forms) (omega arith) in
+    let read-groups = groups-read (rw zero-add at more) groups (sizes .forms) types in
     rw (le-ltb mostBytes (length (w ++ u)) (sizes .bytes), unsigned-reads 32 .complete (rw zero-add at here) number tt, read-groups, eq-eqb (length (w ++ u)) (length (w ++ u)) refl)
+
+pub section-read : {first : ℕ} {s : List ℕ} {gs : List Group} → Section first s gs → readAfter first s ≡ got gs (length s)
+section-read section = writing-read (section .writing) (section .sizes)
 
 -- The reader's half, whole
 
-pub read-exactly : (s : List ℕ) (gs : List Group) → (readSection s ≡ got gs (length s)) ↔ (WritesSection s gs × WithinSizes s gs)
-read-exactly s gs = (λ e. let f = section-found s e in (f .writes, f .sizes), λ a. section-read (a .0) (a .1))
+pub read-exactly : (first : ℕ) → first ≤ mostTypes → (s : List ℕ) (gs : List Group) → (readAfter first s ≡ got gs (length s)) ↔ Section first s gs
+read-exactly first below s gs = (λ e. section-found first below s e .section, section-read)
 
 -- bytes are a writing of one syntax at most
-pub one-syntax : {s : List ℕ} {gs hs : List Group} → WritesSection s gs → WithinSizes s gs → WritesSection s hs → WithinSizes s hs → gs ≡ hs
-one-syntax writes-gs small-gs writes-hs small-hs = let p = section-read writes-gs small-gs in let q = section-read writes-hs small-hs in cc
+pub one-syntax : {first : ℕ} {s : List ℕ} {gs hs : List Group} → Section first s gs → Section first s hs → gs ≡ hs
+one-syntax {first} {s} {gs} {hs} one other = let p = section-read one in let q = section-read other in cc

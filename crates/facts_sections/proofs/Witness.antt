@@ -5,9 +5,10 @@ use mathlib.Core.Path.{_≡_, refl}
 use mathlib.Core.Bool.{true, false}
 use mathlib.Core.Option.{none, some}
 use mathlib.Core.List.{List, [], _∷_, _++_}
+use Rattle.scope.specs.Sections.{emptyLibrary}
 use Rattle.scope.specs.Abstract.{STRUCT}
 use Rattle.scope.specs.Syntax.{abstract, defined, exact, i32, Val, num, nullable, nonNull, Field, struct, func, Definition}
-use Rattle.scope.specs.Judging.{accepted, judgeSection}
+use Rattle.scope.specs.Judging.{accepted, Joined, judgeJoined}
 use Rattle.scope.proofs.Computes.{computes}
 use Rattle.facts_sections.specs.Allowed.{Allowed}
 use Rattle.facts_sections.proofs.Exactly.{accepted-exactly}
@@ -48,9 +49,12 @@ manyDefinitions =
     ∷ record { isOpen = false; supers = []; describes = none; descriptor = none; form = func [] []; from = 62; to = 65; reach = 7 }
     ∷ []
 
-many-accepted : judgeSection manyTypes ≡ accepted manyDefinitions
+abbrev pub manyJoined : Joined
+manyJoined = record { before = 0; types = manyDefinitions }
+
+many-accepted : judgeJoined emptyLibrary manyTypes ≡ accepted manyJoined
 unfolding computes
 many-accepted = refl
 
-pub many-allowed : Allowed manyTypes manyDefinitions
-many-allowed = accepted-exactly manyTypes manyDefinitions .0 many-accepted
+pub many-allowed : Allowed emptyLibrary manyTypes manyJoined
+many-allowed = accepted-exactly emptyLibrary manyTypes manyJoined .0 many-accepted

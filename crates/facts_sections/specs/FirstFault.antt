@@ -1,21 +1,22 @@
--- Which fault of a section's rules is the first, in document 01's order: "type by type, 6, 7 and the chain; then, type by
+-- Which fault of the rules is the first, in document 01's order: "type by type, 6, 7 and the chain; then, type by
 -- type again, 8 to 13 in rising number." The rules are the relations, each with the number that is said where it is
 -- broken. Rule 2 is asked by each type's own form (OwnForms.antt of facts_types): the order of rule 6 says the same only of a table
 -- whose forms are equal along supertypes, and a fault may be said before that is known.
 use Prim.Native.Nat.{ℕ, _<_}
 use mathlib.Core.Path.{_≡_}
-use mathlib.Core.List.{List, [], _∷_}
+use mathlib.Core.List.{List, [], _∷_, _++_}
 use lib.ListN.{length}
 use Rattle.scope.specs.Lists.{joined}
 use Rattle.scope.specs.Reading.{refused}
 use Rattle.scope.specs.Refusals.{oversize, outOfReach, badSupertype, noMatch, clauseNotOnStruct, describesNotEarlier, clausesDisagree, badDescriptor, badDescribes}
-use Rattle.scope.specs.Syntax.{Group, Types, typesOf}
-use Rattle.scope.specs.Sections.{readSection}
+use Rattle.scope.specs.declared.Place.{Place}
+use Rattle.scope.specs.declared.Place
+use Rattle.scope.specs.Syntax.{Definition, Group, Types, typesOf}
+use Rattle.scope.specs.Sections.{readAfter}
 use Rattle.facts_types.specs.TypeRelations.{InReach, SupertypesOf, OnStruct, DescribesEarlier, ClausesAgree, Descriptors, Described}
 use Rattle.facts_types.specs.Chains.{ShortChain}
-use Rattle.facts_sections.specs.WithinSizes.{WithinSizes}
 use Rattle.facts_types.specs.OwnForms.{OwnMatches}
-use Rattle.facts_sections.specs.Writing.{WritesSection}
+use Rattle.facts_sections.specs.Allowed.{Section, LibraryAllowed}
 
 -- what a rule says, and the number of its refusal
 pub record Rule : Type 1 where
@@ -61,7 +62,16 @@ pub data FirstFault (ts : Types) (n number place : ℕ) : Type 1 where
   in-links : FirstAmong (linkRules ts) n number place → FirstFault ts n number place
   in-rules : ((y : ℕ) → y < n → AllKept (linkRules ts y)) → FirstAmong (typeRules ts) n number place → FirstFault ts n number place
 
--- a section is refused for its bytes, or, where these are a writing within the sizes, for the first fault of its rules
-pub data Refused (s : List ℕ) (number place : ℕ) : Type 1 where
-  by-bytes : readSection s ≡ refused number place → Refused s number place
-  by-rules : {gs : List Group} → WritesSection s gs → WithinSizes s gs → FirstFault (typesOf (joined gs)) (length (joined gs)) number place → Refused s number place
+-- a library is refused for its bytes, at a place in the library, or, where these are a writing within the sizes, for the first fault of
+-- its rules, at the number of a type
+pub data LibraryRefused (library : List ℕ) (number : ℕ) : Place → Type 1 where
+  library-bytes : {p : ℕ} → readAfter 0 library ≡ refused number p → LibraryRefused library number (Place.the-variants.Library p)
+  library-rules : {gs : List Group} {x : ℕ} → Section 0 library gs → FirstFault (typesOf (joined gs)) (length (joined gs)) number x → LibraryRefused library number (Place.the-variants.Plain x)
+
+-- "All the library's faults, rules included, come .. before any of the add-on's": the add-on is refused only after a library that is
+-- allowed, for its own bytes, at a place in its own input, or for the first fault of the rules of the joined list
+pub data Refused (library addon : List ℕ) (number : ℕ) : Place → Type 1 where
+  by-library : {p : Place} → LibraryRefused library number p → Refused library addon number p
+  by-bytes : {ls : List Definition} {p : ℕ} → LibraryAllowed library ls → readAfter (length ls) addon ≡ refused number p → Refused library addon number (Place.the-variants.Addon p)
+  by-rules : {ls : List Definition} {gs : List Group} {x : ℕ} → LibraryAllowed library ls → Section (length ls) addon gs
+      → FirstFault (typesOf (ls ++ joined gs)) (length (ls ++ joined gs)) number x → Refused library addon number (Place.the-variants.Plain x)

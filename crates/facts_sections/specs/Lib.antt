@@ -5,3 +5,6 @@ pub mod NumberFaults
 pub mod OneWriting
 pub mod Allowed
 pub mod FirstFault
+pub mod Libraries
+pub mod Limits
+pub mod EmptyLibrary

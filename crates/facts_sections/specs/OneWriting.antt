@@ -13,7 +13,7 @@ use Rattle.scope.specs.Reading.{Read, got, then}
 use Rattle.scope.specs.Numbers.{Whole}
 use Rattle.scope.specs.Abstract.{Abstract, row}
 use Rattle.scope.specs.Syntax.{Heap, abstract, defined, exact, i32, Number, Val, num, ref, Field, Form, struct, func, Definition, Group}
-use Rattle.scope.specs.Sections.{readSection}
+use Rattle.scope.specs.Sections.{readAfter}
 use Rattle.facts_sections.specs.Writing.{Unsigned, Signed, WritesHeap, WritesVal, WritesClause, WritesSection}
 
 pub data All {A : Type 0} (P : A → Type 0) : List A → Type 0 where
@@ -46,7 +46,7 @@ pub record OneWriting : Type 0 where
   -- the exception, whole
   pub either : {w : List ℕ} {a : Abstract} → WritesVal w (ref true (abstract a)) ↔ ((w ≡ row a .code ∷ []) ⊎ (w ≡ 0x63 ∷ row a .code ∷ []))
   -- a section's syntax says its bytes; that its bytes say its syntax is `one-syntax` of proofs/SectionReading.antt
-  pub sections : {w u : List ℕ} {gs : List Group} → OneWayGroups gs → Bytes w → Bytes u → WritesSection w gs → WritesSection u gs → w ≡ u
+  pub sections : {first : ℕ} {w u : List ℕ} {gs : List Group} → OneWayGroups gs → Bytes w → Bytes u → WritesSection first w gs → WritesSection first u gs → w ≡ u
 
 -- The exceptions, by bytes
 
@@ -56,7 +56,7 @@ unplaced d =
     record { isOpen = d .isOpen; supers = d .supers; describes = d .describes; descriptor = d .descriptor; form = d .form; from = 0; to = 0; reach = d .reach }
 
 abbrev pub readUnplaced : List ℕ → Read (List Group)
-readUnplaced s = then (readSection s) (λ gs stop. got (map (map unplaced) gs) 0)
+readUnplaced s = then (readAfter 0 s) (λ gs stop. got (map (map unplaced) gs) 0)
 
 -- two sections that differ in the writing of one thing
 pub record TwoWritings : Type 0 where
@@ -102,6 +102,6 @@ oneWayGroups =
 
 pub record HowFar : Type 0 where
   pub unplacedSame : map (λ (t : TwoWritings). readUnplaced (t .one)) severalWritings ≡ map (λ (t : TwoWritings). readUnplaced (t .other)) severalWritings
-  pub placedSame : readSection (samePlaces .one) ≡ readSection (samePlaces .other)
+  pub placedSame : readAfter 0 (samePlaces .one) ≡ readAfter 0 (samePlaces .other)
   -- whoever writes what this section says writes these bytes
-  pub met : WritesSection oneWay oneWayGroups × ((u : List ℕ) → Bytes u → WritesSection u oneWayGroups → u ≡ oneWay)
+  pub met : WritesSection 0 oneWay oneWayGroups × ((u : List ℕ) → Bytes u → WritesSection 0 u oneWayGroups → u ≡ oneWay)

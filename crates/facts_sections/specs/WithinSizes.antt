@@ -1,6 +1,6 @@
--- Document 01's sizes that bear on a section, as relations over its syntax: 32,768 bytes; 256 types; 64 fields,
+-- The sizes that bear on a section, as relations over its syntax: 32,768 bytes; 1,024 types, with those that stand before; 64 fields,
 -- parameters or results each. The chain's 63 steps stand in facts_types.
-use Prim.Native.Nat.{ℕ, _≤_}
+use Prim.Native.Nat.{ℕ, _+_, _≤_}
 use mathlib.Core.List.{List, List·Memᴰ}
 use lib.ListN.{length}
 use Rattle.scope.specs.Sizes.{mostBytes, mostTypes, mostEach}
@@ -19,8 +19,8 @@ pub data FormFits : Form → Type 0 where
 abbrev pub DefinitionFits : Definition → Type 0
 DefinitionFits d = FormFits (d .form)
 
--- the sizes of a section's bytes and syntax
-pub record WithinSizes (s : List ℕ) (gs : List Group) : Type 0 where
+-- the sizes of a section's bytes and syntax. So many types stand before it: "1,024 for both together".
+pub record WithinSizes (first : ℕ) (s : List ℕ) (gs : List Group) : Type 0 where
   pub bytes : length s ≤ mostBytes
-  pub types : length (joined gs) ≤ mostTypes
+  pub types : first + length (joined gs) ≤ mostTypes
   pub forms : Each DefinitionFits (joined gs)

@@ -131,6 +131,6 @@ pub data WritesGroups : ℕ → ℕ → List ℕ → List Group → Type 0 where
   a-group : {first at : ℕ} {w u : List ℕ} {g : Group} {gs : List Group}
       → WritesGroup first at w g → WritesGroups (first + length g) (at + length w) u gs → WritesGroups first at (w ++ u) (g ∷ gs)
 
--- "A section is the content of a type section: a list of groups."
-pub data WritesSection : List ℕ → List Group → Type 0 where
-  a-section : {w u : List ℕ} {gs : List Group} → Unsigned 32 w (length gs) → WritesGroups 0 (length w) u gs → WritesSection (w ++ u) gs
+-- "A section is the content of a type section: a list of groups." So many types stand before it, and its "own numbers run on".
+pub data WritesSection (first : ℕ) : List ℕ → List Group → Type 0 where
+  a-section : {w u : List ℕ} {gs : List Group} → Unsigned 32 w (length gs) → WritesGroups first (length w) u gs → WritesSection first (w ++ u) gs

@@ -125,15 +125,17 @@ scan-accepts fault x (suc n) h =
     let q : x + 1 + n ≡ x + suc n = omega arith in
     rw (here, later, q)
 
-pub allowed-judged : {ds : List Definition} → AllowedTypes ds → judgeTypes (typesOf ds) (length ds) ≡ accepted (length ds)
+pub faultless-judged : (ts : Types) (n : ℕ) → ((x : ℕ) → x < n → (linksFault ts x ≡ none) × (ruleFault ts x ≡ none)) → judgeTypes ts n ≡ accepted n
 unfolding judgeTypes
-allowed-judged {ds} allowed =
-    let links : scan (linksFault (typesOf ds)) 0 (length ds) ≡ accepted (0 + length ds) =
-    scan-accepts (linksFault (typesOf ds)) 0 (length ds) (λ x below. links-no-fault (typesOf ds) x (valid-links allowed x (omega arith))) in
-    let rules : scan (ruleFault (typesOf ds)) 0 (length ds) ≡ accepted (0 + length ds) =
-    scan-accepts (ruleFault (typesOf ds)) 0 (length ds) (λ x below. rules-no-fault (typesOf ds) x (valid-rules allowed x (omega arith))) in
-    let q : 0 + length ds ≡ length ds = omega arith in
+faultless-judged ts n h =
+    let links : scan (linksFault ts) 0 n ≡ accepted (0 + n) = scan-accepts (linksFault ts) 0 n (λ x below. h x (omega arith) .0) in
+    let rules : scan (ruleFault ts) 0 n ≡ accepted (0 + n) = scan-accepts (ruleFault ts) 0 n (λ x below. h x (omega arith) .1) in
+    let q : 0 + n ≡ n = omega arith in
     rw (links, rules, q)
+
+pub allowed-judged : {ds : List Definition} → AllowedTypes ds → judgeTypes (typesOf ds) (length ds) ≡ accepted (length ds)
+allowed-judged {ds} allowed =
+    faultless-judged (typesOf ds) (length ds) (λ x below. (links-no-fault (typesOf ds) x (valid-links allowed x below), rules-no-fault (typesOf ds) x (valid-rules allowed x below)))
 
 -- The rules' half, whole
 

@@ -5,3 +5,5 @@ pub mod TenTypes
 pub mod OwnForms
 pub mod Judge
 pub mod UnequalForms
+pub mod Longer
+pub mod Reaches

@@ -10,8 +10,8 @@ use Rattle.scope.specs.Order.{heaps, transitive, supertype, kind}
 use Rattle.scope.specs.Lists.{joined}
 use Rattle.scope.specs.Reading.{Read, got, refused}
 use Rattle.scope.specs.Syntax.{Val, Field, struct, func, Group, Types, typesOf}
-use Rattle.scope.specs.Sections.{readSection}
-use Rattle.scope.specs.Judging.{rejected, judgeSection}
+use Rattle.scope.specs.Sections.{readAfter, emptyLibrary}
+use Rattle.scope.specs.Judging.{plain, rejected, judgeJoined}
 use Rattle.scope.proofs.Computes.{computes}
 use Rattle.facts_types.specs.TypeRelations.{Matches, structs, one-and-more, any-more, fixed-subtype, FormMatches}
 
@@ -23,20 +23,20 @@ abbrev typesRead : Read (List Group) → Types
 typesRead (got gs end) = typesOf (joined gs)
 typesRead (refused n p) = typesOf []
 
-pub said-of-type-2 : judgeSection functionBelowStruct ≡ rejected noMatch 2
+pub said-of-type-2 : judgeJoined emptyLibrary functionBelowStruct ≡ rejected noMatch (plain 2)
 unfolding computes
 said-of-type-2 = refl
 
-pub type-2-matches : Matches (typesRead (readSection functionBelowStruct)) 2
+pub type-2-matches : Matches (typesRead (readAfter 0 functionBelowStruct)) 2
 unfolding computes
 type-2-matches = record { matched = λ {p} e. go p e }
   where
-    go : (p : ℕ) → some 1 ≡ some p → FormMatches (typesRead (readSection functionBelowStruct)) (typesRead (readSection functionBelowStruct) 2 .form) (typesRead (readSection functionBelowStruct) p .form)
+    go : (p : ℕ) → some 1 ≡ some p → FormMatches (typesRead (readAfter 0 functionBelowStruct)) (typesRead (readAfter 0 functionBelowStruct) 2 .form) (typesRead (readAfter 0 functionBelowStruct) p .form)
     go p e = let q : 1 ≡ p = cc in rw (← q) (structs (one-and-more (fixed-subtype (heaps (transitive (supertype {y = 0} refl) (kind refl)))) any-more))
 
 function-is-no-struct : {ts : Types} {ps rs : List Val} {fs : List Field} → FormMatches ts (func ps rs) (struct fs) → ⊥
 function-is-no-struct m = elim m [ ]
 
-pub type-3-does-not : Matches (typesRead (readSection functionBelowStruct)) 3 → ⊥
+pub type-3-does-not : Matches (typesRead (readAfter 0 functionBelowStruct)) 3 → ⊥
 unfolding computes
 type-3-does-not m = function-is-no-struct (m .matched {p = 0} refl)

@@ -6,10 +6,12 @@ use mathlib.Core.Bool.{Bool, true, false, false≢true}
 use mathlib.Core.List.{List, []}
 use lib.ListN.{length}
 use borrow.Author.Tests.{ltb-true}
+use Rattle.scope.specs.Sections.{emptyLibrary}
 use Rattle.scope.specs.Abstract.{NOEXTERN, NONE, FUNC, ANY, EQ, I31, STRUCT}
 use Rattle.scope.specs.Syntax.{Heap, abstract, defined, exact, Val, ref, nullable, nonNull, Definition, typesOf}
 use Rattle.scope.specs.Order.{listed, supertype, heaps, nulls, chained}
-use Rattle.scope.specs.Judging.{Judged, accepted, rejected, judgeSection}
+use Rattle.scope.specs.declared.Place.{Place}
+use Rattle.scope.specs.Judging.{plain, Judged, accepted, rejected, Joined, judgeJoined}
 use Rattle.scope.specs.BodyRules.{oneHierarchy}
 use Rattle.scope.specs.Bodies.{Body, instructions, judgeBody}
 use Rattle.scope.proofs.Computes.{computes}
@@ -21,12 +23,15 @@ use Rattle.facts_witnesses.specs.Samples.{W, everyKind, everyNumber, oth
 use Rattle.facts_bodies.proofs.Hierarchies.{tested-shares, matching-shares, shared-exactly-in-one-hierarchy, one-hierarchy-exactly-tested}
 use Rattle.facts_bodies.proofs.Main.{accepted-exactly-when-allowed}
 
-abbrev definitionsOf : Judged (List Definition) → List Definition
-definitionsOf (accepted ds) = ds
-definitionsOf (rejected n p) = []
+abbrev joinedOf : Judged Joined → Joined
+joinedOf (accepted j) = j
+joinedOf (rejected n p) = record { before = 0; types = [] }
+
+abbrev both : Joined
+both = joinedOf (judgeJoined emptyLibrary W)
 
 abbrev types : List Definition
-types = definitionsOf (judgeSection W)
+types = both .types
 
 abbrev isYes : {A : Type 0} → Judged A → Bool
 isYes (accepted x) = true
@@ -40,16 +45,16 @@ abbrev countOf : Judged Body → ℕ
 countOf (accepted b) = instructions b
 countOf (rejected n p) = 0
 
-W-accepted : judgeSection W ≡ accepted types
+W-accepted : judgeJoined emptyLibrary W ≡ accepted both
 unfolding computes
 W-accepted = refl
 
-derived : (s : List ℕ) → isYes (judgeBody W s 6) ≡ true → AllowedBody types 6 s
-derived s e = accepted-exactly-when-allowed W s 6 W-accepted .0 (said-yes _ e)
+derived : (s : List ℕ) → isYes (judgeBody emptyLibrary W s 6) ≡ true → AllowedBody types 6 s
+derived s e = accepted-exactly-when-allowed emptyLibrary W s 6 W-accepted .0 (said-yes _ e)
 
-underivable : (s : List ℕ) {n p : ℕ} → judgeBody W s 6 ≡ rejected n p → ¬ AllowedBody types 6 s
+underivable : (s : List ℕ) {n : ℕ} {p : Place} → judgeBody emptyLibrary W s 6 ≡ rejected n p → ¬ AllowedBody types 6 s
 underivable s e a =
-    let (b, yes′) = accepted-exactly-when-allowed W s 6 W-accepted .1 a in
+    let (b, yes′) = accepted-exactly-when-allowed emptyLibrary W s 6 W-accepted .1 a in
     contradiction cc
 
 -- a yes: 87 instructions of every kind; 44 with numbers of every kind; a local that is set around a block; branching casts to a type above the source, and to one
@@ -59,7 +64,7 @@ pub every-kind-allowed : AllowedBody types 6 everyKind
 unfolding computes
 every-kind-allowed = derived everyKind refl
 
-pub every-kind-counted : countOf (judgeBody W everyKind 6) ≡ 87
+pub every-kind-counted : countOf (judgeBody emptyLibrary W everyKind 6) ≡ 87
 unfolding computes
 every-kind-counted = refl
 
@@ -67,7 +72,7 @@ pub every-number-allowed : AllowedBody types 6 everyNumber
 unfolding computes
 every-number-allowed = derived everyNumber refl
 
-pub every-number-counted : countOf (judgeBody W everyNumber 6) ≡ 44
+pub every-number-counted : countOf (judgeBody emptyLibrary W everyNumber 6) ≡ 44
 unfolding computes
 every-number-counted = refl
 
@@ -87,63 +92,63 @@ target-beside-allowed = derived targetBeside refl
 
 pub forgotten-not-allowed : ¬ AllowedBody types 6 forgotten
 unfolding computes
-forgotten-not-allowed = underivable forgotten {n = 22} {p = 25} refl
+forgotten-not-allowed = underivable forgotten {n = 22} {p = plain 25} refl
 
 pub unwanted-descriptor-not-allowed : ¬ AllowedBody types 6 unwantedDescriptor
 unfolding computes
-unwanted-descriptor-not-allowed = underivable unwantedDescriptor {n = 23} {p = 1} refl
+unwanted-descriptor-not-allowed = underivable unwantedDescriptor {n = 23} {p = plain 1} refl
 
 pub missing-descriptor-not-allowed : ¬ AllowedBody types 6 missingDescriptor
 unfolding computes
-missing-descriptor-not-allowed = underivable missingDescriptor {n = 23} {p = 1} refl
+missing-descriptor-not-allowed = underivable missingDescriptor {n = 23} {p = plain 1} refl
 
 pub fixed-field-not-allowed : ¬ AllowedBody types 6 fixedField
 unfolding computes
-fixed-field-not-allowed = underivable fixedField {n = 24} {p = 5} refl
+fixed-field-not-allowed = underivable fixedField {n = 24} {p = plain 5} refl
 
 pub other-hierarchy-not-allowed : ¬ AllowedBody types 6 otherHierarchy
 unfolding computes
-other-hierarchy-not-allowed = underivable otherHierarchy {n = 25} {p = 5} refl
+other-hierarchy-not-allowed = underivable otherHierarchy {n = 25} {p = plain 5} refl
 
 pub label-without-types-not-allowed : ¬ AllowedBody types 6 labelWithoutTypes
 unfolding computes
-label-without-types-not-allowed = underivable labelWithoutTypes {n = 25} {p = 5} refl
+label-without-types-not-allowed = underivable labelWithoutTypes {n = 25} {p = plain 5} refl
 
 pub values-left-not-allowed : ¬ AllowedBody types 6 valuesLeft
 unfolding computes
-values-left-not-allowed = underivable valuesLeft {n = 28} {p = 3} refl
+values-left-not-allowed = underivable valuesLeft {n = 28} {p = plain 3} refl
 
 pub no-default-not-allowed : ¬ AllowedBody types 6 noDefault
 unfolding computes
-no-default-not-allowed = underivable noDefault {n = 29} {p = 4} refl
+no-default-not-allowed = underivable noDefault {n = 29} {p = plain 4} refl
 
 pub number-as-reference-not-allowed : ¬ AllowedBody types 6 numberAsReference
 unfolding computes
-number-as-reference-not-allowed = underivable numberAsReference {n = 20} {p = 3} refl
+number-as-reference-not-allowed = underivable numberAsReference {n = 20} {p = plain 3} refl
 
 pub unknown-as-number-not-allowed : ¬ AllowedBody types 6 unknownAsNumber
 unfolding computes
-unknown-as-number-not-allowed = underivable unknownAsNumber {n = 20} {p = 3} refl
+unknown-as-number-not-allowed = underivable unknownAsNumber {n = 20} {p = plain 3} refl
 
 pub other-number-not-allowed : ¬ AllowedBody types 6 otherNumber
 unfolding computes
-other-number-not-allowed = underivable otherNumber {n = 20} {p = 4} refl
+other-number-not-allowed = underivable otherNumber {n = 20} {p = plain 4} refl
 
 pub mixed-numbers-not-allowed : ¬ AllowedBody types 6 mixedNumbers
 unfolding computes
-mixed-numbers-not-allowed = underivable mixedNumbers {n = 20} {p = 15} refl
+mixed-numbers-not-allowed = underivable mixedNumbers {n = 20} {p = plain 15} refl
 
 pub test-gives-no-other : ¬ AllowedBody types 6 testGivesNoOther
 unfolding computes
-test-gives-no-other = underivable testGivesNoOther {n = 20} {p = 4} refl
+test-gives-no-other = underivable testGivesNoOther {n = 20} {p = plain 4} refl
 
 pub block-starts-empty-not-allowed : ¬ AllowedBody types 6 blockStartsEmpty
 unfolding computes
-block-starts-empty-not-allowed = underivable blockStartsEmpty {n = 20} {p = 5} refl
+block-starts-empty-not-allowed = underivable blockStartsEmpty {n = 20} {p = plain 5} refl
 
 pub label-absent-not-allowed : ¬ AllowedBody types 6 labelAbsent
 unfolding computes
-label-absent-not-allowed = underivable labelAbsent {n = 21} {p = 1} refl
+label-absent-not-allowed = underivable labelAbsent {n = 21} {p = plain 1} refl
 
 -- supertypes that types share
 
@@ -156,7 +161,7 @@ struct-and-i31-share =
     record { null = true; heap = abstract EQ; valid = abstract-reached; aboveSource = heaps (listed refl); aboveTarget = chained nulls (heaps (listed refl)) }
 
 pub struct-and-i31-in-one-hierarchy : OneHierarchy (typesOf types) (abstract STRUCT) (abstract I31)
-struct-and-i31-in-one-hierarchy = shared-exactly-in-one-hierarchy W W-accepted (abstract STRUCT) (abstract I31) true false .0 struct-and-i31-share
+struct-and-i31-in-one-hierarchy = shared-exactly-in-one-hierarchy emptyLibrary W W-accepted (abstract STRUCT) (abstract I31) true false .0 struct-and-i31-share
 
 -- where the target matches the source, the source is shared: type 2 is below type 0
 pub matching-share : Share (nullable (defined 0)) (nullable (defined 2))
@@ -175,8 +180,8 @@ bottom-shares = tested-shares true false (abstract NONE) (exact 0) refl
 -- nothing is above both of two hierarchies
 share-none : (h k : Heap) → oneHierarchy (typesOf types) h k ≡ false → {n m : Bool} → ¬ Share (ref n h) (ref m k)
 share-none h k e {n} {m} shared =
-    let one = shared-exactly-in-one-hierarchy W W-accepted h k n m .0 shared in
-    false≢true (sym e ∙ one-hierarchy-exactly-tested W W-accepted h k .0 one)
+    let one = shared-exactly-in-one-hierarchy emptyLibrary W W-accepted h k n m .0 shared in
+    false≢true (sym e ∙ one-hierarchy-exactly-tested emptyLibrary W W-accepted h k .0 one)
 
 pub func-and-any-share-none : ¬ Share (nullable (abstract FUNC)) (nullable (abstract ANY))
 func-and-any-share-none = share-none (abstract FUNC) (abstract ANY) refl
