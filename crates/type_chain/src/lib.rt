@@ -7,18 +7,18 @@ use type_table::Supers;
 ghost use mathlib.Core.Path.{_≡_};
 ghost use Rattle.scope.specs.Sizes.{mostSteps};
 ghost use Rattle.scope.specs.TypeRules.{superEarlierAndOpen, shortChain};
-ghost use Rattle.type_table.specs.View.{view};
+ghost use Rattle.type_table.specs.View.{view, bothCodes};
 
 // Rule 1: at most one supertype; it is earlier and open.
-pub fn super_earlier_and_open(rows: &[u16], codes: &[u16], x: u64) -> bool
-    ensures { λ r. ⌜ r ≡ superEarlierAndOpen (view (now (rows .entry)) (now (codes .entry))) x ⌝ }
+pub fn super_earlier_and_open(rows: &[u16], shared: &[u16], codes: &[u16], x: u64) -> bool
+    ensures { λ r. ⌜ r ≡ superEarlierAndOpen (view (now (rows .entry)) (bothCodes (now (shared .entry)) (now (codes .entry)))) x ⌝ }
 {
-    let supers = type_table::supers_of(rows, codes, x);
+    let supers = type_table::supers_of(rows, shared, codes, x);
     match supers {
         Supers::Nothing => true,
         Supers::One(p) => {
             if p < x {
-                type_table::is_open(rows, codes, p)
+                type_table::is_open(rows, shared, codes, p)
             } else {
                 false
             }
@@ -28,20 +28,20 @@ pub fn super_earlier_and_open(rows: &[u16], codes: &[u16], x: u64) -> bool
 }
 
 // Sizes: 63 steps up a supertype chain.
-pub fn short_chain(rows: &[u16], codes: &[u16], x: u64) -> bool
-    ensures { λ r. ⌜ r ≡ shortChain mostSteps (view (now (rows .entry)) (now (codes .entry))) x ⌝ }
+pub fn short_chain(rows: &[u16], shared: &[u16], codes: &[u16], x: u64) -> bool
+    ensures { λ r. ⌜ r ≡ shortChain mostSteps (view (now (rows .entry)) (bothCodes (now (shared .entry)) (now (codes .entry)))) x ⌝ }
 {
     let mut at = x;
     let mut left = sizes::MOST_STEPS;
     while 0 < left {
-        let above = type_table::super_of(rows, codes, at);
+        let above = type_table::super_of(rows, shared, codes, at);
         let Link::To(p) = above else {
             return true;
         };
         at = p;
         left = left - 1;
     }
-    let last = type_table::super_of(rows, codes, at);
+    let last = type_table::super_of(rows, shared, codes, at);
     match last {
         Link::Nothing => true,
         Link::To(_) => false,

@@ -5,7 +5,7 @@ use type_table::ValKind;
 ghost use mathlib.Core.Path.{_≡_};
 ghost use Rattle.scope.specs.Syntax.{ref};
 ghost use Rattle.scope.specs.Order.{valFit, sameVal};
-ghost use Rattle.type_table.specs.View.{heapAtCode, valAtCode, view};
+ghost use Rattle.type_table.specs.View.{heapAtCode, valAtCode, view, bothCodes};
 ghost use Rattle.type_fit.specs.Outcomes.{fitIs};
 
 // What the test of one type against another comes to: it fits, it would fit if it could not be null, or it does not fit.
@@ -17,14 +17,14 @@ pub enum Fit {
 
 // A reference against the value type with the code b: the heaps decide, and then null. A non-null reference is below the
 // nullable one.
-fn ref_fit(rows: &[u16], codes: &[u16], nullable: bool, h: u64, b: u64) -> Fit
-    ensures { λ r. ⌜ r ≡ fitIs (valFit (view (now (rows .entry)) (now (codes .entry))) (ref nullable (heapAtCode h)) (valAtCode b)) ⌝ }
+fn ref_fit(rows: &[u16], shared: &[u16], codes: &[u16], nullable: bool, h: u64, b: u64) -> Fit
+    ensures { λ r. ⌜ r ≡ fitIs (valFit (view (now (rows .entry)) (bothCodes (now (shared .entry)) (now (codes .entry)))) (ref nullable (heapAtCode h)) (valAtCode b)) ⌝ }
 {
     let upper = type_table::val_of(b);
     match upper {
         ValKind::Number(_) => Fit::Unfit,
         ValKind::Ref(m, k) => {
-            if !type_order::heap_below(rows, codes, h, k) {
+            if !type_order::heap_below(rows, shared, codes, h, k) {
                 return Fit::Unfit;
             }
             if m {
@@ -39,8 +39,8 @@ fn ref_fit(rows: &[u16], codes: &[u16], nullable: bool, h: u64, b: u64) -> Fit
 }
 
 // Most comparisons are of a type with itself, which fits.
-pub fn val_fit(rows: &[u16], codes: &[u16], a: u64, b: u64) -> Fit
-    ensures { λ r. ⌜ r ≡ fitIs (valFit (view (now (rows .entry)) (now (codes .entry))) (valAtCode a) (valAtCode b)) ⌝ }
+pub fn val_fit(rows: &[u16], shared: &[u16], codes: &[u16], a: u64, b: u64) -> Fit
+    ensures { λ r. ⌜ r ≡ fitIs (valFit (view (now (rows .entry)) (bothCodes (now (shared .entry)) (now (codes .entry)))) (valAtCode a) (valAtCode b)) ⌝ }
 {
     if a == b {
         return Fit::Fits;
@@ -48,7 +48,7 @@ pub fn val_fit(rows: &[u16], codes: &[u16], a: u64, b: u64) -> Fit
     let lower = type_table::val_of(a);
     match lower {
         ValKind::Number(_) => Fit::Unfit,
-        ValKind::Ref(n, h) => ref_fit(rows, codes, n, h, b),
+        ValKind::Ref(n, h) => ref_fit(rows, shared, codes, n, h, b),
     }
 }
 

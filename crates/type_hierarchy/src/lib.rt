@@ -9,11 +9,11 @@ ghost use Rattle.scope.specs.Abstract.{sameAbstract};
 ghost use Rattle.scope.specs.Memory.{abstractCode};
 ghost use Rattle.scope.specs.Order.{kindOf, bottomOf, abstractBelow, climbs};
 ghost use Rattle.type_abstract.specs.Heaps.{abstractAt};
-ghost use Rattle.type_table.specs.View.{view};
+ghost use Rattle.type_table.specs.View.{view, bothCodes};
 
 // From x up the declared supertypes to y.
-pub fn climbs_to(rows: &[u16], codes: &[u16], x: u64, y: u64) -> bool
-    ensures { λ r. ⌜ r ≡ climbs mostSteps (view (now (rows .entry)) (now (codes .entry))) x y ⌝ }
+pub fn climbs_to(rows: &[u16], shared: &[u16], codes: &[u16], x: u64, y: u64) -> bool
+    ensures { λ r. ⌜ r ≡ climbs mostSteps (view (now (rows .entry)) (bothCodes (now (shared .entry)) (now (codes .entry)))) x y ⌝ }
 {
     let mut at = x;
     let mut left = sizes::MOST_STEPS;
@@ -21,7 +21,7 @@ pub fn climbs_to(rows: &[u16], codes: &[u16], x: u64, y: u64) -> bool
         if at == y {
             return true;
         }
-        let above = type_table::super_of(rows, codes, at);
+        let above = type_table::super_of(rows, shared, codes, at);
         let Link::To(p) = above else {
             return false;
         };
@@ -32,10 +32,10 @@ pub fn climbs_to(rows: &[u16], codes: &[u16], x: u64, y: u64) -> bool
 }
 
 // The number of struct or func: what a type is below by its form.
-pub fn kind_of(rows: &[u16], codes: &[u16], x: u64) -> u64
-    ensures { λ r. ⌜ r ≡ abstractCode (kindOf (view (now (rows .entry)) (now (codes .entry)) x .form)) ⌝ }
+pub fn kind_of(rows: &[u16], shared: &[u16], codes: &[u16], x: u64) -> u64
+    ensures { λ r. ⌜ r ≡ abstractCode (kindOf (view (now (rows .entry)) (bothCodes (now (shared .entry)) (now (codes .entry))) x .form)) ⌝ }
 {
-    if type_table::is_struct(rows, codes, x) {
+    if type_table::is_struct(rows, shared, codes, x) {
         type_abstract::STRUCT as u64
     } else {
         type_abstract::FUNC as u64
@@ -43,18 +43,18 @@ pub fn kind_of(rows: &[u16], codes: &[u16], x: u64) -> u64
 }
 
 // Whether a type's kind is an abstract type or below it.
-pub fn kind_below(rows: &[u16], codes: &[u16], x: u64, b: u64) -> bool
-    ensures { λ r. ⌜ r ≡ abstractBelow (kindOf (view (now (rows .entry)) (now (codes .entry)) x .form)) (abstractAt b) ⌝ }
+pub fn kind_below(rows: &[u16], shared: &[u16], codes: &[u16], x: u64, b: u64) -> bool
+    ensures { λ r. ⌜ r ≡ abstractBelow (kindOf (view (now (rows .entry)) (bothCodes (now (shared .entry)) (now (codes .entry))) x .form)) (abstractAt b) ⌝ }
 {
-    let kind = kind_of(rows, codes, x);
+    let kind = kind_of(rows, shared, codes, x);
     type_abstract::abstract_below(kind, b)
 }
 
 // Whether an abstract type is the bottom of a type's hierarchy.
-pub fn is_bottom(rows: &[u16], codes: &[u16], a: u64, y: u64) -> bool
-    ensures { λ r. ⌜ r ≡ sameAbstract (abstractAt a) (bottomOf (view (now (rows .entry)) (now (codes .entry)) y .form)) ⌝ }
+pub fn is_bottom(rows: &[u16], shared: &[u16], codes: &[u16], a: u64, y: u64) -> bool
+    ensures { λ r. ⌜ r ≡ sameAbstract (abstractAt a) (bottomOf (view (now (rows .entry)) (bothCodes (now (shared .entry)) (now (codes .entry))) y .form)) ⌝ }
 {
-    let kind = kind_of(rows, codes, y);
+    let kind = kind_of(rows, shared, codes, y);
     let bottom = type_abstract::bottom_of(kind);
     a == bottom
 }

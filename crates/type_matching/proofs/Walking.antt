@@ -1,4 +1,4 @@
--- The loop of codes_match and the two tests over lists walk the same codes: where a pair matches, the test of the whole is
+-- The loops over two lists of codes and the two tests over lists walk the same codes: where a pair matches, the test of the whole is
 -- that of the rest, and where it does not, the test fails.
 use Prim.Native.Nat.{ℕ, zero, suc, _+_, _-_, _/_, _%_, _≤_, _<_, _^_}
 use mathlib.Core.Path.{_≡_, refl, sym, ap, _∙_}
@@ -13,9 +13,11 @@ use Rattle.scope.specs.Lists.{pairwise, prefixwise}
 use Rattle.scope.specs.Syntax.{Field, Types}
 use Rattle.scope.specs.Order.{valBelow, sameVal}
 use Rattle.scope.specs.TypeRules.{fieldMatches}
+use Rattle.scope.specs.Layout.{codesSize}
 use Rattle.lent_u16.specs.Words.{WordAt}
-use Rattle.type_table.specs.View.{valAtCode, fieldAtCode, codesAt}
+use Rattle.type_table.specs.View.{valAtCode, fieldAtCode, codesAt, bothCodes}
 use Rattle.type_table.proofs.Laws.{no-codes, first-code}
+use Rattle.type_table.proofs.Sides.{own-codes, shared-codes}
 use Rattle.type_matching.specs.Lists.{codeMatches, codesMatch}
 
 -- one field against another: by the four cases of mutability
@@ -135,3 +137,25 @@ module _ {fields : Bool} {ts : Types} {codes : List ℕ} {i n j m at left up mor
         }
 
 pub ruleset walk-exits = (walk-first, walk-short, walk-fields-done, walk-values-done, next-fits, next-up-fits, walk-stopped, walk-turn)
+
+-- codes that all lie in one part
+
+module _ (ts : Types) (shared codes : List ℕ) (i n j m : ℕ) where
+  own-matched : (fields : Bool) → i + n ≤ codesSize → j + m ≤ codesSize → codesMatch fields ts codes i n j m ≡ codesMatch fields ts (bothCodes shared codes) i n j m
+  unfolding codesMatch
+  own-matched true h g = rw (own-codes fieldAtCode shared codes i n h, own-codes fieldAtCode shared codes j m g)
+  own-matched false h g = rw (own-codes valAtCode shared codes i n h, own-codes valAtCode shared codes j m g)
+
+  shared-matched : (fields : Bool) → codesSize ≤ i → codesSize ≤ j → codesMatch fields ts shared (i - codesSize) n (j - codesSize) m ≡ codesMatch fields ts (bothCodes shared codes) i n j m
+  unfolding codesMatch
+  shared-matched true h g = rw (shared-codes fieldAtCode shared codes i n h, shared-codes fieldAtCode shared codes j m g)
+  shared-matched false h g = rw (shared-codes valAtCode shared codes i n h, shared-codes valAtCode shared codes j m g)
+
+module _ (fields : Bool) (ts : Types) (shared codes : List ℕ) (i n j m : ℕ) {r : Bool} where
+  pub own-walked : i + n ≤ codesSize → j + m ≤ codesSize → r ≡ codesMatch fields ts codes i n j m → r ≡ codesMatch fields ts (bothCodes shared codes) i n j m
+  own-walked h g e = e ∙ own-matched ts shared codes i n j m fields h g
+
+  pub shared-walked : codesSize ≤ i → codesSize ≤ j → r ≡ codesMatch fields ts shared (i - codesSize) n (j - codesSize) m → r ≡ codesMatch fields ts (bothCodes shared codes) i n j m
+  shared-walked h g e = e ∙ shared-matched ts shared codes i n j m fields h g
+
+pub ruleset side-exits = (own-walked, shared-walked)

@@ -4,17 +4,24 @@
 use type_table::HeapKind;
 ghost use mathlib.Core.Path.{_≡_};
 ghost use Rattle.scope.specs.Order.{heapBelow};
-ghost use Rattle.type_table.specs.View.{heapAtCode, view};
+ghost use Rattle.type_table.specs.View.{heapAtCode, view, bothCodes};
 ghost use Rattle.type_named.specs.Named.{named};
 
 // Whether x, or exact x, is below the heap type with the code b. Below exact y there is no type but itself.
-pub fn named_under(rows: &[u16], codes: &[u16], exactly: bool, x: u64, b: u64) -> bool
-    ensures { λ r. ⌜ r ≡ heapBelow (view (now (rows .entry)) (now (codes .entry))) (named exactly x) (heapAtCode b) ⌝ }
+pub fn named_under(
+    rows: &[u16],
+    shared: &[u16],
+    codes: &[u16],
+    exactly: bool,
+    x: u64,
+    b: u64,
+) -> bool
+    ensures { λ r. ⌜ r ≡ heapBelow (view (now (rows .entry)) (bothCodes (now (shared .entry)) (now (codes .entry)))) (named exactly x) (heapAtCode b) ⌝ }
 {
     let upper = type_table::heap_of(b);
     match upper {
-        HeapKind::Abstract(k) => type_hierarchy::kind_below(rows, codes, x, k),
-        HeapKind::Defined(y) => type_hierarchy::climbs_to(rows, codes, x, y),
+        HeapKind::Abstract(k) => type_hierarchy::kind_below(rows, shared, codes, x, k),
+        HeapKind::Defined(y) => type_hierarchy::climbs_to(rows, shared, codes, x, y),
         HeapKind::Exact(y) => { if exactly { x == y } else { false } }
     }
 }

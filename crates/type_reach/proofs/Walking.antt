@@ -1,14 +1,19 @@
--- The loop of codes_in_reach and the list of names walk the same codes: the first code's names stand before the others'.
+-- The loops over codes and the list of names walk the same codes: the first code's names stand before the others'.
 use Prim.Native.Nat.{ℕ, _+_, _-_, _≤_, _<_, _^_}
 use mathlib.Core.Path.{_≡_, refl, sym, ap, _∙_}
 use mathlib.Core.Bool.{Bool, true, false, not, _&&_}
-use mathlib.Core.List.{List, [], _++_}
+use mathlib.Core.List.{List, [], _++_, map}
 use native.Mathlib.Omega.{arith}
 use mir.Syntax.{w32, w64}
 use mir.Val.{Fits}
+use Rattle.scope.specs.Layout.{codesSize}
+use Rattle.scope.specs.Lists.{joined}
+use Rattle.scope.specs.Syntax.{Val, Field}
+use Rattle.scope.specs.TypeRules.{valNames, fieldNames}
 use Rattle.lent_u16.specs.Words.{WordAt}
-use Rattle.type_table.specs.View.{valAtCode, fieldAtCode}
+use Rattle.type_table.specs.View.{valAtCode, fieldAtCode, bothCodes}
 use Rattle.type_table.proofs.Laws.{no-codes, first-code}
+use Rattle.type_table.proofs.Sides.{own-codes, shared-codes}
 use Rattle.type_reach.specs.Names.{allBelow, codeNames, codesNames}
 use Rattle.type_reach.proofs.Naming.{below-none, below-append, part-out, part-in}
 
@@ -53,3 +58,24 @@ module _ {fields : Bool} {codes : List ℕ} {i n reach at left : ℕ} (w : Walk 
     walk-turn t = let c : at + left < 2 ^ 33 = w .near in record { same = whole ∙ sym (part-in r _ t); near = omega arith }
 
 pub ruleset walk-exits = (walk-first, walk-done, next-fits, walk-stopped, walk-turn)
+
+-- codes that all lie in one part
+
+own-names : (fields : Bool) (shared codes : List ℕ) (i n : ℕ) → i + n ≤ codesSize → codesNames fields (bothCodes shared codes) i n ≡ codesNames fields codes i n
+unfolding codesNames
+own-names true shared codes i n h = ap (λ (fs : List Field). joined (map fieldNames fs)) (own-codes fieldAtCode shared codes i n h)
+own-names false shared codes i n h = ap (λ (vs : List Val). joined (map valNames vs)) (own-codes valAtCode shared codes i n h)
+
+shared-names : (fields : Bool) (shared codes : List ℕ) (i n : ℕ) → codesSize ≤ i → codesNames fields (bothCodes shared codes) i n ≡ codesNames fields shared (i - codesSize) n
+unfolding codesNames
+shared-names true shared codes i n h = ap (λ (fs : List Field). joined (map fieldNames fs)) (shared-codes fieldAtCode shared codes i n h)
+shared-names false shared codes i n h = ap (λ (vs : List Val). joined (map valNames vs)) (shared-codes valAtCode shared codes i n h)
+
+module _ (fields : Bool) (shared codes : List ℕ) (i n reach : ℕ) {r : Bool} where
+  pub own-walked : i + n ≤ codesSize → r ≡ allBelow reach (codesNames fields codes i n) → r ≡ allBelow reach (codesNames fields (bothCodes shared codes) i n)
+  own-walked h e = e ∙ ap (allBelow reach) (sym (own-names fields shared codes i n h))
+
+  pub shared-walked : codesSize ≤ i → r ≡ allBelow reach (codesNames fields shared (i - codesSize) n) → r ≡ allBelow reach (codesNames fields (bothCodes shared codes) i n)
+  shared-walked h e = e ∙ ap (allBelow reach) (sym (shared-names fields shared codes i n h))
+
+pub ruleset side-exits = (own-walked, shared-walked)

@@ -9,8 +9,11 @@ ghost use mathlib.Core.Path.{_≡_};
 ghost use mathlib.Core.Bool.{_&&_};
 ghost use Rattle.scope.specs.Lists.{asList};
 ghost use Rattle.scope.specs.TypeRules.{heapNames, valNames, formNames, inReach};
-ghost use Rattle.type_table.specs.View.{heapAtCode, valAtCode, view};
+ghost use Rattle.type_table.specs.View.{heapAtCode, valAtCode, view, bothCodes};
 ghost use Rattle.type_reach.specs.Names.{allBelow, linkBelow, codeNames, codesNames};
+
+// The place of the library's first code.
+const SHARED: u32 = type_table::SHARED as u32;
 
 // The number in the heap type with the code h, if there is one.
 pub fn heap_in_reach(h: u64, reach: u64) -> bool
@@ -45,14 +48,14 @@ fn code_in_reach(fields: bool, c: u64, reach: u64) -> bool
     }
 }
 
-// The n codes from i on.
-fn codes_in_reach(codes: &[u16], fields: bool, i: u32, n: u32, reach: u64) -> bool
+// The n codes from i on of one section's.
+fn list_in_reach(codes: &[u16], fields: bool, i: u32, n: u32, reach: u64) -> bool
     ensures { λ r. ⌜ r ≡ allBelow reach (codesNames fields (now (codes .entry)) i n) ⌝ }
 {
     let mut at = i as u64;
     let mut left = n as u64;
     while 0 < left {
-        let c = type_table::code_word(codes, at);
+        let c = lent_u16::word(codes, at);
         if !code_in_reach(fields, c, reach) {
             return false;
         }
@@ -62,25 +65,57 @@ fn codes_in_reach(codes: &[u16], fields: bool, i: u32, n: u32, reach: u64) -> bo
     true
 }
 
-fn form_in_reach(rows: &[u16], codes: &[u16], x: u64, reach: u64) -> bool
-    ensures { λ r. ⌜ r ≡ allBelow reach (formNames (view (now (rows .entry)) (now (codes .entry)) x .form)) ⌝ }
+// The n codes from i on, each looked up by its place: so the answer is right for any words of a row, those of no section too.
+fn any_in_reach(shared: &[u16], codes: &[u16], fields: bool, i: u32, n: u32, reach: u64) -> bool
+    ensures { λ r. ⌜ r ≡ allBelow reach (codesNames fields (bothCodes (now (shared .entry)) (now (codes .entry))) i n) ⌝ }
 {
-    let shape = type_table::shape_of(rows, codes, x);
+    let mut at = i as u64;
+    let mut left = n as u64;
+    while 0 < left {
+        let c = type_table::code_word(shared, codes, at);
+        if !code_in_reach(fields, c, reach) {
+            return false;
+        }
+        at = at + 1;
+        left = left - 1;
+    }
+    true
+}
+
+// The n codes from i on. A type has all of its codes in one buffer: the walk over them does not ask which at each.
+fn codes_in_reach(shared: &[u16], codes: &[u16], fields: bool, i: u32, n: u32, reach: u64) -> bool
+    ensures { λ r. ⌜ r ≡ allBelow reach (codesNames fields (bothCodes (now (shared .entry)) (now (codes .entry))) i n) ⌝ }
+{
+    let end = i as u64 + n as u64;
+    if end <= type_table::SHARED {
+        return list_in_reach(codes, fields, i, n, reach);
+    }
+    if SHARED <= i {
+        let at = i - SHARED;
+        return list_in_reach(shared, fields, at, n, reach);
+    }
+    any_in_reach(shared, codes, fields, i, n, reach)
+}
+
+fn form_in_reach(rows: &[u16], shared: &[u16], codes: &[u16], x: u64, reach: u64) -> bool
+    ensures { λ r. ⌜ r ≡ allBelow reach (formNames (view (now (rows .entry)) (bothCodes (now (shared .entry)) (now (codes .entry))) x .form)) ⌝ }
+{
+    let shape = type_table::shape_of(rows, shared, codes, x);
     match shape {
-        Shape::Struct(i, n) => codes_in_reach(codes, true, i, n, reach),
+        Shape::Struct(i, n) => codes_in_reach(shared, codes, true, i, n, reach),
         Shape::Func(i, n, k, m) => {
-            if !codes_in_reach(codes, false, i, n, reach) {
+            if !codes_in_reach(shared, codes, false, i, n, reach) {
                 return false;
             }
-            codes_in_reach(codes, false, k, m, reach)
+            codes_in_reach(shared, codes, false, k, m, reach)
         }
     }
 }
 
-fn supers_in_reach(rows: &[u16], codes: &[u16], x: u64, reach: u64) -> bool
-    ensures { λ r. ⌜ r ≡ allBelow reach (view (now (rows .entry)) (now (codes .entry)) x .supers) ⌝ }
+fn supers_in_reach(rows: &[u16], shared: &[u16], codes: &[u16], x: u64, reach: u64) -> bool
+    ensures { λ r. ⌜ r ≡ allBelow reach (view (now (rows .entry)) (bothCodes (now (shared .entry)) (now (codes .entry))) x .supers) ⌝ }
 {
-    let supers = type_table::supers_of(rows, codes, x);
+    let supers = type_table::supers_of(rows, shared, codes, x);
     match supers {
         Supers::Nothing => true,
         Supers::One(p) => p < reach,
@@ -97,28 +132,28 @@ fn link_in_reach(link: Link, reach: u64) -> bool
     }
 }
 
-fn clauses_in_reach(rows: &[u16], codes: &[u16], x: u64, reach: u64) -> bool
+fn clauses_in_reach(rows: &[u16], shared: &[u16], codes: &[u16], x: u64, reach: u64) -> bool
     ensures { λ r.
-        let d = view (now (rows .entry)) (now (codes .entry)) x in
+        let d = view (now (rows .entry)) (bothCodes (now (shared .entry)) (now (codes .entry))) x in
         ⌜ r ≡ (allBelow reach (asList (d .describes)) && allBelow reach (asList (d .descriptor))) ⌝ }
 {
-    let described = type_table::describes_of(rows, codes, x);
+    let described = type_table::describes_of(rows, shared, codes, x);
     if !link_in_reach(described, reach) {
         return false;
     }
-    let descriptor = type_table::descriptor_of(rows, codes, x);
+    let descriptor = type_table::descriptor_of(rows, shared, codes, x);
     link_in_reach(descriptor, reach)
 }
 
-pub fn in_reach(rows: &[u16], codes: &[u16], x: u64) -> bool
-    ensures { λ r. ⌜ r ≡ inReach (view (now (rows .entry)) (now (codes .entry))) x ⌝ }
+pub fn in_reach(rows: &[u16], shared: &[u16], codes: &[u16], x: u64) -> bool
+    ensures { λ r. ⌜ r ≡ inReach (view (now (rows .entry)) (bothCodes (now (shared .entry)) (now (codes .entry)))) x ⌝ }
 {
-    let reach = type_table::reach_of(rows, codes, x);
-    if !supers_in_reach(rows, codes, x, reach) {
+    let reach = type_table::reach_of(rows, shared, codes, x);
+    if !supers_in_reach(rows, shared, codes, x, reach) {
         return false;
     }
-    if !clauses_in_reach(rows, codes, x, reach) {
+    if !clauses_in_reach(rows, shared, codes, x, reach) {
         return false;
     }
-    form_in_reach(rows, codes, x, reach)
+    form_in_reach(rows, shared, codes, x, reach)
 }

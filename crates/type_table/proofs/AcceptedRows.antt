@@ -1,15 +1,14 @@
--- The words that the table holds of an accepted section are those that scope's Memory.antt names. The two rows differ in
--- their last word only, a further supertype or how many there are, and both are 0 where there is at most one supertype.
+-- The words that the table holds of accepted types are those that scope's Memory.antt names. The two rows differ in one word
+-- only, a further supertype or how many there are, and both are 0 where there is at most one supertype.
 use Prim.Native.Nat.{ℕ, _+_, _-_, _≤_}
 use native.Mathlib.Omega.{arith}
 use mathlib.Core.Path.{_≡_, refl, ap, ap₂}
 use mathlib.Core.List.{List, [], _∷_, _++_}
 use lib.ListN.{length}
-use Rattle.scope.specs.Syntax.{Definition, typesOf}
-use Rattle.scope.specs.Memory.{formCodes, orZero, rowWords, rowsFrom, tableRows, tableCodes}
-use Rattle.scope.specs.Judging.{accepted, judgeTypes}
+use Rattle.scope.specs.Syntax.{Definition}
+use Rattle.scope.specs.Memory.{formCodes, orZero, rowWords, rowsFrom, tableCodes}
 use Rattle.type_table.specs.View.{furtherOf, row, rowsOf, codesOf}
-use Rattle.type_table.proofs.AtMost.{SupersAtMost, first-few, later-few, accepted-few}
+use Rattle.type_table.proofs.AtMost.{SupersAtMost, first-few, later-few}
 
 no-further : (supers : List ℕ) → length supers ≤ 1 → orZero (furtherOf supers) ≡ length supers - 1
 no-further [] h = refl
@@ -20,7 +19,7 @@ single-row : (first : ℕ) (d : Definition) → length (d .supers) ≤ 1 → row
 unfolding row rowWords
 single-row first d h = rw (no-further (d .supers) h)
 
-single-rows : (first : ℕ) (ds : List Definition) → SupersAtMost 1 ds → rowsOf first ds ≡ rowsFrom first ds
+pub single-rows : (first : ℕ) (ds : List Definition) → SupersAtMost 1 ds → rowsOf first ds ≡ rowsFrom first ds
 unfolding rowsOf rowsFrom
 single-rows first [] few = refl
 single-rows first (d ∷ ds) few = ap₂ _++_ (single-row first d (first-few few)) (single-rows (first + length (formCodes (d .form))) ds (later-few few))
@@ -29,9 +28,3 @@ pub table-codes : (ds : List Definition) → codesOf ds ≡ tableCodes ds
 unfolding codesOf
 table-codes [] = refl
 table-codes (d ∷ ds) = ap (λ cs. formCodes (d .form) ++ cs) (table-codes ds)
-
-pub table-rows : (ds : List Definition) → SupersAtMost 1 ds → rowsOf 0 ds ≡ tableRows ds
-table-rows ds few = single-rows 0 ds few
-
-pub accepted-rows : (ds : List Definition) {n : ℕ} → judgeTypes (typesOf ds) (length ds) ≡ accepted n → rowsOf 0 ds ≡ tableRows ds
-accepted-rows ds e = table-rows ds (accepted-few ds e)

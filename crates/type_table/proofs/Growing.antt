@@ -1,4 +1,4 @@
--- How rows and codes grow: a row has twelve words, definitions read later put their rows and codes after those of the
+-- How rows and codes grow: a row has sixteen words, definitions read later put their rows and codes after those of the
 -- definitions before, and their codes start where those before end.
 use Prim.Native.Nat.{ℕ, _+_, _*_}
 use native.Mathlib.Nat.{add-zero, add-assoc}
@@ -17,7 +17,7 @@ form-length (func ps rs) = refl
 
 pub row-length : (first : ℕ) (d : Definition) → length (row first d) ≡ rowSpan
 unfolding row
-row-length first d = length-append (formWords (d .form)) _ ∙ ap (λ n. n + 9) (form-length (d .form))
+row-length first d = length-append (formWords (d .form)) _ ∙ ap (λ n. n + 13) (form-length (d .form))
 
 pub rows-length : (first : ℕ) (ds : List Definition) → length (rowsOf first ds) ≡ rowSpan * length ds
 unfolding rowsOf

@@ -17,7 +17,7 @@ use Rattle.scope.specs.Refusals.{oversize, outOfReach, badSupertype}
 use Rattle.scope.specs.Reading.{given}
 use Rattle.scope.specs.Syntax.{Definition, Types, typesOf, blank, superOf}
 use Rattle.scope.specs.TypeRules.{inReach, oneSuper, superEarlierAndOpen, shortChain}
-use Rattle.scope.specs.Judging.{Judged, accepted, rejected, andThen, linksFault, ruleFault, scan, judgeTypes}
+use Rattle.scope.specs.Judging.{plain, Judged, accepted, rejected, andThen, linksFault, ruleFault, scan, judgeTypes}
 use Rattle.scope.proofs.Truths.{decided}
 use Rattle.scope.proofs.Accepted.{scan-met-none, judged-kept, links-kept, blank-no-fault, super-earlier-and-open}
 use Rattle.type_table.specs.Kept.{beyond, keptSupers, keptDefinition}
@@ -34,7 +34,7 @@ scans-agree f g agree x (suc n) before = rw (agree x before) (go (f x) refl (sca
   where
     go : (o : Option ℕ) → f x ≡ o
         → (((y : ℕ) → y < x + 1 → f y ≡ none) → scan g (x + 1) n ≡ scan f (x + 1) n)
-        → given o (scan g (x + 1) n) (λ number. rejected number x) ≡ given o (scan f (x + 1) n) (λ number. rejected number x)
+        → given o (scan g (x + 1) n) (λ number. rejected number (plain x)) ≡ given o (scan f (x + 1) n) (λ number. rejected number (plain x))
     go (some k) e later = refl
     go none e later = later (λ y h. one-more y h (decided (ltb y x)))
       where

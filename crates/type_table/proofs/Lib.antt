@@ -1,6 +1,7 @@
 pub mod Rows
 pub mod Codes
 pub mod Laws
+pub mod Sides
 pub mod CodesBack
 pub mod Puts
 pub mod Growing
@@ -9,4 +10,4 @@ pub mod Viewed
 pub mod AcceptedRows
 pub mod KeptReach
 pub mod KeptVerdict
-pub mod TableVerdict
+pub mod TwoSections

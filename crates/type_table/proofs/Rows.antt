@@ -28,7 +28,7 @@ use Rattle.type_table.specs.Answers.{linkIs, supersList, shapeForm}
 
 -- the least number that no lent memory has a row of
 abbrev pub noRow : ℕ
-noRow = 2 ^ 60
+noRow = 2 ^ 59
 
 pub no-row : (rows : List ℕ) (x k : ℕ) → length rows * 2 < 2 ^ 63 → noRow ≤ x → WordAt rows (rowSpan * x + k) 0
 no-row rows x k room h = word-past (let r : length rows * 2 < 2 ^ 63 = room in omega arith)

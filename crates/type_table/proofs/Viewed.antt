@@ -1,5 +1,5 @@
 -- The table says its definitions: each row reads back as the definition it was made of, with the codes from its first on,
--- and rows of zero read as `blank`. Twelve words are a row, so the view of what follows a row is the view one number on;
+-- and rows of zero read as `blank`. Sixteen words are a row, so the view of what follows a row is the view one number on;
 -- the codes read so far become the codes before.
 use Prim.Native.Nat.{ℕ, zero, suc, _+_, _-_, _*_, _≤_}
 use native.Mathlib.Omega.{arith}
@@ -14,7 +14,7 @@ use borrow.Author.Tests.{ne-eqb}
 use Rattle.scope.specs.Layout.{rowSpan}
 use Rattle.scope.specs.Lists.{asList}
 use Rattle.scope.specs.Syntax.{Form, struct, func, Definition, typesOf, blank, firstOf}
-use Rattle.scope.specs.Memory.{valCode, fieldCode, formCodes, formWords, flag, orZero}
+use Rattle.scope.specs.Memory.{valCode, fieldCode, formCodes, formWords, flag, orZero, spareWords}
 use Rattle.type_table.specs.RowWords.{structForm, funcForm}
 use Rattle.type_table.specs.View.{linkAt, codesAt, valAtCode, fieldAtCode, formAtWords, wordOf, view, furtherOf, row, rowsOf, codesOf}
 use Rattle.type_table.proofs.CodesBack.{val-code, field-code}
@@ -64,11 +64,11 @@ form-word (func ps rs) ws k = getD-append-add (funcForm ∷ length ps ∷ length
 
 -- rows
 
-row-view : (d : Definition) (rest pre post : List ℕ) (first : ℕ) → length pre ≡ first → length (d .supers) ≤ 2
+pub row-view : (d : Definition) (rest pre post : List ℕ) (first : ℕ) → length pre ≡ first → length (d .supers) ≤ 2
     → view (row first d ++ rest) (pre ++ (formCodes (d .form) ++ post)) 0 ≡ d
 unfolding row view
 row-view d rest pre post first h few =
-    let further = orZero (furtherOf (d .supers)) ∷ rest in
+    let further = orZero (furtherOf (d .supers)) ∷ (spareWords ++ rest) in
     let ws : List ℕ =
     flag (d .isOpen) ∷ orZero (firstOf (d .supers)) ∷ orZero (d .describes) ∷ orZero (d .descriptor) ∷ d .from ∷ d .to ∷ d .reach ∷ first ∷ further in
     let word = form-word (d .form) ws in
@@ -89,7 +89,7 @@ next-word r rest x k h =
     let place : rowSpan * suc x + k ≡ length r + (rowSpan * x + k) = omega arith in
     rw place (getD-append-add r rest (rowSpan * x + k) 0)
 
-next-view : (r rest codes : List ℕ) (x : ℕ) → length r ≡ rowSpan → view (r ++ rest) codes (suc x) ≡ view rest codes x
+pub next-view : (r rest codes : List ℕ) (x : ℕ) → length r ≡ rowSpan → view (r ++ rest) codes (suc x) ≡ view rest codes x
 unfolding view
 next-view r rest codes x h =
     let word : (k : ℕ) → wordOf (r ++ rest) (suc x) k ≡ wordOf rest x k = λ k. next-word r rest x k h in

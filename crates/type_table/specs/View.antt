@@ -4,12 +4,12 @@ use Prim.Native.Nat.{ℕ, zero, suc, _+_, _-_, _*_, _/_, _%_}
 use mathlib.Core.Bool.{Bool, cond}
 use mathlib.Core.Option.{Option, none, some}
 use mathlib.Core.List.{List, [], _∷_, _++_}
-use lib.ListN.{getD, length}
+use lib.ListN.{getD, length, take, replicate}
 use lib.Dec.{eqb, ltb}
-use Rattle.scope.specs.Layout.{rowSpan}
+use Rattle.scope.specs.Layout.{rowSpan, codesSize}
 use Rattle.scope.specs.Lists.{asList}
 use Rattle.scope.specs.Syntax.{Heap, abstract, defined, exact, Number, i32, i64, f32, f64, Val, num, ref, Field, Form, struct, func, Definition, Types, firstOf}
-use Rattle.scope.specs.Memory.{formCodes, formWords, flag, orZero}
+use Rattle.scope.specs.Memory.{formCodes, formWords, flag, orZero, spareWords}
 use Rattle.type_abstract.specs.Heaps.{abstractAt}
 use Rattle.type_table.specs.RowWords.{formWord, countWord, resultsWord, openWord, superWord, describesWord, descriptorWord, fromWord, toWord, reachWord, firstWord, furtherWord, funcForm}
 
@@ -30,6 +30,11 @@ valAtCode c = cond (ltb c 4) (num (numberAt c)) (ref (isOdd c) (heapAtCode ((c -
 
 unfoldable pub fieldAtCode : ℕ → Field
 fieldAtCode c = record { holds = valAtCode (c / 2); mutable = isOdd c }
+
+-- The codes of both sections as one list of words: the add-on's have the first places, whatever the length of what was lent for
+-- them, and the library's run on after them.
+unfoldable pub bothCodes : List ℕ → List ℕ → List ℕ
+bothCodes shared codes = take codesSize (codes ++ replicate codesSize 0) ++ shared
 
 -- `n` codes from `at` on, each read by f
 unfoldable pub codesAt : {A : Type 0} → (ℕ → A) → List ℕ → ℕ → ℕ → List A
@@ -82,7 +87,7 @@ row first d =
     ∷ d .reach
     ∷ first
     ∷ orZero (furtherOf (d .supers))
-    ∷ []
+    ∷ spareWords
 
 -- the rows of definitions whose codes start at `first`
 unfoldable pub rowsOf : ℕ → List Definition → List ℕ

@@ -7,7 +7,7 @@ ghost use Rattle.scope.specs.Layout.{rowSpan};
 ghost use Rattle.scope.specs.Syntax.{superOf};
 ghost use Rattle.scope.specs.TypeRules.{isStruct};
 ghost use Rattle.lent_u16.specs.Words.{WordAt};
-ghost use Rattle.type_table.specs.View.{heapAtCode, valAtCode, linkAt, view};
+ghost use Rattle.type_table.specs.View.{heapAtCode, valAtCode, linkAt, view, bothCodes};
 ghost use Rattle.type_table.specs.Answers.{linkIs, heapIs, valIs, supersList, shapeForm};
 
 // The words of a row, as specs/RowWords.antt has them.
@@ -44,7 +44,10 @@ pub const FUNC: u64 = 2;
 pub const BEYOND: u64 = 4095;
 
 // No lent memory has a row of this number or a higher one, and a lower one's place fits 64 bits.
-const NO_ROW: u64 = 1152921504606846976;
+const NO_ROW: u64 = 576460752303423488;
+
+// The add-on's codes have the places below this one, the library's those from it on.
+pub const SHARED: u64 = sizes::CODES as u64;
 
 // A type number that may be missing.
 pub enum Link {
@@ -89,11 +92,15 @@ fn row_word(rows: &[u16], x: u64, k: u8) -> u64
     }
 }
 
-// A code: the word at a place of the codes. No other crate reads one by its place alone.
-pub fn code_word(codes: &[u16], at: u64) -> u64
-    ensures { λ r. ⌜ WordAt (now (codes .entry)) at r ⌝ }
+// A code: the word at a place of both lists, the add-on's first. No other crate reads one by its place alone.
+pub fn code_word(shared: &[u16], codes: &[u16], at: u64) -> u64
+    ensures { λ r. ⌜ WordAt (bothCodes (now (shared .entry)) (now (codes .entry))) at r ⌝ }
 {
-    lent_u16::word(codes, at)
+    if at < SHARED {
+        lent_u16::word(codes, at)
+    } else {
+        lent_u16::word(shared, at - SHARED)
+    }
 }
 
 fn link_of(w: u64) -> Link
@@ -106,15 +113,15 @@ fn link_of(w: u64) -> Link
     }
 }
 
-pub fn is_open(rows: &[u16], codes: &[u16], x: u64) -> bool
-    ensures { λ r. ⌜ r ≡ view (now (rows .entry)) (now (codes .entry)) x .isOpen ⌝ }
+pub fn is_open(rows: &[u16], shared: &[u16], codes: &[u16], x: u64) -> bool
+    ensures { λ r. ⌜ r ≡ view (now (rows .entry)) (bothCodes (now (shared .entry)) (now (codes .entry))) x .isOpen ⌝ }
 {
     row_word(rows, x, OPEN) == 1
 }
 
 // The first supertype.
-pub fn super_of(rows: &[u16], codes: &[u16], x: u64) -> Link
-    ensures { λ r. ⌜ r ≡ linkIs (superOf (view (now (rows .entry)) (now (codes .entry)) x)) ⌝ }
+pub fn super_of(rows: &[u16], shared: &[u16], codes: &[u16], x: u64) -> Link
+    ensures { λ r. ⌜ r ≡ linkIs (superOf (view (now (rows .entry)) (bothCodes (now (shared .entry)) (now (codes .entry))) x)) ⌝ }
 {
     let w = row_word(rows, x, SUPER);
     if w == 0 {
@@ -124,8 +131,8 @@ pub fn super_of(rows: &[u16], codes: &[u16], x: u64) -> Link
     }
 }
 
-pub fn supers_of(rows: &[u16], codes: &[u16], x: u64) -> Supers
-    ensures { λ r. ⌜ view (now (rows .entry)) (now (codes .entry)) x .supers ≡ supersList r ⌝ }
+pub fn supers_of(rows: &[u16], shared: &[u16], codes: &[u16], x: u64) -> Supers
+    ensures { λ r. ⌜ view (now (rows .entry)) (bothCodes (now (shared .entry)) (now (codes .entry))) x .supers ≡ supersList r ⌝ }
 {
     let w = row_word(rows, x, SUPER);
     let v = row_word(rows, x, FURTHER);
@@ -144,39 +151,39 @@ pub fn supers_of(rows: &[u16], codes: &[u16], x: u64) -> Supers
     }
 }
 
-pub fn describes_of(rows: &[u16], codes: &[u16], x: u64) -> Link
-    ensures { λ r. ⌜ r ≡ linkIs (view (now (rows .entry)) (now (codes .entry)) x .describes) ⌝ }
+pub fn describes_of(rows: &[u16], shared: &[u16], codes: &[u16], x: u64) -> Link
+    ensures { λ r. ⌜ r ≡ linkIs (view (now (rows .entry)) (bothCodes (now (shared .entry)) (now (codes .entry))) x .describes) ⌝ }
 {
     link_of(row_word(rows, x, DESCRIBES))
 }
 
-pub fn descriptor_of(rows: &[u16], codes: &[u16], x: u64) -> Link
-    ensures { λ r. ⌜ r ≡ linkIs (view (now (rows .entry)) (now (codes .entry)) x .descriptor) ⌝ }
+pub fn descriptor_of(rows: &[u16], shared: &[u16], codes: &[u16], x: u64) -> Link
+    ensures { λ r. ⌜ r ≡ linkIs (view (now (rows .entry)) (bothCodes (now (shared .entry)) (now (codes .entry))) x .descriptor) ⌝ }
 {
     link_of(row_word(rows, x, DESCRIPTOR))
 }
 
 // Where the bytes of its definition start, and where they end.
-pub fn from_of(rows: &[u16], codes: &[u16], x: u64) -> u64
-    ensures { λ r. ⌜ r ≡ view (now (rows .entry)) (now (codes .entry)) x .from ⌝ }
+pub fn from_of(rows: &[u16], shared: &[u16], codes: &[u16], x: u64) -> u64
+    ensures { λ r. ⌜ r ≡ view (now (rows .entry)) (bothCodes (now (shared .entry)) (now (codes .entry))) x .from ⌝ }
 {
     row_word(rows, x, FROM)
 }
 
-pub fn to_of(rows: &[u16], codes: &[u16], x: u64) -> u64
-    ensures { λ r. ⌜ r ≡ view (now (rows .entry)) (now (codes .entry)) x .to ⌝ }
+pub fn to_of(rows: &[u16], shared: &[u16], codes: &[u16], x: u64) -> u64
+    ensures { λ r. ⌜ r ≡ view (now (rows .entry)) (bothCodes (now (shared .entry)) (now (codes .entry))) x .to ⌝ }
 {
     row_word(rows, x, TO)
 }
 
-pub fn reach_of(rows: &[u16], codes: &[u16], x: u64) -> u64
-    ensures { λ r. ⌜ r ≡ view (now (rows .entry)) (now (codes .entry)) x .reach ⌝ }
+pub fn reach_of(rows: &[u16], shared: &[u16], codes: &[u16], x: u64) -> u64
+    ensures { λ r. ⌜ r ≡ view (now (rows .entry)) (bothCodes (now (shared .entry)) (now (codes .entry))) x .reach ⌝ }
 {
     row_word(rows, x, REACH)
 }
 
-pub fn is_struct(rows: &[u16], codes: &[u16], x: u64) -> bool
-    ensures { λ r. ⌜ r ≡ isStruct (view (now (rows .entry)) (now (codes .entry)) x .form) ⌝ }
+pub fn is_struct(rows: &[u16], shared: &[u16], codes: &[u16], x: u64) -> bool
+    ensures { λ r. ⌜ r ≡ isStruct (view (now (rows .entry)) (bothCodes (now (shared .entry)) (now (codes .entry))) x .form) ⌝ }
 {
     if row_word(rows, x, FORM) == FUNC {
         false
@@ -185,8 +192,8 @@ pub fn is_struct(rows: &[u16], codes: &[u16], x: u64) -> bool
     }
 }
 
-pub fn shape_of(rows: &[u16], codes: &[u16], x: u64) -> Shape
-    ensures { λ r. ⌜ view (now (rows .entry)) (now (codes .entry)) x .form ≡ shapeForm (now (codes .entry)) r ⌝ }
+pub fn shape_of(rows: &[u16], shared: &[u16], codes: &[u16], x: u64) -> Shape
+    ensures { λ r. ⌜ view (now (rows .entry)) (bothCodes (now (shared .entry)) (now (codes .entry))) x .form ≡ shapeForm (bothCodes (now (shared .entry)) (now (codes .entry))) r ⌝ }
 {
     let first = row_word(rows, x, FIRST);
     let n = row_word(rows, x, COUNT);

@@ -1,15 +1,15 @@
 -- `type_chain::short_chain` meets its contract: each turn goes one supertype up, as the rule does, with one step less.
 use borrow.Author.Needs.{needs}
-use Rattle.type_table.specs.View.{view}
+use Rattle.type_table.specs.View.{view, bothCodes}
 use Rattle.type_chain.proofs.Supers.{Climb, climb-exits}
 use Rattle.type_chain.proofs.short_chain.Statement.{statement}
 use Rattle.type_chain.proofs.short_chain.Tie as tie
 
 abbrev Inv-loop : tie.InvT-loop
-Inv-loop rows codes x at₀ left₀ at left = Climb (view rows codes) x at left
+Inv-loop rows shared codes x at₀ left₀ at left = Climb (view rows (bothCodes shared codes)) x at left
 
 abbrev μ-loop : tie.MeasureT-loop
-μ-loop rows codes x at₀ left₀ at left = left
+μ-loop rows shared codes x at₀ left₀ at left = left
 
 loop-holds : tie.Need-loop-holds Inv-loop μ-loop
 loop-holds c = search (climb-exits, needs)

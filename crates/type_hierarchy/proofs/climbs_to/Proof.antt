@@ -1,15 +1,15 @@
 -- `type_hierarchy::climbs_to` meets its contract: each turn goes one supertype up, as the test does, with one step less.
 use borrow.Author.Needs.{needs}
-use Rattle.type_table.specs.View.{view}
+use Rattle.type_table.specs.View.{view, bothCodes}
 use Rattle.type_hierarchy.proofs.Climbing.{Climb, climb-exits}
 use Rattle.type_hierarchy.proofs.climbs_to.Statement.{statement}
 use Rattle.type_hierarchy.proofs.climbs_to.Tie as tie
 
 abbrev Inv-loop : tie.InvT-loop
-Inv-loop rows codes x y at₀ left₀ at left = Climb (view rows codes) x y at left
+Inv-loop rows shared codes x y at₀ left₀ at left = Climb (view rows (bothCodes shared codes)) x y at left
 
 abbrev μ-loop : tie.MeasureT-loop
-μ-loop rows codes x y at₀ left₀ at left = left
+μ-loop rows shared codes x y at₀ left₀ at left = left
 
 loop-holds : tie.Need-loop-holds Inv-loop μ-loop
 loop-holds c = search (climb-exits, needs)

@@ -1,75 +1,42 @@
--- `type_matching::codes_match` meets its contract: each turn takes a code off both lists, as the test over lists does.
+-- `type_matching::codes_match` meets its contract: codes that lie in one part are read from its own list.
 use borrow.Author.Needs.{needs}
-use Rattle.type_table.specs.View.{view}
-use Rattle.type_matching.proofs.Walking.{Walk, walk-exits}
+use Rattle.type_matching.proofs.Walking.{side-exits}
 use Rattle.type_matching.proofs.codes_match.Statement.{statement}
 use Rattle.type_matching.proofs.codes_match.Tie as tie
 
-abbrev Inv-loop : tie.InvT-loop
-Inv-loop rows codes fields i n j m at₀ left₀ up₀ more₀ at left up more = Walk fields (view rows codes) codes i n j m at left up more
+add-end : tie.Need-add-end
+add-end c = search needs
 
-abbrev μ-loop : tie.MeasureT-loop
-μ-loop rows codes fields i n j m at₀ left₀ up₀ more₀ at left up more = more
+add-up-end : tie.Need-add-up-end
+add-up-end c = search needs
 
-loop-holds : tie.Need-loop-holds Inv-loop μ-loop
-loop-holds c = search (walk-exits, needs)
+list-matches-requires : tie.Need-list-matches-requires
+list-matches-requires c κs = search needs
 
-returns : tie.Need-returns Inv-loop μ-loop
-returns c = search (walk-exits, needs)
+returns : tie.Need-returns
+returns c = search (side-exits, needs)
 
-code-word-requires : tie.Need-code-word-requires Inv-loop μ-loop
-code-word-requires c κs = search (walk-exits, needs)
+list-matches-requires-2 : tie.Need-list-matches-requires-2
+list-matches-requires-2 c κs = search needs
 
-code-word-requires-2 : tie.Need-code-word-requires-2 Inv-loop μ-loop
-code-word-requires-2 c κs = search (walk-exits, needs)
+returns-2 : tie.Need-returns-2
+returns-2 c = search (side-exits, needs)
 
-code-matches-requires : tie.Need-code-matches-requires Inv-loop μ-loop
-code-matches-requires c κs = search (walk-exits, needs)
+any-match-requires : tie.Need-any-match-requires
+any-match-requires c κs = search needs
 
-returns-2 : tie.Need-returns-2 Inv-loop μ-loop
-returns-2 c = search (walk-exits, needs)
-
-add-at : tie.Need-add-at Inv-loop μ-loop
-add-at c = search (walk-exits, needs)
-
-sub-left : tie.Need-sub-left Inv-loop μ-loop
-sub-left c = search (walk-exits, needs)
-
-add-up : tie.Need-add-up Inv-loop μ-loop
-add-up c = search (walk-exits, needs)
-
-sub-more : tie.Need-sub-more Inv-loop μ-loop
-sub-more c = search (walk-exits, needs)
-
-loop-less : tie.Need-loop-less Inv-loop μ-loop
-loop-less c = search (walk-exits, needs)
-
-loop-again : tie.Need-loop-again Inv-loop μ-loop
-loop-again c = search (walk-exits, needs)
-
-returns-3 : tie.Need-returns-3 Inv-loop μ-loop
-returns-3 c = search (walk-exits, needs)
-
-returns-4 : tie.Need-returns-4 Inv-loop μ-loop
-returns-4 c = search (walk-exits, needs)
+returns-3 : tie.Need-returns-3
+returns-3 c = search needs
 
 pub codes-match-spec : {M : Type 1} → statement M
 codes-match-spec =
     tie.close
     (tie.spec
-    Inv-loop
-    μ-loop
-    loop-holds
+    add-end
+    add-up-end
+    list-matches-requires
     returns
-    code-word-requires
-    code-word-requires-2
-    code-matches-requires
+    list-matches-requires-2
     returns-2
-    add-at
-    sub-left
-    add-up
-    sub-more
-    loop-less
-    loop-again
-    returns-3
-    returns-4)
+    any-match-requires
+    returns-3)

@@ -1,54 +1,38 @@
--- `type_reach::codes_in_reach` meets its contract: each turn takes the first code's names off the list.
+-- `type_reach::codes_in_reach` meets its contract: codes that lie in one part are read from its own list.
 use borrow.Author.Needs.{needs}
-use Rattle.type_reach.proofs.Walking.{Walk, walk-exits}
+use Rattle.type_reach.proofs.Walking.{side-exits}
 use Rattle.type_reach.proofs.codes_in_reach.Statement.{statement}
 use Rattle.type_reach.proofs.codes_in_reach.Tie as tie
 
-abbrev Inv-loop : tie.InvT-loop
-Inv-loop codes fields i n reach at₀ left₀ at left = Walk fields codes i n reach at left
+add-end : tie.Need-add-end
+add-end c = search needs
 
-abbrev μ-loop : tie.MeasureT-loop
-μ-loop codes fields i n reach at₀ left₀ at left = left
+list-in-reach-requires : tie.Need-list-in-reach-requires
+list-in-reach-requires c κs = search needs
 
-loop-holds : tie.Need-loop-holds Inv-loop μ-loop
-loop-holds c = search (walk-exits, needs)
+returns : tie.Need-returns
+returns c = search (side-exits, needs)
 
-code-word-requires : tie.Need-code-word-requires Inv-loop μ-loop
-code-word-requires c κs = search (walk-exits, needs)
+list-in-reach-requires-2 : tie.Need-list-in-reach-requires-2
+list-in-reach-requires-2 c κs = search needs
 
-code-in-reach-requires : tie.Need-code-in-reach-requires Inv-loop μ-loop
-code-in-reach-requires c κs = search (walk-exits, needs)
+returns-2 : tie.Need-returns-2
+returns-2 c = search (side-exits, needs)
 
-returns : tie.Need-returns Inv-loop μ-loop
-returns c = search (walk-exits, needs)
+any-in-reach-requires : tie.Need-any-in-reach-requires
+any-in-reach-requires c κs = search needs
 
-add-at : tie.Need-add-at Inv-loop μ-loop
-add-at c = search (walk-exits, needs)
-
-sub-left : tie.Need-sub-left Inv-loop μ-loop
-sub-left c = search (walk-exits, needs)
-
-loop-less : tie.Need-loop-less Inv-loop μ-loop
-loop-less c = search (walk-exits, needs)
-
-loop-again : tie.Need-loop-again Inv-loop μ-loop
-loop-again c = search (walk-exits, needs)
-
-returns-2 : tie.Need-returns-2 Inv-loop μ-loop
-returns-2 c = search (walk-exits, needs)
+returns-3 : tie.Need-returns-3
+returns-3 c = search needs
 
 pub codes-in-reach-spec : {M : Type 1} → statement M
 codes-in-reach-spec =
     tie.close
     (tie.spec
-    Inv-loop
-    μ-loop
-    loop-holds
-    code-word-requires
-    code-in-reach-requires
+    add-end
+    list-in-reach-requires
     returns
-    add-at
-    sub-left
-    loop-less
-    loop-again
-    returns-2)
+    list-in-reach-requires-2
+    returns-2
+    any-in-reach-requires
+    returns-3)

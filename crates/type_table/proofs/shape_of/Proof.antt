@@ -16,17 +16,14 @@ row-word-requires-3 c κs = search needs
 row-word-requires-4 : tie.Need-row-word-requires-4
 row-word-requires-4 c κs = search needs
 
-cast-t10 : tie.Need-cast-t10
-cast-t10 c = search needs
-
 cast-t11 : tie.Need-cast-t11
 cast-t11 c = search needs
 
-add-t12 : tie.Need-add-t12
-add-t12 c = search needs
+cast-t12 : tie.Need-cast-t12
+cast-t12 c = search needs
 
-cast-t13 : tie.Need-cast-t13
-cast-t13 c = search needs
+add-t13 : tie.Need-add-t13
+add-t13 c = search needs
 
 cast-t14 : tie.Need-cast-t14
 cast-t14 c = search needs
@@ -36,6 +33,9 @@ cast-t15 c = search needs
 
 cast-t16 : tie.Need-cast-t16
 cast-t16 c = search needs
+
+cast-t17 : tie.Need-cast-t17
+cast-t17 c = search needs
 
 returns : tie.Need-returns
 returns c = search (row-exits, needs)
@@ -51,12 +51,12 @@ shape-of-spec =
     row-word-requires-2
     row-word-requires-3
     row-word-requires-4
-    cast-t10
     cast-t11
-    add-t12
-    cast-t13
+    cast-t12
+    add-t13
     cast-t14
     cast-t15
     cast-t16
+    cast-t17
     returns
     returns-2)

@@ -13,8 +13,8 @@ row-word-requires-2 c κs = search needs
 link-of-requires : tie.Need-link-of-requires
 link-of-requires c κs = search needs
 
-sub-t8 : tie.Need-sub-t8
-sub-t8 c = search needs
+sub-t9 : tie.Need-sub-t9
+sub-t9 c = search needs
 
 returns : tie.Need-returns
 returns c = search (row-exits, needs)
@@ -25,4 +25,4 @@ returns-2 c = search (row-exits, needs)
 pub super-of-spec : {M : Type 1} → statement M
 super-of-spec =
     tie.close
-    (tie.spec row-word-requires row-word-requires-2 link-of-requires sub-t8 returns returns-2)
+    (tie.spec row-word-requires row-word-requires-2 link-of-requires sub-t9 returns returns-2)

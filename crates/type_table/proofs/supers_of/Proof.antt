@@ -10,17 +10,17 @@ row-word-requires c κs = search needs
 row-word-requires-2 : tie.Need-row-word-requires-2
 row-word-requires-2 c κs = search needs
 
-sub-t10 : tie.Need-sub-t10
-sub-t10 c = search needs
-
-sub-t13 : tie.Need-sub-t13
-sub-t13 c = search needs
+sub-t11 : tie.Need-sub-t11
+sub-t11 c = search needs
 
 sub-t14 : tie.Need-sub-t14
 sub-t14 c = search needs
 
 sub-t15 : tie.Need-sub-t15
 sub-t15 c = search needs
+
+sub-t16 : tie.Need-sub-t16
+sub-t16 c = search needs
 
 returns : tie.Need-returns
 returns c = search (row-exits, needs)
@@ -40,10 +40,10 @@ supers-of-spec =
     (tie.spec
     row-word-requires
     row-word-requires-2
-    sub-t10
-    sub-t13
+    sub-t11
     sub-t14
     sub-t15
+    sub-t16
     returns
     returns-2
     returns-3
