@@ -1,19 +1,30 @@
--- What the steps of the public calls on sections leave.
+-- What judging a library and an add-on answers and leaves, part by part.
 use Prim.Native.Nat.{ℕ}
 use mathlib.Core.Path.{_≡_}
 use mathlib.Core.List.{List}
-use Rattle.scope.specs.Judging.{Judged, accepted, rejected, judgeTypes}
-use Rattle.scope.specs.Memory.{wiped}
-use Rattle.scope.specs.Answers.{verdictOf}
-use Rattle.scope.specs.declared.Verdict.{Verdict}
-use Rattle.type_table.specs.View.{view}
+use lib.ListN.{length, replicate}
+use Rattle.scope.specs.Judging.{judgeJoined}
+use Rattle.scope.specs.Memory.{joinedRows, joinedShared, joinedCodes}
+use Rattle.scope.specs.Answers.{lentAfter, sectionCall}
+use Rattle.section_both.specs.declared.TwoJudged.{TwoJudged}
+use Rattle.section_both.specs.Both.{joinedIs, Ready}
 
--- as it was where the types are accepted, zero where they are not
-abbrev pub keptIf : {A : Type 0} → List ℕ → Judged A → List ℕ
-keptIf buffer (accepted n) = buffer
-keptIf buffer (rejected k p) = wiped buffer
+-- memory of its sizes, all zero
+pub record Blank (rows shared codes : List ℕ) : Type 0 where
+  pub ready : Ready rows shared codes
+  pub sharedZero : shared ≡ replicate (length shared) 0
+  pub codesZero : codes ≡ replicate (length codes) 0
 
-pub record Decided (n : ℕ) (rows codes rows′ codes′ : List ℕ) (r : Verdict) : Type 0 where
-  pub answer : r ≡ verdictOf (λ m. m) (judgeTypes (view rows codes) n)
-  pub rowsAfter : rows′ ≡ keptIf rows (judgeTypes (view rows codes) n)
-  pub codesAfter : codes′ ≡ keptIf codes (judgeTypes (view rows codes) n)
+-- both sections in such memory
+pub record LentJudged (library section rows shared codes rows′ shared′ codes′ : List ℕ) (r : TwoJudged) : Type 0 where
+  pub answer : r ≡ joinedIs (judgeJoined library section)
+  pub rowsAfter : rows′ ≡ lentAfter joinedRows rows (judgeJoined library section)
+  pub sharedAfter : shared′ ≡ lentAfter joinedShared shared (judgeJoined library section)
+  pub codesAfter : codes′ ≡ lentAfter joinedCodes codes (judgeJoined library section)
+
+-- and in any memory
+pub record TableJudged (library section rows shared codes rows′ shared′ codes′ : List ℕ) (r : TwoJudged) : Type 0 where
+  pub answer : r ≡ joinedIs (sectionCall library section rows shared codes)
+  pub rowsAfter : rows′ ≡ lentAfter joinedRows rows (sectionCall library section rows shared codes)
+  pub sharedAfter : shared′ ≡ lentAfter joinedShared shared (sectionCall library section rows shared codes)
+  pub codesAfter : codes′ ≡ lentAfter joinedCodes codes (sectionCall library section rows shared codes)

@@ -1,67 +1,90 @@
-// The loader's public calls on sections: judge a section, and ask it for a type. No call trusts its caller to have looked
-// first: any bytes and any buffers may be handed in, and lent memory is all zero after every refusal.
+// The loader's public calls on sections: judge a library and an add-on, ask them for a type, hand back its very bytes. No call
+// trusts its caller to have looked first: any bytes and any buffers may be handed in, and lent memory is all zero after every
+// refusal.
 use scope::Asked;
+use scope::Place;
 use scope::Verdict;
 use scope::refusals;
-use scope::sizes;
-use section_judge::Judgement;
-use section_reader::SectionRead;
+use section_both::TwoJudged;
 ghost use Rattle.scope.specs.Answers.{SectionJudged, TypeAsked, TypeHanded};
-ghost use Rattle.section_call.specs.Calls.{Decided};
+ghost use Rattle.section_call.specs.Calls.{Blank, LentJudged, TableJudged};
 
-// The elements that lent buffers have at least: document 01's one size of each, fixed in docs/LAYOUT.md.
-pub const ROWS: usize = sizes::ROWS;
-
-pub const CODES: usize = sizes::CODES;
-
-// The rules of n types that stand in the table.
-fn decide(rows: &mut [u16], codes: &mut [u16], n: u64) -> Verdict
-    ensures { λ r. ⌜ Decided n (now (rows .entry)) (now (codes .entry)) (now (rows .exit)) (now (codes .exit)) r ⌝ }
+// Both sections, and zero after a refusal.
+fn judge_lent(
+    library: &[u8],
+    section: &[u8],
+    rows: &mut [u16],
+    shared: &mut [u16],
+    codes: &mut [u16],
+) -> TwoJudged
+    requires { ⌜ Blank (now rows) (now shared) (now codes) ⌝ }
+    ensures { λ r. ⌜ LentJudged (now (library .entry)) (now (section .entry)) (now (rows .entry)) (now (shared .entry)) (now (codes .entry)) (now (rows .exit)) (now (shared .exit)) (now (codes .exit)) r ⌝ }
 {
-    let judged = section_judge::judge_types(rows, codes, n);
+    let judged = section_both::judge_both(library, section, rows, shared, codes);
     match judged {
-        Judgement::Accepted(count) => Verdict::Accepted(count),
-        Judgement::Refused(number, place) => {
-            section_handing::clear(rows, codes);
-            Verdict::Refused(number, place)
+        TwoJudged::Accepted(before, count) => TwoJudged::Accepted(before, count),
+        TwoJudged::Refused(number, place) => {
+            section_handing::clear(rows, shared, codes);
+            TwoJudged::Refused(number, place)
         }
     }
 }
 
-// Judges a section: its type count and its table; or the refusal's number and place, and the table all zero.
-pub fn judge_section(section: &[u8], rows: &mut [u16], codes: &mut [u16]) -> Verdict
-    ensures { λ r. ⌜ SectionJudged (now (section .entry)) (now (rows .entry)) (now (codes .entry)) (now (rows .exit)) (now (codes .exit)) r ⌝ }
+// 14, then both sections: how many types are the library's, how many there are, and their table; or the refusal.
+fn judge_table(
+    library: &[u8],
+    section: &[u8],
+    rows: &mut [u16],
+    shared: &mut [u16],
+    codes: &mut [u16],
+) -> TwoJudged
+    ensures { λ r. ⌜ TableJudged (now (library .entry)) (now (section .entry)) (now (rows .entry)) (now (shared .entry)) (now (codes .entry)) (now (rows .exit)) (now (shared .exit)) (now (codes .exit)) r ⌝ }
 {
-    section_handing::clear(rows, codes);
-    if rows.len() < ROWS {
-        return Verdict::Refused(refusals::BUFFER_TOO_SMALL, 0);
+    section_handing::clear(rows, shared, codes);
+    if !lent_limits::table_enough(rows, shared, codes) {
+        return TwoJudged::Refused(refusals::BUFFER_TOO_SMALL, Place::Plain(0));
     }
-    if codes.len() < CODES {
-        return Verdict::Refused(refusals::BUFFER_TOO_SMALL, 0);
-    }
-    let read = section_reader::read_section(section, rows, codes);
-    match read {
-        SectionRead::Refused(number, place) => {
-            section_handing::clear(rows, codes);
-            Verdict::Refused(number, place as u64)
-        }
-        SectionRead::Got(count) => decide(rows, codes, count),
+    judge_lent(library, section, rows, shared, codes)
+}
+
+// Judges a library and an add-on: their type count and their table; or the refusal's number and place, and the table all zero.
+pub fn judge_section(
+    library: &[u8],
+    section: &[u8],
+    rows: &mut [u16],
+    shared: &mut [u16],
+    codes: &mut [u16],
+) -> Verdict
+    ensures { λ r. ⌜ SectionJudged (now (library .entry)) (now (section .entry)) (now (rows .entry)) (now (shared .entry)) (now (codes .entry)) (now (rows .exit)) (now (shared .exit)) (now (codes .exit)) r ⌝ }
+{
+    let judged = judge_table(library, section, rows, shared, codes);
+    match judged {
+        TwoJudged::Accepted(_, count) => Verdict::Accepted(count),
+        TwoJudged::Refused(number, place) => Verdict::Refused(number, place),
     }
 }
 
-// Asks a section for a type by number: where the bytes of its definition lie; or the refusal's number and place.
-pub fn ask_type(section: &[u8], number: u64, rows: &mut [u16], codes: &mut [u16]) -> Asked
-    ensures { λ r. ⌜ TypeAsked (now (section .entry)) number (now (rows .entry)) (now (codes .entry)) (now (rows .exit)) (now (codes .exit)) r ⌝ }
+// Asks for a type by number: where the bytes of its definition lie, and in which section; or the refusal's number and place.
+pub fn ask_type(
+    library: &[u8],
+    section: &[u8],
+    number: u64,
+    rows: &mut [u16],
+    shared: &mut [u16],
+    codes: &mut [u16],
+) -> Asked
+    ensures { λ r. ⌜ TypeAsked (now (library .entry)) (now (section .entry)) number (now (rows .entry)) (now (shared .entry)) (now (codes .entry)) (now (rows .exit)) (now (shared .exit)) (now (codes .exit)) r ⌝ }
 {
-    let judged = judge_section(section, rows, codes);
+    let judged = judge_table(library, section, rows, shared, codes);
     match judged {
-        Verdict::Refused(refusal, place) => Asked::Refused(refusal, place),
-        Verdict::Accepted(count) => {
-            let asked = section_handing::place_of(rows, codes, number, count);
+        TwoJudged::Refused(refusal, place) => Asked::Refused(refusal, place),
+        TwoJudged::Accepted(before, count) => {
+            let asked = section_handing::place_of(rows, shared, codes, number, before, count);
             match asked {
-                Asked::Bytes(from, to) => Asked::Bytes(from, to),
+                Asked::Library(from, to) => Asked::Library(from, to),
+                Asked::Addon(from, to) => Asked::Addon(from, to),
                 Asked::Refused(refusal, place) => {
-                    section_handing::clear(rows, codes);
+                    section_handing::clear(rows, shared, codes);
                     Asked::Refused(refusal, place)
                 }
             }
@@ -69,15 +92,17 @@ pub fn ask_type(section: &[u8], number: u64, rows: &mut [u16], codes: &mut [u16]
     }
 }
 
-// Hands back the very bytes of a type's definition, as a part of the section; an empty part with every refusal.
+// Hands back the very bytes of a type's definition, as a part of whichever section holds it; an empty part with every refusal.
 pub fn type_bytes<'a>(
+    library: &'a [u8],
     section: &'a [u8],
     number: u64,
     rows: &mut [u16],
+    shared: &mut [u16],
     codes: &mut [u16],
 ) -> &'a [u8]
-    ensures { λ r. ⌜ TypeHanded (now (section .entry)) number (now (rows .entry)) (now (codes .entry)) (now (rows .exit)) (now (codes .exit)) (now r) ⌝ }
+    ensures { λ r. ⌜ TypeHanded (now (library .entry)) (now (section .entry)) number (now (rows .entry)) (now (shared .entry)) (now (codes .entry)) (now (rows .exit)) (now (shared .exit)) (now (codes .exit)) (now r) ⌝ }
 {
-    let asked = ask_type(section, number, rows, codes);
-    section_handing::bytes_of(section, asked)
+    let asked = ask_type(library, section, number, rows, shared, codes);
+    section_handing::bytes_of(library, section, asked)
 }

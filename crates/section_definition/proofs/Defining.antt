@@ -24,7 +24,7 @@ use Rattle.section_clauses.specs.declared.Front
 use Rattle.section_clauses.specs.Links.{firstOfKept, furtherOfKept, clausesAt, FrontOf, frontAt, frontIs}
 use Rattle.section_definition.specs.declared.DefinitionRead.{DefinitionRead}
 use Rattle.section_definition.specs.declared.DefinitionRead
-use Rattle.section_definition.specs.Rows.{low, rowOf, Place, formedIs, FormedRead, definitionIs, DefinitionPut}
+use Rattle.section_definition.specs.Rows.{low, rowOf, RowRoom, formedIs, FormedRead, definitionIs, DefinitionPut}
 
 -- the definition of a front and a form
 abbrev defined : FrontOf → Form → ℕ → ℕ → ℕ → Definition
@@ -100,13 +100,13 @@ module _ (s : List ℕ) (at : ℕ) {r : Front} (a : r ≡ frontIs (frontAt s at)
       }
 
   module _ {i f g d e n : ℕ} (is : r ≡ Front.the-variants.Got i f g d e n) where
-    pub form-place : {rows codes : List ℕ} {line used filled : ℕ} → Place s rows codes at line used filled → Place s rows codes n line used filled
+    pub form-place : {rows codes : List ℕ} {line used filled : ℕ} → RowRoom s rows codes at line used filled → RowRoom s rows codes n line used filled
     form-place place =
         let (x, read, same) = front-got (frontAt s at) a is in
         let inside = front-inside s at read in
         record {
           room = record { behind = le-trans (place .room .behind) (inside .0); inside = inside .1; enough = omega (arith, place .room .enough, inside .0); small = place .room .small };
-          behind = le-trans (place .behind) (inside .0);
+          behind = omega (arith, place .behind, inside .0);
           line = place .line;
         }
 
@@ -150,7 +150,7 @@ module _ (s : List ℕ) (at : ℕ) {r : Front} (a : r ≡ frontIs (frontAt s at)
     pub definition-got : {reach line base filled : ℕ} {rows rows′ codes codes′ : List ℕ} {q : DefinitionRead} → FormedRead (rowOf i f d e at reach (base + filled) g) s n rows rows′ line codes codes′ filled q → DefinitionPut reach s at rows rows′ line codes codes′ base filled q
     definition-got b = let (x, read, same) = front-got (frontAt s at) a is in definition-read x read same b
 
-pub used-fits : {s rows codes : List ℕ} {at line used filled : ℕ} → Place s rows codes at line used filled → Fits w64 used
+pub used-fits : {s rows codes : List ℕ} {at line used filled : ℕ} → RowRoom s rows codes at line used filled → Fits w64 used
 used-fits place = record { fits = omega (arith, place .behind, place .room .inside, place .room .small) }
 
 pub ruleset definition-exits = (definition-refused, form-place, definition-got, used-fits)

@@ -20,7 +20,7 @@ use Rattle.section_forms.specs.Reads.{PartRead}
 use Rattle.section_forms.proofs.Ahead.{struct-inv, func-inv, form-refused-inv, struct-codes, func-codes, form-ahead}
 use Rattle.section_definition.specs.declared.DefinitionRead.{DefinitionRead}
 use Rattle.section_definition.specs.declared.DefinitionRead
-use Rattle.section_definition.specs.Rows.{rowLow, rowOf, Place, FormedRead}
+use Rattle.section_definition.specs.Rows.{rowLow, rowOf, RowRoom, FormedRead}
 
 module _ {s : List ℕ} {at : ℕ} {codes codes′ : List ℕ} {filled : ℕ} {r : FormRead} (a : PartRead formAt s at codes codes′ filled r) where
   pub formed-refused : (made : Form → ℕ → List ℕ) (rows : List ℕ) (row : ℕ) {k place : ℕ} → r ≡ FormRead.the-variants.Refused k place → FormedRead made s at rows rows row codes codes′ filled (DefinitionRead.the-variants.Refused k place)
@@ -65,21 +65,21 @@ module _ {s : List ℕ} {at : ℕ} {codes codes′ : List ℕ} {filled : ℕ} {r
 
   -- how far the part is filled then fits, since they took bytes of the section
 
-  codes-fit : {rows : List ℕ} {row used end k : ℕ} (f : Form) → Place s rows codes at row used filled → formAt s at ≡ got f end → k ≤ length (formCodes (keptForm f)) → Fits w64 (filled + k)
+  codes-fit : {rows : List ℕ} {row used end k : ℕ} (f : Form) → RowRoom s rows codes at row used filled → formAt s at ≡ got f end → k ≤ length (formCodes (keptForm f)) → Fits w64 (filled + k)
   codes-fit f place read h =
       let ahead = form-ahead s at read in
       let ends = never-back form-takes s at read in
       record { fits = omega (arith, place .room .behind, place .room .small, ends .1) }
 
-  pub struct-filled-fits : {rows : List ℕ} {row used n end : ℕ} → Place s rows codes at row used filled → r ≡ FormRead.the-variants.Struct n end → Fits w64 (filled + n)
+  pub struct-filled-fits : {rows : List ℕ} {row used n end : ℕ} → RowRoom s rows codes at row used filled → r ≡ FormRead.the-variants.Struct n end → Fits w64 (filled + n)
   struct-filled-fits place e =
       let (fs, read, count) = struct-inv (formAt s at) (a .answer) e in codes-fit (struct fs) place read (let c = struct-codes fs in omega arith)
 
-  pub func-filled-fits : {rows : List ℕ} {row used n m end : ℕ} → Place s rows codes at row used filled → r ≡ FormRead.the-variants.Func n m end → Fits w64 (filled + n)
+  pub func-filled-fits : {rows : List ℕ} {row used n m end : ℕ} → RowRoom s rows codes at row used filled → r ≡ FormRead.the-variants.Func n m end → Fits w64 (filled + n)
   func-filled-fits place e =
       let (ps, rs, read, count, more) = func-inv (formAt s at) (a .answer) e in codes-fit (func ps rs) place read (let c = func-codes ps rs in omega arith)
 
-  pub func-all-fits : {rows : List ℕ} {row used n m end : ℕ} → Place s rows codes at row used filled → r ≡ FormRead.the-variants.Func n m end → Fits w64 (filled + n + m)
+  pub func-all-fits : {rows : List ℕ} {row used n m end : ℕ} → RowRoom s rows codes at row used filled → r ≡ FormRead.the-variants.Func n m end → Fits w64 (filled + n + m)
   func-all-fits {n = n} {m = m} place e =
       let (ps, rs, read, count, more) = func-inv (formAt s at) (a .answer) e in
       let sum : filled + n + m ≡ filled + (n + m) = omega arith in

@@ -1,4 +1,4 @@
--- Writing a row: each word is put behind the one before, and the words that were put are one piece.
+-- Writing a row: each word is put after the one before, and the words that were put are one piece.
 use Prim.Native.Nat.{ℕ, _+_, _%_, _≤_, _<_}
 use mathlib.Core.Path.{_≡_, refl}
 use mathlib.Core.List.{List, [], _∷_, _++_}
@@ -25,9 +25,9 @@ four-put {m} {m₁} {at = at} a b c d h e f g i =
 
 pub ruleset four-exits = (four-put)
 
--- the twelve words of a row
-pub row-put : {m m₁ m₂ m₃ : List ℕ} {at : ℕ} (a b c d e f g h i j k l : ℕ) → at + rowSpan ≤ length m → Puts m m₁ at (low a ∷ low b ∷ low c ∷ low d ∷ []) → Puts m₁ m₂ (at + 4) (low e ∷ low f ∷ low g ∷ low h ∷ []) → Puts m₂ m₃ (at + 8) (low i ∷ low j ∷ low k ∷ low l ∷ []) → Puts m m₃ at (rowLow a b c d e f g h i j k l)
-row-put a b c d e f g h i j k l room p q r = puts-more (puts-more p q) r
+-- the words of a row
+pub row-put : {m m₁ m₂ m₃ m₄ : List ℕ} {at : ℕ} (a b c d e f g h i j k l : ℕ) → at + rowSpan ≤ length m → Puts m m₁ at (low a ∷ low b ∷ low c ∷ low d ∷ []) → Puts m₁ m₂ (at + 4) (low e ∷ low f ∷ low g ∷ low h ∷ []) → Puts m₂ m₃ (at + 8) (low i ∷ low j ∷ low k ∷ low l ∷ []) → Puts m₃ m₄ (at + 12) (low 0 ∷ low 0 ∷ low 0 ∷ low 0 ∷ []) → Puts m m₄ at (rowLow a b c d e f g h i j k l)
+row-put a b c d e f g h i j k l room p q r s = puts-more (puts-more (puts-more p q) r) s
 
 pub row-starts : (at : ℕ) (m : List ℕ) → at + rowSpan ≤ length m → at + 4 ≤ length m
 row-starts at m h = omega arith
@@ -36,7 +36,11 @@ module _ {m m₁ : List ℕ} {at : ℕ} {ws : List ℕ} (p : Puts m m₁ at ws) 
   pub row-goes-on : at + 4 + 4 ≤ length m₁
   row-goes-on = let size = puts-length p in omega arith
 
-  pub row-ends : {m₂ vs : List ℕ} → Puts m₁ m₂ (at + 4) vs → at + 8 + 4 ≤ length m₂
-  row-ends q = let size = puts-length p in let more = puts-length q in omega arith
+  module _ {m₂ vs : List ℕ} (q : Puts m₁ m₂ (at + 4) vs) where
+    pub row-comes-near : at + 8 + 4 ≤ length m₂
+    row-comes-near = let size = puts-length p in let more = puts-length q in omega arith
 
-pub ruleset row-exits = (row-put, row-starts, row-goes-on, row-ends, puts-length)
+    pub row-ends : {m₃ us : List ℕ} → Puts m₂ m₃ (at + 8) us → at + 12 + 4 ≤ length m₃
+    row-ends r = let size = puts-length p in let more = puts-length q in let last = puts-length r in omega arith
+
+pub ruleset row-exits = (row-put, row-starts, row-goes-on, row-comes-near, row-ends, puts-length)

@@ -3,11 +3,11 @@ use Prim.Native.Nat.{ℕ, _+_, _%_, _≤_}
 use mathlib.Core.Path.{_≡_}
 use mathlib.Core.List.{List, [], _∷_, _++_, map}
 use lib.ListN.{length}
-use Rattle.scope.specs.Layout.{rowSpan}
+use Rattle.scope.specs.Layout.{rowSpan, codesSize}
 use Rattle.scope.specs.Reading.{Read, got, refused}
 use Rattle.scope.specs.Syntax.{Form, Definition}
 use Rattle.scope.specs.Sections.{formAt, definitionAt}
-use Rattle.scope.specs.Memory.{formCodes, formWords}
+use Rattle.scope.specs.Memory.{formCodes, formWords, spareWords}
 use Rattle.lent_u16.specs.Words.{wordLimit}
 use Rattle.type_table.specs.Kept.{keptForm, keptDefinition}
 use Rattle.type_table.specs.View.{row}
@@ -20,21 +20,21 @@ use Rattle.section_definition.specs.declared.DefinitionRead
 abbrev pub low : ℕ → ℕ
 low n = n % wordLimit
 
--- the twelve words of a row
+-- the words of a row
 abbrev pub rowLow : ℕ → ℕ → ℕ → ℕ → ℕ → ℕ → ℕ → ℕ → ℕ → ℕ → ℕ → ℕ → List ℕ
 rowLow kind n results opens first described describing from to reach used further =
-    map low (kind ∷ n ∷ results ∷ opens ∷ first ∷ described ∷ describing ∷ from ∷ to ∷ reach ∷ used ∷ further ∷ [])
+    map low (kind ∷ n ∷ results ∷ opens ∷ first ∷ described ∷ describing ∷ from ∷ to ∷ reach ∷ used ∷ further ∷ spareWords)
 
 -- the row of a form that ends at a place, by what was read before it
 unfoldable pub rowOf : ℕ → ℕ → ℕ → ℕ → ℕ → ℕ → ℕ → ℕ → Form → ℕ → List ℕ
 rowOf opens first described describing from reach used further f to =
-    map low (formWords f ++ opens ∷ first ∷ described ∷ describing ∷ from ∷ to ∷ reach ∷ used ∷ further ∷ [])
+    map low (formWords f ++ opens ∷ first ∷ described ∷ describing ∷ from ∷ to ∷ reach ∷ used ∷ further ∷ spareWords)
 
--- There is room for the row, and for codes in the lent part behind those that fill it so far. `used` codes of the whole are
--- before, and each took a byte.
-pub record Place (s rows codes : List ℕ) (at row used filled : ℕ) : Type 0 where
+-- There is room for the row, and for codes in the lent part after those that fill it so far. `used` is the place of its first code
+-- among both sections' codes: the add-on's places if the section is the library, and one for each byte of the section before.
+pub record RowRoom (s rows codes : List ℕ) (at row used filled : ℕ) : Type 0 where
   pub room : Room s codes at filled
-  pub behind : used ≤ at
+  pub behind : used ≤ codesSize + at
   pub line : row + rowSpan ≤ length rows
 
 abbrev pub formedIs : ℕ → Read Form → DefinitionRead

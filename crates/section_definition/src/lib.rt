@@ -7,7 +7,7 @@ ghost use mathlib.Core.List.{_∷_, []};
 ghost use lib.ListN.{length};
 ghost use Rattle.scope.specs.Layout.{rowSpan};
 ghost use Rattle.type_table.proofs.Puts.{Puts};
-ghost use Rattle.section_definition.specs.Rows.{low, rowLow, rowOf, Place, FormedRead, DefinitionPut};
+ghost use Rattle.section_definition.specs.Rows.{low, rowLow, rowOf, RowRoom, FormedRead, DefinitionPut};
 
 // Four words, one after the other.
 fn put_four(m: &mut [u16], at: u64, a: u64, b: u64, c: u64, d: u64)
@@ -20,7 +20,7 @@ fn put_four(m: &mut [u16], at: u64, a: u64, b: u64, c: u64, d: u64)
     lent_u16::put(m, at + 3, d);
 }
 
-// The twelve words of a row, in the order of type_table's RowWords.antt.
+// The words of a row, in the order of type_table's RowWords.antt; the last four are spare.
 fn put_row(
     m: &mut [u16],
     at: u64,
@@ -43,6 +43,7 @@ fn put_row(
     put_four(m, at, kind, n, results, opens);
     put_four(m, at + 4, first, described, describing, from);
     put_four(m, at + 8, to, reach, used, further);
+    put_four(m, at + 12, 0, 0, 0, 0);
 }
 
 // The place after a definition and how far the part is filled then; or a refusal's number and place.
@@ -68,7 +69,7 @@ fn formed_at(
     used: u64,
     filled: u64,
 ) -> DefinitionRead
-    requires { ⌜ Place (now s) (now rows) (now codes) at row used filled ⌝ }
+    requires { ⌜ RowRoom (now s) (now rows) (now codes) at row used filled ⌝ }
     ensures { λ r.
         let words = rowOf opens first described describing from reach used further in
         ⌜ FormedRead words (now (s .entry)) at (now (rows .entry)) (now (rows .exit)) row (now (codes .entry)) (now (codes .exit)) filled r ⌝ }
@@ -132,7 +133,7 @@ pub fn definition_at(
     base: u64,
     filled: u64,
 ) -> DefinitionRead
-    requires { ⌜ Place (now s) (now rows) (now codes) at row (base + filled) filled ⌝ }
+    requires { ⌜ RowRoom (now s) (now rows) (now codes) at row (base + filled) filled ⌝ }
     ensures { λ r. ⌜ DefinitionPut reach (now (s .entry)) at (now (rows .entry)) (now (rows .exit)) row (now (codes .entry)) (now (codes .exit)) base filled r ⌝ }
 {
     let used = base + filled;

@@ -7,7 +7,7 @@ use native.Mathlib.Omega.{arith}
 use lib.ListN.{length, length-append, length-map}
 use mir.Syntax.{w64}
 use mir.Val.{Fits}
-use Rattle.scope.specs.Layout.{rowSpan}
+use Rattle.scope.specs.Layout.{rowSpan, codesSize}
 use Rattle.scope.specs.Refusals.{oversize}
 use Rattle.scope.specs.Sizes.{mostTypes}
 use Rattle.scope.specs.Reading.{got, refused, entries}
@@ -24,7 +24,7 @@ use Rattle.section_forms.specs.Reads.{Room}
 use Rattle.section_forms.proofs.Lists.{onto, onto-none, onto-more, entries-step, entries-refused, entries-over, entries-done}
 use Rattle.section_definition.specs.declared.DefinitionRead.{DefinitionRead}
 use Rattle.section_definition.specs.declared.DefinitionRead
-use Rattle.section_definition.specs.Rows.{low, Place, DefinitionPut}
+use Rattle.section_definition.specs.Rows.{low, RowRoom, DefinitionPut}
 use Rattle.section_definition.proofs.Defining.{definition-ahead, definition-inv, definition-refused-inv}
 use Rattle.section_group.specs.declared.GroupRead.{GroupRead}
 use Rattle.section_group.specs.declared.GroupRead
@@ -40,7 +40,7 @@ pub record Grouped (reach first n : ℕ) (s : List ℕ) (at : ℕ) (rows₀ rows
   pub rowsPut : Puts rows₀ rows 0 (map low (rowsOf used (keptAll done)))
   pub codesPut : Puts codes₀ codes 0 (codesOf (keptAll done))
   pub room : Room s codes next filled
-  pub behind : used + filled ≤ next
+  pub behind : used + filled ≤ codesSize + next
 
 pub grouped-first : {s rows codes : List ℕ} {at first used : ℕ} (reach n : ℕ) → Lent s rows codes at first used → Grouped reach first n s at rows rows codes codes used at 0 0
 unfolding rowsOf codesOf
@@ -133,7 +133,7 @@ module _ {reach first n : ℕ} {s : List ℕ} {at : ℕ} {rows₀ rows codes₀ 
       pub grouped-count-fits : Fits w64 (count + 1)
       grouped-count-fits = record { fits = omega arith }
 
-      pub grouped-place : Lent s rows₀ codes₀ at first used → Place s rows codes next (rowSpan * count) (used + filled) filled
+      pub grouped-place : Lent s rows₀ codes₀ at first used → RowRoom s rows codes next (rowSpan * count) (used + filled) filled
       grouped-place lent =
           let size = grouped-rows-size in
           let lines = lent .lines in

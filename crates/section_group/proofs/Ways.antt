@@ -27,7 +27,7 @@ use Rattle.number_values.proofs.Laws.{natural-got, natural-refused, unsigned-sm
 use Rattle.type_table.specs.Kept.{keptForm}
 use Rattle.section_definition.specs.declared.DefinitionRead.{DefinitionRead}
 use Rattle.section_definition.specs.declared.DefinitionRead
-use Rattle.section_definition.specs.Rows.{Place, DefinitionPut}
+use Rattle.section_definition.specs.Rows.{RowRoom, DefinitionPut}
 use Rattle.section_definition.proofs.Defining.{definition-ahead, definition-inv, definition-refused-inv}
 use Rattle.section_group.specs.declared.GroupRead.{GroupRead}
 use Rattle.section_group.specs.declared.GroupRead
@@ -86,7 +86,7 @@ pub ruleset several-exits = (several-refused, several-lent, several-reach-fits, 
 pub alone-over : {first : ℕ} (s : List ℕ) (at : ℕ) (rows codes : List ℕ) (used : ℕ) → mostTypes ≤ first → GroupPut (aloneAt first) s at rows rows codes codes used (GroupRead.the-variants.Refused oversize at)
 alone-over {first} s at rows codes used h = no-put (aloneAt first) s at used refl refl (rw (le-ltb first mostTypes h))
 
-pub alone-place : {s rows codes : List ℕ} {at first used : ℕ} → first < mostTypes → Lent s rows codes at first used → Place s rows codes at 0 (used + 0) 0
+pub alone-place : {s rows codes : List ℕ} {at first used : ℕ} → first < mostTypes → Lent s rows codes at first used → RowRoom s rows codes at 0 (used + 0) 0
 alone-place h lent = let l = lent .lines in record { room = lent .room; behind = omega (arith, lent .behind); line = omega arith }
 
 module _ {s : List ℕ} {at first : ℕ} {rows rows′ codes codes′ : List ℕ} {used : ℕ} {r : DefinitionRead} (h : first < mostTypes) (a : DefinitionPut (first + 1) s at rows rows′ 0 codes codes′ used 0 r) where

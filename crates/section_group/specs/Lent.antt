@@ -5,7 +5,7 @@ use mathlib.Core.Bool.{cond}
 use lib.Dec.{ltb}
 use mathlib.Core.List.{List, [], _∷_, map}
 use lib.ListN.{length}
-use Rattle.scope.specs.Layout.{rowSpan}
+use Rattle.scope.specs.Layout.{rowSpan, codesSize}
 use Rattle.scope.specs.Sizes.{mostTypes}
 use Rattle.scope.specs.Refusals.{oversize}
 use Rattle.scope.specs.Reading.{Read, got, refused, Reader, then, entries}
@@ -21,10 +21,10 @@ use Rattle.section_group.specs.declared.GroupRead.{GroupRead}
 use Rattle.section_group.specs.declared.GroupRead
 
 -- The rest of the table from the group's first row and first code on: it has a row for each type and a code for each byte
--- that may still come. `used` codes are before it, and each took a byte.
+-- that may still come. `used` places of both sections' codes are before it: the library's, and one for each byte at most.
 pub record Lent (s rows codes : List ℕ) (at first used : ℕ) : Type 0 where
   pub room : Room s codes at 0
-  pub behind : used ≤ at
+  pub behind : used ≤ codesSize + at
   pub few : first ≤ mostTypes
   pub lines : rowSpan * (mostTypes - first) ≤ length rows
 

@@ -10,6 +10,7 @@ use lib.Seq.{take-all, take-nil}
 use lib.Dec.{leb, ltb}
 use mathlib.Core.Logic.{_⊎_, inl, inr}
 use borrow.Author.Tests.{leb-true, leb-false, ltb-true, ltb-false}
+use Rattle.scope.specs.declared.Place.{Place}
 use Rattle.scope.specs.declared.Asked.{Asked}
 use Rattle.scope.specs.declared.Asked
 use Rattle.scope.proofs.Truths.{decided}
@@ -51,13 +52,17 @@ module _ (s : List ℕ) (from to start end : ℕ) (e : end ≡ min to (length s)
 
 -- bytes_of
 
-module _ (s : List ℕ) {q : List ℕ} {r : Asked} where
-  pub named-none : {k p : ℕ} → r ≡ Asked.the-variants.Refused k p → q ≡ take (0 - 0) (drop 0 s) → q ≡ bytesNamed s r
+module _ (library section : List ℕ) {q : List ℕ} {r : Asked} where
+  pub named-none : {k : ℕ} {p : Place} → r ≡ Asked.the-variants.Refused k p → q ≡ take (0 - 0) (drop 0 section) → q ≡ bytesNamed library section r
   unfolding bytesNamed
   named-none e b = rw e b
 
-  pub named-part : {f t : ℕ} → r ≡ Asked.the-variants.Bytes f t → q ≡ take (t - f) (drop f s) → q ≡ bytesNamed s r
+  pub named-library : {f t : ℕ} → r ≡ Asked.the-variants.Library f t → q ≡ take (t - f) (drop f library) → q ≡ bytesNamed library section r
   unfolding bytesNamed
-  named-part e b = rw e b
+  named-library e b = rw e b
 
-pub ruleset named-exits = (named-none, named-part)
+  pub named-addon : {f t : ℕ} → r ≡ Asked.the-variants.Addon f t → q ≡ take (t - f) (drop f section) → q ≡ bytesNamed library section r
+  unfolding bytesNamed
+  named-addon e b = rw e b
+
+pub ruleset named-exits = (named-none, named-library, named-addon)

@@ -7,18 +7,24 @@ use lib.ListN.{take, drop}
 use lib.Dec.{ltb}
 use Rattle.scope.specs.Refusals.{outOfReach}
 use Rattle.scope.specs.Syntax.{Types}
+use Rattle.scope.specs.Judging.{plain}
 use Rattle.scope.specs.Memory.{wiped}
 use Rattle.scope.specs.declared.Asked.{Asked}
 use Rattle.scope.specs.declared.Asked
 
-pub record Cleared (rows codes rows′ codes′ : List ℕ) : Type 0 where
+pub record Cleared (rows shared codes rows′ shared′ codes′ : List ℕ) : Type 0 where
   pub rowsAfter : rows′ ≡ wiped rows
+  pub sharedAfter : shared′ ≡ wiped shared
   pub codesAfter : codes′ ≡ wiped codes
 
--- type x of n types
-unfoldable pub askedAt : Types → ℕ → ℕ → Asked
-askedAt ts x n = cond (ltb x n) (Asked.the-variants.Bytes (ts x .from) (ts x .to)) (Asked.the-variants.Refused outOfReach x)
+-- type x of n types, so many of them the library's
+unfoldable pub askedAt : Types → ℕ → ℕ → ℕ → Asked
+askedAt ts x before n =
+    cond (ltb x n)
+    (cond (ltb x before) (Asked.the-variants.Library (ts x .from) (ts x .to)) (Asked.the-variants.Addon (ts x .from) (ts x .to)))
+    (Asked.the-variants.Refused outOfReach (plain x))
 
-unfoldable pub bytesNamed : List ℕ → Asked → List ℕ
-bytesNamed s (Asked.the-variants.Bytes from to) = take (to - from) (drop from s)
-bytesNamed s (Asked.the-variants.Refused number place) = []
+unfoldable pub bytesNamed : List ℕ → List ℕ → Asked → List ℕ
+bytesNamed library section (Asked.the-variants.Library from to) = take (to - from) (drop from library)
+bytesNamed library section (Asked.the-variants.Addon from to) = take (to - from) (drop from section)
+bytesNamed library section (Asked.the-variants.Refused number place) = []

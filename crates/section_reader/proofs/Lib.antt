@@ -3,3 +3,4 @@ pub mod Walking
 pub mod Ending
 pub mod Modest
 pub mod LowTable
+pub mod TwoRead

@@ -9,12 +9,13 @@ use mathlib.Core.List.{List, [], _∷_, _++_, map}
 use native.Mathlib.Omega.{arith}
 use native.Mathlib.Nat.{mod-eq-of-lt}
 use lib.ListN.{length, length-append, length-map}
-use Rattle.scope.specs.Sizes.{mostBytes}
+use Rattle.scope.specs.Sizes.{mostBytes, mostTypes}
+use Rattle.scope.specs.Layout.{codesSize}
 use Rattle.scope.specs.Reading.{got}
 use Rattle.scope.specs.Lists.{joined}
+use Rattle.scope.specs.Sections.{readAfter}
 use Rattle.scope.specs.Syntax.{Form, Definition, Group, firstOf}
-use Rattle.scope.specs.Sections.{readSection}
-use Rattle.scope.specs.Memory.{formCodes, formWords, flag, orZero}
+use Rattle.scope.specs.Memory.{formCodes, formWords, flag, orZero, spareWords}
 use Rattle.lent_u16.specs.Words.{wordLimit}
 use Rattle.type_table.specs.Kept.{keptOption, keptVal, keptField, keptForm, keptSupers, keptDefinition}
 use Rattle.type_table.specs.View.{furtherOf, row, rowsOf, codesOf}
@@ -61,7 +62,10 @@ further-word [] = omega arith
 further-word (x ∷ []) = omega arith
 further-word (x ∷ y ∷ more) = omega arith
 
-row-words : (first : ℕ) (d : Definition) → Modest d → first ≤ mostBytes → Each Word (row first (keptDefinition d))
+spare-words : Each Word spareWords
+spare-words = let small : Word 0 = omega arith in one-more small (one-more small (one-more small (one-more small no-more)))
+
+row-words : (first : ℕ) (d : Definition) → Modest d → first < codesSize + mostBytes → Each Word (row first (keptDefinition d))
 unfolding row keptDefinition
 row-words first d m h =
     let from : Word (d .from) = omega (arith, m .starts) in
@@ -73,17 +77,17 @@ row-words first d m h =
     (one-more (first-word (d .supers))
     (one-more (link-word (d .describes))
     (one-more (link-word (d .descriptor))
-    (one-more from (one-more to (one-more reach (one-more used (one-more (further-word (d .supers)) no-more)))))))))
+    (one-more from (one-more to (one-more reach (one-more used (one-more (further-word (d .supers)) spare-words)))))))))
 
-rows-words : (first : ℕ) {ds : List Definition} → Each Modest ds → first + length (codesOf (keptAll ds)) ≤ mostBytes → Each Word (rowsOf first (keptAll ds))
+rows-words : (first : ℕ) {ds : List Definition} → Each Modest ds → first + length (codesOf (keptAll ds)) < codesSize + mostBytes → Each Word (rowsOf first (keptAll ds))
 unfolding rowsOf codesOf
 rows-words first no-more h = no-more
 rows-words first (one-more {x = d} {xs = ds} m more) h =
     let codes = formCodes (keptDefinition d .form) in
     let long : length (codes ++ codesOf (keptAll ds)) ≡ length codes + length (codesOf (keptAll ds)) = length-append codes (codesOf (keptAll ds)) in
-    let before : first ≤ mostBytes = omega arith in
-    let room : first + length codes + length (codesOf (keptAll ds)) ≤ mostBytes = omega arith in
+    let before : first < codesSize + mostBytes = omega arith in
+    let room : first + length codes + length (codesOf (keptAll ds)) < codesSize + mostBytes = omega arith in
     each-append (row-words first d m before) (rows-words (first + length codes) more room)
 
-pub low-table : (s : List ℕ) {gs : List Group} {end : ℕ} → readSection s ≡ got gs end → map low (rowsOf 0 (keptAll (joined gs))) ≡ rowsOf 0 (keptAll (joined gs))
-low-table s e = let fits = read-fits s e in words-low (rows-words 0 (fits .each) (omega (arith, fits .codes)))
+pub low-table : (before base : ℕ) → before ≤ mostTypes → base ≤ codesSize → (s : List ℕ) {gs : List Group} {end : ℕ} → readAfter before s ≡ got gs end → map low (rowsOf base (keptAll (joined gs))) ≡ rowsOf base (keptAll (joined gs))
+low-table before base few near s e = let fits = read-fits before few s e in words-low (rows-words base (fits .each) (omega (arith, fits .codes)))

@@ -2,7 +2,7 @@
 -- in a list, and belongs to a group that reaches no further than 256: a group of n types was read into the room that is
 -- left of 256. The types read are at most 256, and their codes took a byte each. The argument: a reader is put together
 -- from `then`, `onByte` and `cond`, each of which keeps what holds of all that is given (`Gives`).
-use Prim.Native.Nat.{ℕ, zero, suc, _+_, _-_, _≤_}
+use Prim.Native.Nat.{_<_, ℕ, zero, suc, _+_, _-_, _≤_}
 use mathlib.Core.Path.{_≡_, refl, ap, _∙_}
 use mathlib.Core.Bool.{Bool, true, false, cond}
 use mathlib.Core.Option.{Option, none, some}
@@ -17,8 +17,8 @@ use Rattle.scope.specs.Reading.{Read, got, refused, Reader, given, then, onByte
 use Rattle.scope.specs.Numbers.{u32}
 use Rattle.scope.specs.Lists.{joined}
 use Rattle.scope.specs.Syntax.{Val, Field, Form, struct, func, Definition, Group, typesOf}
-use Rattle.scope.specs.Sections.{valAt, fieldAt, fewAt, headAt, clauseAt, describesCode, descriptorCode, formAt, definitionAt, groupAt, groupsAt, readSection}
-use Rattle.scope.proofs.Forward.{definition-takes, never-back}
+use Rattle.scope.specs.Sections.{valAt, fieldAt, fewAt, headAt, clauseAt, describesCode, descriptorCode, formAt, definitionAt, groupAt, groupsAt, readAfter}
+use Rattle.scope.proofs.Forward.{definition-takes, never-back, unsigned-takes}
 use Rattle.scope.proofs.Impossible.{impossible}
 use Rattle.type_table.specs.Kept.{beyond, keptDefinition}
 use Rattle.type_table.specs.View.{codesOf}
@@ -199,35 +199,38 @@ groups-fitting s small (suc n) first at h =
 
 -- the section
 
-pub record SectionFits (gs : List Group) : Type 0 where
+pub record SectionFits (before : ℕ) (gs : List Group) : Type 0 where
   pub each : Each Modest (joined gs)
-  pub types : length (joined gs) ≤ mostTypes
-  pub codes : length (codesOf (keptAll (joined gs))) ≤ mostBytes
+  pub types : before + length (joined gs) ≤ mostTypes
+  pub codes : length (codesOf (keptAll (joined gs))) < mostBytes
 
-section-fits : (s : List ℕ) → Gives (λ gs end. SectionFits gs) (readSection s)
-unfolding readSection
-section-fits s =
+section-fits : (before : ℕ) → before ≤ mostTypes → (s : List ℕ) → Gives (λ gs end. SectionFits before gs) (readAfter before s)
+unfolding readAfter
+section-fits before few s =
     gives-cond (ltb mostBytes (length s))
     (λ long. gives-none)
     (λ short.
     let small : length s ≤ mostBytes = ltb-false mostBytes (length s) short in
     gives-then (u32 s 0) _ (λ n next e.
-    gives-then (groupsAt n 0 s next) _ (λ gs end f.
-    let all = taken (groups-fitting s small n 0 next (omega arith)) f in
+    gives-then (groupsAt n before s next) _ (λ gs end f.
+    let all = taken (groups-fitting s small n before next few) f in
     gives-cond (eqb end (length s))
-    (λ last. let whole : end ≡ length s = eqb-true end (length s) last in gives (record { each = all .each; types = omega (arith, all .types); codes = omega (arith, all .codes) }))
+    (λ last.
+    let whole : end ≡ length s = eqb-true end (length s) last in
+    let counted = never-back (unsigned-takes 32) s 0 e in
+    gives (record { each = all .each; types = omega (arith, few, all .types); codes = omega (arith, counted .0, all .codes) }))
     (λ over. gives-none))))
 
-pub read-fits : (s : List ℕ) {gs : List Group} {end : ℕ} → readSection s ≡ got gs end → SectionFits gs
-read-fits s e = taken (section-fits s) e
+pub read-fits : (before : ℕ) → before ≤ mostTypes → (s : List ℕ) {gs : List Group} {end : ℕ} → readAfter before s ≡ got gs end → SectionFits before gs
+read-fits before few s e = taken (section-fits before few s) e
 
-each-reach : {ds : List Definition} → Each Modest ds → (x : ℕ) → typesOf ds x .reach ≤ beyond
+pub each-reach : {ds : List Definition} → Each Modest ds → (x : ℕ) → typesOf ds x .reach ≤ beyond
 each-reach no-more x = omega arith
 each-reach (one-more m more) zero = let far = m .far in omega arith
 each-reach (one-more m more) (suc x) = each-reach more x
 
-pub read-reach : (s : List ℕ) {gs : List Group} {end : ℕ} → readSection s ≡ got gs end → ReachWithin (typesOf (joined gs))
-read-reach s e = record { low = each-reach (read-fits s e .each) }
+pub read-reach : (before : ℕ) → before ≤ mostTypes → (s : List ℕ) {gs : List Group} {end : ℕ} → readAfter before s ≡ got gs end → ReachWithin (typesOf (joined gs))
+read-reach before few s e = record { low = each-reach (read-fits before few s e .each) }
 
-pub read-lengths : (s : List ℕ) {gs : List Group} {end : ℕ} → readSection s ≡ got gs end → (length (joined gs) ≤ mostTypes) × (length (codesOf (keptAll (joined gs))) ≤ mostBytes)
-read-lengths s e = let fits = read-fits s e in (fits .types, fits .codes)
+pub read-lengths : (before : ℕ) → before ≤ mostTypes → (s : List ℕ) {gs : List Group} {end : ℕ} → readAfter before s ≡ got gs end → (before + length (joined gs) ≤ mostTypes) × (length (codesOf (keptAll (joined gs))) < mostBytes)
+read-lengths before few s e = let fits = read-fits before few s e in (fits .types, fits .codes)

@@ -9,7 +9,7 @@ use lib.Seq.{take-all, drop-length}
 use mir.Syntax.{w64}
 use mir.Val.{Fits}
 use borrow.Rule.Slice.PartMut.{midOf, putMid, post-is, same-len-mid}
-use Rattle.scope.specs.Layout.{rowSpan}
+use Rattle.scope.specs.Layout.{rowSpan, codesSize}
 use Rattle.scope.specs.Sizes.{mostTypes}
 use Rattle.scope.specs.Reading.{Read, got, refused, then}
 use Rattle.scope.specs.Lists.{joined}
@@ -27,7 +27,7 @@ use Rattle.section_group.specs.declared.GroupRead.{GroupRead}
 use Rattle.section_group.specs.declared.GroupRead
 use Rattle.section_group.specs.Lent.{Lent, keptAll, groupIs, GroupPut}
 use Rattle.section_group.proofs.Grouping.{rows-done}
-use Rattle.section_reader.specs.Whole.{flatAt}
+use Rattle.section_reader.specs.Whole.{flatAt, groupsIs, Begun, GroupsPut}
 use Rattle.section_reader.proofs.Feeding.{group-ate}
 
 -- the rest of a list from a place on, lent and put back
@@ -71,33 +71,38 @@ group-refused-inv used (refused n m) p q = cc
 
 -- the loop
 
-pub record Walked (n : ℕ) (s : List ℕ) (at : ℕ) (rows₀ rows codes₀ codes : List ℕ) (next left first used : ℕ) : Type 0 where
+pub record Walked (n before base : ℕ) (s : List ℕ) (at : ℕ) (rows₀ rows codes₀ codes : List ℕ) (next left first used : ℕ) : Type 0 where
   pub done : List Group
-  pub same : groupsAt n 0 s at ≡ onto done (groupsAt left first s next)
-  pub counted : first ≡ length (joined done)
-  pub takes : used ≡ length (codesOf (keptAll (joined done)))
+  pub same : groupsAt n before s at ≡ onto done (groupsAt left first s next)
+  pub counted : first ≡ before + length (joined done)
+  pub takes : used ≡ base + length (codesOf (keptAll (joined done)))
   pub few : first ≤ mostTypes
-  pub rowsPut : Puts rows₀ rows 0 (map low (rowsOf 0 (keptAll (joined done))))
+  pub near : base ≤ codesSize
+  pub rowsPut : Puts rows₀ rows (rowSpan * before) (map low (rowsOf base (keptAll (joined done))))
   pub codesPut : Puts codes₀ codes 0 (codesOf (keptAll (joined done)))
-  pub room : Room s codes next used
+  pub room : Room s codes next (used - base)
   pub lines : rowSpan * mostTypes ≤ length rows₀
 
-pub walked-first : {s rows codes : List ℕ} {at : ℕ} (n : ℕ) → Lent s rows codes at 0 0 → Walked n s at rows rows codes codes at n 0 0
+pub walked-first : {s rows codes : List ℕ} {at before base : ℕ} (n : ℕ) → Begun s rows codes at before base → Walked n before base s at rows rows codes codes at n before base
 unfolding rowsOf codesOf
-walked-first {s} {rows} {codes} {at} n lent =
+walked-first {s} {rows} {codes} {at} {before} {base} n lent =
+    let few = lent .few in
+    let lines = lent .lines in
+    let none : base - base ≡ 0 = omega arith in
     record {
       done = [];
-      same = onto-none (groupsAt n 0 s at);
-      counted = refl;
-      takes = refl;
+      same = onto-none (groupsAt n before s at);
+      counted = omega arith;
+      takes = omega arith;
       few = lent .few;
-      rowsPut = puts-none rows 0 (omega arith);
+      near = lent .near;
+      rowsPut = puts-none rows (rowSpan * before) (omega arith);
       codesPut = puts-none codes 0 (omega arith);
-      room = lent .room;
+      room = rw none (lent .room);
       lines = lent .lines;
     }
 
-module _ {n : ℕ} {s : List ℕ} {at : ℕ} {rows₀ rows codes₀ codes : List ℕ} {next left first used : ℕ} (p : Walked n s at rows₀ rows codes₀ codes next left first used) where
+module _ {n before base : ℕ} {s : List ℕ} {at : ℕ} {rows₀ rows codes₀ codes : List ℕ} {next left first used : ℕ} (p : Walked n before base s at rows₀ rows codes₀ codes next left first used) where
   pub walked-rows-size : length rows ≡ length rows₀
   walked-rows-size = puts-length (p .rowsPut)
 
@@ -110,16 +115,18 @@ module _ {n : ℕ} {s : List ℕ} {at : ℕ} {rows₀ rows codes₀ codes : List
   pub walked-start : rowSpan * first ≤ length rows
   walked-start = let f = p .few in let l = p .lines in let z = walked-rows-size in omega arith
 
-  pub walked-from : used ≤ length codes
+  pub walked-base : base ≤ used
+  walked-base = omega (arith, p .takes)
+
+  pub walked-from : used - base ≤ length codes
   walked-from = omega (arith, p .room .inside, p .room .enough)
 
-  pub walked-done : left ≤ 0 → GroupPut (flatAt n) s at rows₀ rows codes₀ codes 0 (GroupRead.the-variants.Got first next used)
+  pub walked-done : left ≤ 0 → GroupsPut n before base s at rows₀ rows codes₀ codes (GroupRead.the-variants.Got first next used)
   walked-done h =
-      let all : groupsAt n 0 s at ≡ got (p .done) next = p .same ∙ ap (onto (p .done)) (groups-done left first s next h) ∙ ap (λ gs. got gs next) (append-nil (p .done)) in
-      let whole : flatAt n s at ≡ got (joined (p .done)) next = rw all in
-      let none : 0 + length (codesOf (keptAll (joined (p .done)))) ≡ length (codesOf (keptAll (joined (p .done)))) = omega arith in
+      let all : groupsAt n before s at ≡ got (p .done) next = p .same ∙ ap (onto (p .done)) (groups-done left first s next h) ∙ ap (λ gs. got gs next) (append-nil (p .done)) in
+      let whole : flatAt n before s at ≡ got (joined (p .done)) next = rw all in
       record {
-        answer = rw (whole, none, p .takes, p .counted);
+        answer = rw (whole, p .takes, p .counted);
         rowsPut = λ ds stop e. let same : joined (p .done) ≡ ds = cc in rw (← same) (p .rowsPut);
         codesPut = λ ds stop e. let same : joined (p .done) ≡ ds = cc in rw (← same) (p .codesPut);
         rowsKept = walked-rows-size;
@@ -127,35 +134,35 @@ module _ {n : ℕ} {s : List ℕ} {at : ℕ} {rows₀ rows codes₀ codes : List
       }
 
   module _ (more : 0 < left) where
-    pub walked-lent : Lent s (midOf (rowSpan * first) (length rows - rowSpan * first) rows) (midOf used (length codes - used) codes) next first used
+    pub walked-lent : Lent s (midOf (rowSpan * first) (length rows - rowSpan * first) rows) (midOf (used - base) (length codes - (used - base)) codes) next first used
     walked-lent =
         let f = p .few in
         let l = p .lines in
         let z = walked-rows-size in
         let d = length-drop (rowSpan * first) rows in
-        let rest = length-drop used codes in
-        let enough : 0 + length s ≤ next + length (drop used codes) = omega (arith, p .room .inside, p .room .enough) in
+        let rest = length-drop (used - base) codes in
+        let enough : 0 + length s ≤ next + length (drop (used - base) codes) = omega (arith, rest, p .room .inside, p .room .enough) in
         record {
-          room = record { behind = omega arith; inside = p .room .inside; enough = rw (rest-is used codes) enough; small = p .room .small };
-          behind = p .room .behind;
+          room = record { behind = omega arith; inside = p .room .inside; enough = rw (rest-is (used - base) codes) enough; small = p .room .small };
+          behind = omega (arith, p .room .behind, p .near);
           few = p .few;
           lines = rw (rest-is (rowSpan * first) rows) (omega arith);
         }
 
-    module _ {part piece : List ℕ} {r : GroupRead} (a : GroupPut (groupAt first) s next (midOf (rowSpan * first) (length rows - rowSpan * first) rows) part (midOf used (length codes - used) codes) piece used r) where
+    module _ {part piece : List ℕ} {r : GroupRead} (a : GroupPut (groupAt first) s next (midOf (rowSpan * first) (length rows - rowSpan * first) rows) part (midOf (used - base) (length codes - (used - base)) codes) piece used r) where
       part-size : length part ≡ length (drop (rowSpan * first) rows)
       part-size = a .rowsKept ∙ ap length (rest-is (rowSpan * first) rows)
 
       pub walked-rows-kept : length (putMid (rowSpan * first) (length rows - rowSpan * first) rows part) ≡ length rows₀
       walked-rows-kept = same-len-mid (rowSpan * first) (length rows - rowSpan * first) rows part (a .rowsKept) ∙ walked-rows-size
 
-      pub walked-codes-kept : length (putMid used (length codes - used) codes piece) ≡ length codes₀
-      walked-codes-kept = same-len-mid used (length codes - used) codes piece (a .codesKept) ∙ walked-codes-size
+      pub walked-codes-kept : length (putMid (used - base) (length codes - (used - base)) codes piece) ≡ length codes₀
+      walked-codes-kept = same-len-mid (used - base) (length codes - (used - base)) codes piece (a .codesKept) ∙ walked-codes-size
 
-      pub walked-refused : {k place : ℕ} → r ≡ GroupRead.the-variants.Refused k place → GroupPut (flatAt n) s at rows₀ (putMid (rowSpan * first) (length rows - rowSpan * first) rows part) codes₀ (putMid used (length codes - used) codes piece) 0 (GroupRead.the-variants.Refused k place)
+      pub walked-refused : {k place : ℕ} → r ≡ GroupRead.the-variants.Refused k place → GroupsPut n before base s at rows₀ (putMid (rowSpan * first) (length rows - rowSpan * first) rows part) codes₀ (putMid (used - base) (length codes - (used - base)) codes piece) (GroupRead.the-variants.Refused k place)
       walked-refused {k} {place} e =
-          let none : groupsAt n 0 s at ≡ refused k place = p .same ∙ ap (onto (p .done)) (groups-refused left first s next more (group-refused-inv used (groupAt first s next) (a .answer) e)) in
-          let whole : flatAt n s at ≡ refused k place = rw none in
+          let none : groupsAt n before s at ≡ refused k place = p .same ∙ ap (onto (p .done)) (groups-refused left first s next more (group-refused-inv used (groupAt first s next) (a .answer) e)) in
+          let whole : flatAt n before s at ≡ refused k place = rw none in
           record {
             answer = rw whole;
             rowsPut = λ ds stop f. impossible cc;
@@ -167,29 +174,29 @@ module _ {n : ℕ} {s : List ℕ} {at : ℕ} {rows₀ rows codes₀ codes : List
       kept-more : (g : Group) → keptAll (joined (p .done ++ g ∷ [])) ≡ keptAll (joined (p .done)) ++ keptAll g
       kept-more g = ap keptAll (joined-more (p .done) g) ∙ map-append _ (joined (p .done)) g
 
-      rows-more : (g : Group) → map low (rowsOf 0 (keptAll (joined (p .done ++ g ∷ [])))) ≡ map low (rowsOf 0 (keptAll (joined (p .done)))) ++ map low (rowsOf used (keptAll g))
+      rows-more : (g : Group) → map low (rowsOf base (keptAll (joined (p .done ++ g ∷ [])))) ≡ map low (rowsOf base (keptAll (joined (p .done)))) ++ map low (rowsOf used (keptAll g))
       rows-more g =
-          ap (λ ds. map low (rowsOf 0 ds)) (kept-more g)
-          ∙ ap (map low) (rows-append 0 (keptAll (joined (p .done))) (keptAll g))
-          ∙ map-append low (rowsOf 0 (keptAll (joined (p .done)))) (rowsOf (0 + length (codesOf (keptAll (joined (p .done))))) (keptAll g))
-          ∙ ap (λ (k : ℕ). map low (rowsOf 0 (keptAll (joined (p .done)))) ++ map low (rowsOf k (keptAll g))) (let t = p .takes in omega arith)
+          ap (λ ds. map low (rowsOf base ds)) (kept-more g)
+          ∙ ap (map low) (rows-append base (keptAll (joined (p .done))) (keptAll g))
+          ∙ map-append low (rowsOf base (keptAll (joined (p .done)))) (rowsOf (base + length (codesOf (keptAll (joined (p .done))))) (keptAll g))
+          ∙ ap (λ (k : ℕ). map low (rowsOf base (keptAll (joined (p .done)))) ++ map low (rowsOf k (keptAll g))) (let t = p .takes in omega arith)
 
       codes-more : (g : Group) → codesOf (keptAll (joined (p .done ++ g ∷ []))) ≡ codesOf (keptAll (joined (p .done))) ++ codesOf (keptAll g)
       codes-more g = ap codesOf (kept-more g) ∙ codes-append (keptAll (joined (p .done))) (keptAll g)
 
-      grown : {count after taken : ℕ} (g : Group) → groupAt first s next ≡ got g after → count ≡ length g → taken ≡ used + length (codesOf (keptAll g)) → Walked n s at rows₀ (putMid (rowSpan * first) (length rows - rowSpan * first) rows part) codes₀ (putMid used (length codes - used) codes piece) after (left - 1) (first + count) taken
+      grown : {count after taken : ℕ} (g : Group) → groupAt first s next ≡ got g after → count ≡ length g → taken ≡ used + length (codesOf (keptAll g)) → Walked n before base s at rows₀ (putMid (rowSpan * first) (length rows - rowSpan * first) rows part) codes₀ (putMid (used - base) (length codes - (used - base)) codes piece) after (left - 1) (first + count) taken
       grown {count} {after} {taken} g read many codes-many =
           let ate = group-ate first s next read in
           let ends = never-back (group-takes first) s next read in
-          let c : first ≡ length (joined (p .done)) = p .counted in
-          let t : used ≡ length (codesOf (keptAll (joined (p .done)))) = p .takes in
+          let c : first ≡ before + length (joined (p .done)) = p .counted in
+          let t : used ≡ base + length (codesOf (keptAll (joined (p .done)))) = p .takes in
           let here : Puts (drop (rowSpan * first) rows) part 0 (map low (rowsOf used (keptAll g))) = rw (rest-is (rowSpan * first) rows) at (a .rowsPut g after read) in
           let there : Puts rows (putMid (rowSpan * first) (length rows - rowSpan * first) rows part) (rowSpan * first + 0) (map low (rowsOf used (keptAll g))) = puts-part rows (rowSpan * first) walked-start (rest-put (rowSpan * first) rows part walked-start) here in
-          let line : 0 + length (map low (rowsOf 0 (keptAll (joined (p .done))))) ≡ rowSpan * first + 0 = (let l = rows-done 0 (joined (p .done)) in omega arith) in
-          let near : Puts (drop used codes) piece 0 (codesOf (keptAll g)) = rw (rest-is used codes) at (a .codesPut g after read) in
-          let coded : Puts codes (putMid used (length codes - used) codes piece) (used + 0) (codesOf (keptAll g)) = puts-part codes used walked-from (rest-put used codes piece walked-from) near in
-          let place : 0 + length (codesOf (keptAll (joined (p .done)))) ≡ used + 0 = omega arith in
-          let size : length (putMid used (length codes - used) codes piece) ≡ length codes = same-len-mid used (length codes - used) codes piece (a .codesKept) in
+          let line : rowSpan * before + length (map low (rowsOf base (keptAll (joined (p .done))))) ≡ rowSpan * first + 0 = (let l = rows-done base (joined (p .done)) in omega arith) in
+          let near : Puts (drop (used - base) codes) piece 0 (codesOf (keptAll g)) = rw (rest-is (used - base) codes) at (a .codesPut g after read) in
+          let coded : Puts codes (putMid (used - base) (length codes - (used - base)) codes piece) ((used - base) + 0) (codesOf (keptAll g)) = puts-part codes (used - base) walked-from (rest-put (used - base) codes piece walked-from) near in
+          let place : 0 + length (codesOf (keptAll (joined (p .done)))) ≡ (used - base) + 0 = omega arith in
+          let size : length (putMid (used - base) (length codes - (used - base)) codes piece) ≡ length codes = same-len-mid (used - base) (length codes - (used - base)) codes piece (a .codesKept) in
           record {
             done = p .done ++ g ∷ [];
             same =
@@ -200,6 +207,7 @@ module _ {n : ℕ} {s : List ℕ} {at : ℕ} {rows₀ rows codes₀ codes : List
             counted = (let l : length (joined (p .done ++ g ∷ [])) ≡ length (joined (p .done)) + length g = ap length (joined-more (p .done) g) ∙ length-append (joined (p .done)) g in omega arith);
             takes = (let l : length (codesOf (keptAll (joined (p .done ++ g ∷ [])))) ≡ length (codesOf (keptAll (joined (p .done)))) + length (codesOf (keptAll g)) = ap length (codes-more g) ∙ length-append (codesOf (keptAll (joined (p .done)))) (codesOf (keptAll g)) in omega arith);
             few = omega (arith, p .few, ate .few);
+            near = p .near;
             rowsPut = rw (rows-more g) (puts-more (p .rowsPut) (rw line there));
             codesPut = rw (codes-more g) (puts-more (p .codesPut) (rw place coded));
             room =
@@ -212,7 +220,7 @@ module _ {n : ℕ} {s : List ℕ} {at : ℕ} {rows₀ rows codes₀ codes : List
             lines = p .lines;
           }
 
-      pub walked-turn : {count after taken : ℕ} → r ≡ GroupRead.the-variants.Got count after taken → Walked n s at rows₀ (putMid (rowSpan * first) (length rows - rowSpan * first) rows part) codes₀ (putMid used (length codes - used) codes piece) after (left - 1) (first + count) taken
+      pub walked-turn : {count after taken : ℕ} → r ≡ GroupRead.the-variants.Got count after taken → Walked n before base s at rows₀ (putMid (rowSpan * first) (length rows - rowSpan * first) rows part) codes₀ (putMid (used - base) (length codes - (used - base)) codes piece) after (left - 1) (first + count) taken
       walked-turn e = let (g, read, many, codes-many) = group-inv used (groupAt first s next) (a .answer) e in grown g read many codes-many
 
       pub walked-count-fits : {count after taken : ℕ} → r ≡ GroupRead.the-variants.Got count after taken → Fits w64 (first + count)
@@ -221,4 +229,4 @@ module _ {n : ℕ} {s : List ℕ} {at : ℕ} {rows₀ rows codes₀ codes : List
           let ate = group-ate first s next read in
           record { fits = omega (arith, p .few, ate .few) }
 
-pub ruleset walk-exits = (walked-first, walked-rows-size, walked-codes-size, walked-start-fits, walked-start, walked-from, walked-done, walked-lent, walked-rows-kept, walked-codes-kept, walked-refused, walked-turn, walked-count-fits)
+pub ruleset walk-exits = (walked-first, walked-rows-size, walked-codes-size, walked-start-fits, walked-start, walked-base, walked-from, walked-done, walked-lent, walked-rows-kept, walked-codes-kept, walked-refused, walked-turn, walked-count-fits)

@@ -16,8 +16,19 @@ same-length c = search needs
 same-length-2 : tie.Need-same-length-2
 same-length-2 c = search needs
 
+same-length-3 : tie.Need-same-length-3
+same-length-3 c = search needs
+
 returns : tie.Need-returns
 returns c = search (handed-bytes, needs)
 
 pub type-bytes-spec : {M : Type 1} → statement M
-type-bytes-spec = tie.close (tie.spec ask-type-requires bytes-of-requires same-length same-length-2 returns)
+type-bytes-spec =
+    tie.close
+    (tie.spec
+    ask-type-requires
+    bytes-of-requires
+    same-length
+    same-length-2
+    same-length-3
+    returns)

@@ -1,4 +1,4 @@
--- `section_definition::put_row` meets its contract: four words, three times.
+-- `section_definition::put_row` meets its contract: four words, four times.
 use borrow.Author.Needs.{needs}
 use Rattle.section_definition.proofs.Writing.{row-exits}
 use Rattle.section_definition.proofs.put_row.Statement.{statement}
@@ -19,6 +19,12 @@ add-put-four-2 c = search needs
 put-four-requires-3 : tie.Need-put-four-requires-3
 put-four-requires-3 c κs = search needs
 
+add-put-four-3 : tie.Need-add-put-four-3
+add-put-four-3 c = search needs
+
+put-four-requires-4 : tie.Need-put-four-requires-4
+put-four-requires-4 c κs = search (row-exits, needs)
+
 same-length : tie.Need-same-length
 same-length c = search needs
 
@@ -34,5 +40,7 @@ put-row-spec =
     put-four-requires-2
     add-put-four-2
     put-four-requires-3
+    add-put-four-3
+    put-four-requires-4
     same-length
     returns)

@@ -16,11 +16,22 @@ enum-known-asked c = search needs
 part-requires-2 : tie.Need-part-requires-2
 part-requires-2 c κs = search needs
 
+enum-known-asked-2 : tie.Need-enum-known-asked-2
+enum-known-asked-2 c = search needs
+
+part-requires-3 : tie.Need-part-requires-3
+part-requires-3 c κs = search needs
+
 returns : tie.Need-returns
 returns c = search (named-exits, needs)
 
 returns-2 : tie.Need-returns-2
 returns-2 c = search (named-exits, needs)
 
+returns-3 : tie.Need-returns-3
+returns-3 c = search (named-exits, needs)
+
 pub bytes-of-spec : {M : Type 1} → statement M
-bytes-of-spec = tie.close (tie.spec enum-told part-requires enum-known-asked part-requires-2 returns returns-2)
+bytes-of-spec =
+    tie.close
+    (tie.spec enum-told part-requires enum-known-asked part-requires-2 enum-known-asked-2 part-requires-3 returns returns-2 returns-3)

@@ -16,5 +16,8 @@ returns c = search (place-exits, needs)
 returns-2 : tie.Need-returns-2
 returns-2 c = search (place-exits, needs)
 
+returns-3 : tie.Need-returns-3
+returns-3 c = search (place-exits, needs)
+
 pub place-of-spec : {M : Type 1} → statement M
-place-of-spec = tie.close (tie.spec from-of-requires to-of-requires returns returns-2)
+place-of-spec = tie.close (tie.spec from-of-requires to-of-requires returns returns-2 returns-3)

@@ -1,16 +1,17 @@
 -- `section_judge::scan_types` meets its contract: each turn asks one type, as the definition does.
+use Prim.Native.Nat.{_-_}
 use borrow.Author.Needs.{needs}
-use Rattle.type_table.specs.View.{view}
+use Rattle.type_table.specs.View.{view, bothCodes}
 use Rattle.section_judge.proofs.Scanning.{Pass, pass-exits}
 use Rattle.section_judge.specs.Verdict.{faultOf}
 use Rattle.section_judge.proofs.scan_types.Statement.{statement}
 use Rattle.section_judge.proofs.scan_types.Tie as tie
 
 abbrev Inv-loop : tie.InvT-loop
-Inv-loop rows codes links n x₀ left₀ x left = Pass (faultOf links (view rows codes)) n x left
+Inv-loop rows shared codes links first n x₀ x = Pass (faultOf links (view rows (bothCodes shared codes))) first n x
 
 abbrev μ-loop : tie.MeasureT-loop
-μ-loop rows codes links n x₀ left₀ x left = left
+μ-loop rows shared codes links first n x₀ x = n - x
 
 loop-holds : tie.Need-loop-holds Inv-loop μ-loop
 loop-holds c = search (pass-exits, needs)
@@ -29,9 +30,6 @@ enum-told c = search (pass-exits, needs)
 
 add-x : tie.Need-add-x Inv-loop μ-loop
 add-x c = search (pass-exits, needs)
-
-sub-left : tie.Need-sub-left Inv-loop μ-loop
-sub-left c = search (pass-exits, needs)
 
 loop-less : tie.Need-loop-less Inv-loop μ-loop
 loop-less c = search (pass-exits, needs)
@@ -54,7 +52,6 @@ scan-types-spec =
     returns
     enum-told
     add-x
-    sub-left
     loop-less
     loop-again
     returns-2)

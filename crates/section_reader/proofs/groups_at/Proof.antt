@@ -6,16 +6,19 @@ use Rattle.section_reader.proofs.groups_at.Statement.{statement}
 use Rattle.section_reader.proofs.groups_at.Tie as tie
 
 abbrev Inv-loop : tie.InvT-loop
-Inv-loop s at n rows₀ codes₀ next₀ left₀ first₀ used₀ rows codes next left first used = Walked n s at rows₀ rows codes₀ codes next left first used
+Inv-loop s at n before base rows₀ codes₀ next₀ left₀ first₀ used₀ rows codes next left first used = Walked n before base s at rows₀ rows codes₀ codes next left first used
 
 abbrev μ-loop : tie.MeasureT-loop
-μ-loop s at n rows₀ codes₀ next₀ left₀ first₀ used₀ rows codes next left first used = left
+μ-loop s at n before base rows₀ codes₀ next₀ left₀ first₀ used₀ rows codes next left first used = left
 
 loop-holds : tie.Need-loop-holds Inv-loop μ-loop
 loop-holds c = search (walk-exits, needs)
 
 mul-start : tie.Need-mul-start Inv-loop μ-loop
 mul-start c = search (walk-exits, needs)
+
+sub-from : tie.Need-sub-from Inv-loop μ-loop
+sub-from c = search (walk-exits, needs)
 
 mul-group-at : tie.Need-mul-group-at Inv-loop μ-loop
 mul-group-at c = search (walk-exits, needs)
@@ -90,6 +93,7 @@ groups-at-spec =
     μ-loop
     loop-holds
     mul-start
+    sub-from
     mul-group-at
     sub-group-at
     part-group-at-start

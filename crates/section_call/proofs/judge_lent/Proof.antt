@@ -1,11 +1,10 @@
--- `section_call::decide` meets its contract: the verdict on the types, and the table is kept or cleared.
+use Rattle.section_call.proofs.Judging.{lent-exits}
 use borrow.Author.Needs.{needs}
-use Rattle.section_call.proofs.Judging.{decide-exits}
-use Rattle.section_call.proofs.decide.Statement.{statement}
-use Rattle.section_call.proofs.decide.Tie as tie
+use Rattle.section_call.proofs.judge_lent.Statement.{statement}
+use Rattle.section_call.proofs.judge_lent.Tie as tie
 
-judge-types-requires : tie.Need-judge-types-requires
-judge-types-requires c κs = search needs
+judge-both-requires : tie.Need-judge-both-requires
+judge-both-requires c κs = search needs
 
 enum-known-judged : tie.Need-enum-known-judged
 enum-known-judged c = search needs
@@ -22,29 +21,37 @@ same-length c = search needs
 same-length-2 : tie.Need-same-length-2
 same-length-2 c = search needs
 
-returns : tie.Need-returns
-returns c = search (decide-exits, needs)
-
 same-length-3 : tie.Need-same-length-3
 same-length-3 c = search needs
+
+returns : tie.Need-returns
+returns c = search (lent-exits, needs)
 
 same-length-4 : tie.Need-same-length-4
 same-length-4 c = search needs
 
-returns-2 : tie.Need-returns-2
-returns-2 c = search (decide-exits, needs)
+same-length-5 : tie.Need-same-length-5
+same-length-5 c = search needs
 
-pub decide-spec : {M : Type 1} → statement M
-decide-spec =
+same-length-6 : tie.Need-same-length-6
+same-length-6 c = search needs
+
+returns-2 : tie.Need-returns-2
+returns-2 c = search (lent-exits, needs)
+
+pub judge-lent-spec : {M : Type 1} → statement M
+judge-lent-spec =
     tie.close
     (tie.spec
-    judge-types-requires
+    judge-both-requires
     enum-known-judged
     enum-known-judged-2
     clear-requires
     same-length
     same-length-2
-    returns
     same-length-3
+    returns
     same-length-4
+    same-length-5
+    same-length-6
     returns-2)
