@@ -1,42 +1,38 @@
 -- Each way out of the public call: the sizes of what is lent, the section, the body; and zero afterwards.
 use Prim.Native.Nat.{ℕ, zero, suc, _^_, _≤_, _<_}
-use mathlib.Core.Path.{_≡_, refl, sym, ap, _∙_}
-use mathlib.Core.Bool.{Bool, true, false, and-true}
+use mathlib.Core.Path.{_≡_, refl, sym, ap, _∙_, subst}
+use mathlib.Core.Bool.{Bool, true, false, not}
 use mathlib.Core.List.{List}
 use native.Mathlib.Omega.{arith}
-use lib.ListN.{length, replicate, length-replicate}
+use lib.ListN.{length, replicate, length-replicate, length-append}
 use lib.Dec.{leb}
-use borrow.Author.Tests.{lt-leb, le-leb}
+use borrow.Author.Tests.{lt-leb, le-leb, not-true, not-false}
 use Rattle.scope.specs.Sizes.{mostTypes, mostEach}
 use Rattle.scope.specs.Layout.{workSize}
 use Rattle.scope.specs.Refusals.{bufferTooSmall}
-use Rattle.scope.specs.Reading.{Read, got, refused}
 use Rattle.scope.specs.Lists.{joined}
-use Rattle.scope.specs.Syntax.{Val, Form, func, Definition, Group, typesOf}
-use Rattle.scope.specs.Sections.{readSection}
-use Rattle.scope.specs.Judging.{Judged, accepted, rejected, andThen, judgeTypes, judgeRead, judgeSection}
-use Rattle.scope.specs.Bodies.{instructions, judgeBody}
-use Rattle.scope.specs.Answers.{tableLent, lentEnough, verdictOf, sectionCall, SectionJudged, BodyJudged}
+use Rattle.scope.specs.Syntax.{Val, Form, func, Definition, typesOf}
+use Rattle.scope.specs.Judging.{plain, Judged, accepted, rejected, andThen, Joined, judgeJoined, judgeSections}
+use Rattle.scope.specs.Bodies.{Body, instructions, judgeBody}
+use Rattle.scope.specs.Answers.{tableLent, verdictOf, BodyJudged}
+use Rattle.scope.specs.declared.Place.{Place}
 use Rattle.scope.specs.declared.Verdict.{Verdict}
 use Rattle.scope.specs.declared.Verdict
+use Rattle.scope.proofs.Accepted.{JoinedParts, joined-parts, sections-joined}
 use Rattle.scope.proofs.Impossible.{impossible}
-use Rattle.section_reader.proofs.Modest.{Each, no-more, one-more, Few, few-fields, few-values, Modest, read-fits}
+use Rattle.section_reader.proofs.Modest.{Each, no-more, one-more, Few, few-fields, few-values, Modest, read-fits, each-append}
 use Rattle.body_state.proofs.Alike.{both-false}
-use Rattle.section_call.proofs.Asking.{verdict-refused, verdict-accepted, call-accepted, viewed}
+use Rattle.type_table.specs.View.{bothCodes}
+use Rattle.lent_limits.proofs.Enough.{table-sizes}
+use Rattle.section_both.specs.declared.TwoJudged.{TwoJudged}
+use Rattle.section_both.specs.declared.TwoJudged
+use Rattle.section_both.specs.Both.{BothJudged}
+use Rattle.section_both.proofs.Viewing.{both-refused, both-accepted, viewed}
 use Rattle.body_judge.specs.Typed.{Fresh, Sized, typedOn, sizedOn, SizedJudged}
 use Rattle.body_clear.specs.Clearing.{Cleared}
-use Rattle.body_call.specs.Calling.{LentJudged, EnoughJudged}
+use Rattle.body_call.specs.Calling.{Prepared, LentJudged, EnoughJudged}
 
 -- the sizes of an accepted section
-
--- a section that is accepted was read
-accepted-read : (o : Read (List Group)) {ds : List Definition} → judgeRead o ≡ accepted ds → (gs : List Group) × (end : ℕ) × (o ≡ got gs end) × (ds ≡ joined gs)
-accepted-read (refused n p) e = impossible cc
-accepted-read (got gs end) {ds} e = (gs, end, refl, go (judgeTypes (typesOf (joined gs)) (length (joined gs))) e)
-  where
-    go : (j : Judged ℕ) → andThen j (λ all. accepted (joined gs)) ≡ accepted ds → ds ≡ joined gs
-    go (accepted n) f = cc
-    go (rejected n p) f = impossible cc
 
 few-of : {f : Form} → Few f → {ps rs : List Val} → f ≡ func ps rs → length ps ≤ mostEach
 few-of (few-fields h) e = impossible cc
@@ -51,76 +47,102 @@ pub record Bounded (ds : List Definition) : Type 0 where
   pub types : length ds ≤ mostTypes
   pub parameters : (x : ℕ) (ps rs : List Val) → typesOf ds x .form ≡ func ps rs → length ps ≤ mostEach
 
-pub accepted-bounded : (section : List ℕ) {ds : List Definition} → judgeSection section ≡ accepted ds → Bounded ds
-unfolding judgeSection
-accepted-bounded section e =
-    let (gs, end, read, same) = accepted-read (readSection section) e in
-    let fits = read-fits section read in
-    rw same (record { types = fits .types; parameters = λ x ps rs f. few-parameters (fits .each) x f })
+pub joined-bounded : (library section : List ℕ) {j : Joined} → judgeJoined library section ≡ accepted j → Bounded (j .types)
+joined-bounded library section {j} e = go (joined-parts library section e)
+  where
+    go : JoinedParts library section j → Bounded (j .types)
+    go p =
+        let first = read-fits 0 (omega arith) library (p .read) in
+        let next = read-fits (length (joined (p .gs))) (omega (arith, first .types)) section (p .readOwn) in
+        let long = length-append (joined (p .gs)) (joined (p .more)) in
+        subst (λ (k : Joined). Bounded (k .types)) (sym (p .is)) (record { types = omega (arith, next .types, long); parameters = λ x ps rs f. few-parameters (each-append (first .each) (next .each)) x f })
 
--- the section first
+pub accepted-bounded : (library section : List ℕ) {ds : List Definition} → judgeSections library section ≡ accepted ds → Bounded ds
+accepted-bounded library section {ds} e = go (sections-joined library section e)
+  where
+    go : (j : Joined) × (judgeJoined library section ≡ accepted j) × (j .types ≡ ds) → Bounded ds
+    go (j, is, same) = rw (← same) (joined-bounded library section is)
 
-body-call : (t : Bool) (section s : List ℕ) (x : ℕ) → lentEnough t (judgeBody section s x) ≡ andThen (lentEnough t (judgeSection section)) (λ ds. sizedOn ds s x)
-unfolding judgeBody sizedOn typedOn
-body-call true section s x = refl
-body-call false section s x = refl
+-- the sections first
 
-module _ {section rows codes rows₁ codes₁ : List ℕ} {v : Verdict} (a : SectionJudged section rows codes rows₁ codes₁ v) (s : List ℕ) (x : ℕ) where
-  pub lent-refused : {n p : ℕ} → v ≡ Verdict.the-variants.Refused n p → LentJudged section s x rows codes (Verdict.the-variants.Refused n p)
-  lent-refused e = record { answer = rw (body-call (tableLent rows codes) section s x, verdict-refused (sectionCall section rows codes) (a .answer) e) refl }
+then-types : (o : Judged Joined) (f : List Definition → Judged Body) → andThen (andThen o (λ j. accepted (j .types))) f ≡ andThen o (λ j. f (j .types))
+then-types (accepted j) f = refl
+then-types (rejected n p) f = refl
 
-  module _ {count : ℕ} (e : v ≡ Verdict.the-variants.Accepted count) where
-    bounded : (ds : List Definition) → sectionCall section rows codes ≡ accepted ds → Bounded ds
-    bounded ds yes-section = accepted-bounded section (call-accepted section rows codes yes-section)
+body-is : (library section s : List ℕ) (x : ℕ) → judgeBody library section s x ≡ andThen (judgeJoined library section) (λ j. sizedOn (j .types) s x)
+unfolding judgeBody judgeSections sizedOn typedOn
+body-is library section s x = then-types (judgeJoined library section) (λ ds. sizedOn ds s x)
 
+module _ {library section rows shared codes rows₁ shared₁ codes₁ : List ℕ} {v : TwoJudged} (a : BothJudged library section rows shared codes rows₁ shared₁ codes₁ v) (s : List ℕ) (x : ℕ) where
+  pub lent-refused : {n : ℕ} {p : Place} → v ≡ TwoJudged.the-variants.Refused n p → LentJudged library section s x (Verdict.the-variants.Refused n p)
+  lent-refused e = record { answer = rw (body-is library section s x, both-refused (judgeJoined library section) (a .answer) e) refl }
+
+  module _ {before count : ℕ} (e : v ≡ TwoJudged.the-variants.Accepted before count) where
     pub count-fits : count < 2 ^ 16
-    count-fits = let (ds, yes-section, many) = verdict-accepted (sectionCall section rows codes) (a .answer) e in let b = bounded ds yes-section .types in omega arith
+    count-fits =
+        let (j, judged, first, many) = both-accepted (judgeJoined library section) (a .answer) e in
+        let b = joined-bounded library section judged .types in
+        omega (arith, b, many)
 
-    pub may-size : {work : List ℕ} → Fresh work → Sized rows₁ codes₁ work count x
+    pub may-size : {work : List ℕ} → Fresh work → Sized rows₁ (bothCodes shared₁ codes₁) work count x
     may-size fresh =
-        let (ds, yes-section, many) = verdict-accepted (sectionCall section rows codes) (a .answer) e in
-        let b = bounded ds yes-section in
-        record { fresh = fresh; known = omega (arith, b .types, many); few = λ ps rs f. b .parameters x ps rs (ap (λ (ts : ℕ → Definition). ts x .form) (sym (viewed a ds yes-section)) ∙ f) }
+        let (j, judged, first, many) = both-accepted (judgeJoined library section) (a .answer) e in
+        let b = joined-bounded library section judged in
+        let seen = viewed library section judged (a .stands j judged) in
+        record { fresh = fresh; known = omega (arith, b .types, many); few = λ ps rs f. b .parameters x ps rs (ap (λ (ts : ℕ → Definition). ts x .form) (sym seen) ∙ f) }
 
-    with-types : (ds : List Definition) → sectionCall section rows codes ≡ accepted ds → count ≡ length ds → {work work′ : List ℕ} {r : Verdict} → SizedJudged rows₁ codes₁ work work′ s count x r → LentJudged section s x rows codes r
-    with-types ds yes-section many j =
-        let call : lentEnough (tableLent rows codes) (judgeBody section s x) ≡ sizedOn ds s x = body-call (tableLent rows codes) section s x ∙ rw yes-section in
-        record { answer = j .answer ds (viewed a ds yes-section) (sym many) ∙ sym (ap (verdictOf instructions) call) }
+    with-types : (k : Joined) → judgeJoined library section ≡ accepted k → count ≡ length (k .types) → {work work′ : List ℕ} {r : Verdict} → SizedJudged rows₁ (bothCodes shared₁ codes₁) work work′ s count x r → LentJudged library section s x r
+    with-types k judged many j =
+        let call : judgeBody library section s x ≡ sizedOn (k .types) s x = body-is library section s x ∙ rw judged in
+        record { answer = j .answer (k .types) (viewed library section judged (a .stands k judged)) (sym many) ∙ sym (ap (verdictOf instructions) call) }
 
-    pub lent-judged : {work work′ : List ℕ} {r : Verdict} → SizedJudged rows₁ codes₁ work work′ s count x r → LentJudged section s x rows codes r
-    lent-judged j = let (ds, yes-section, many) = verdict-accepted (sectionCall section rows codes) (a .answer) e in with-types ds yes-section many j
+    pub lent-judged : {work work′ : List ℕ} {r : Verdict} → SizedJudged rows₁ (bothCodes shared₁ codes₁) work work′ s count x r → LentJudged library section s x r
+    lent-judged j = let (k, judged, first, many) = both-accepted (judgeJoined library section) (a .answer) e in with-types k judged many j
 
--- the whole call
+-- the whole call: 14, then memory as it has to be
 
-pub all-clear : {rows codes work rows₁ codes₁ work₁ : List ℕ} → rows₁ ≡ replicate (length rows) 0 → codes₁ ≡ replicate (length codes) 0 → work₁ ≡ replicate (length work) 0 → Cleared rows codes work rows₁ codes₁ work₁
-all-clear r c w = record { rowsZero = r; codesZero = c; workZero = w }
+wiped-long : (m : List ℕ) {m₁ : List ℕ} → m₁ ≡ replicate (length m) 0 → length m₁ ≡ length m
+wiped-long m e = rw e (length-replicate (length m) 0)
 
-cleared-long : (m : List ℕ) {m₁ : List ℕ} → m₁ ≡ replicate (length m) 0 → length m₁ ≡ length m
-cleared-long m e = rw e (length-replicate (length m) 0)
+wiped-zero : (m : List ℕ) {m₁ : List ℕ} → m₁ ≡ replicate (length m) 0 → m₁ ≡ replicate (length m₁) 0
+wiped-zero m e = e ∙ ap (λ (n : ℕ). replicate n 0) (sym (wiped-long m e))
 
-module _ (work : List ℕ) {work₁ : List ℕ} (z : work₁ ≡ replicate (length work) 0) where
-  pub fresh-lent : workSize ≤ length work₁ → Fresh work₁
-  fresh-lent h = record { zero = z ∙ ap (λ (n : ℕ). replicate n 0) (sym (cleared-long work z)); room = h }
+module _ (library section s : List ℕ) (x : ℕ) {rows shared codes : List ℕ} (work : List ℕ) {t : Bool} (is : t ≡ tableLent rows shared codes) where
+  pub table-small : not t ≡ true → EnoughJudged library section s x rows shared codes work (Verdict.the-variants.Refused bufferTooSmall (plain 0))
+  table-small h = let small : tableLent rows shared codes ≡ false = sym is ∙ not-true t h in record { answer = rw small refl }
 
-  module _ (section s : List ℕ) (x : ℕ) (rows codes : List ℕ) where
-    pub work-small : length work₁ < workSize → EnoughJudged section s x rows codes work (Verdict.the-variants.Refused bufferTooSmall 0)
-    work-small h =
-        let small : leb workSize (length work) ≡ false = lt-leb workSize (length work) (omega (arith, cleared-long work z)) in
-        record { answer = rw (small, both-false (tableLent rows codes)) refl }
+  module _ (h : not t ≡ false) where
+    pub work-small : length work < workSize → EnoughJudged library section s x rows shared codes work (Verdict.the-variants.Refused bufferTooSmall (plain 0))
+    work-small g =
+        let small : leb workSize (length work) ≡ false = lt-leb workSize (length work) g in
+        record { answer = rw (small, both-false (tableLent rows shared codes)) refl }
 
-    pub enough-judged : workSize ≤ length work₁ → {v : Verdict} → LentJudged section s x rows codes v → EnoughJudged section s x rows codes work v
-    enough-judged h j =
-        let enough : leb workSize (length work) ≡ true = le-leb workSize (length work) (omega (arith, cleared-long work z)) in
-        record { answer = rw (enough, and-true (tableLent rows codes)) (j .answer) }
+    pub enough-judged : workSize ≤ length work → {v : Verdict} → LentJudged library section s x v → EnoughJudged library section s x rows shared codes work v
+    enough-judged g j =
+        let enough : leb workSize (length work) ≡ true = le-leb workSize (length work) g in
+        let table : tableLent rows shared codes ≡ true = sym is ∙ not-false t h in
+        record { answer = rw (enough, table) (j .answer) }
 
-module _ {section s : List ℕ} {x : ℕ} {rows codes work : List ℕ} {v : Verdict} (j : EnoughJudged section s x rows codes work v) {rows₁ codes₁ work₁ rows₂ codes₂ work₂ : List ℕ} (z : Cleared rows₁ codes₁ work₁ rows₂ codes₂ work₂) where
-  pub body-judged : length rows₁ ≡ length rows → length codes₁ ≡ length codes → length work₁ ≡ length work → BodyJudged section s x rows codes work rows₂ codes₂ work₂ v
-  body-judged r c w =
+pub lent-prepared : (rows shared codes work : List ℕ) {rows₁ work₁ : List ℕ} {t : Bool} → t ≡ tableLent rows shared codes → not t ≡ false → workSize ≤ length work
+    → rows₁ ≡ replicate (length rows) 0 → work₁ ≡ replicate (length work) 0 → Prepared rows₁ shared codes work₁
+lent-prepared rows shared codes work {t = t} is h g r w =
+    let (one, two, three) = table-sizes rows shared codes (sym is ∙ not-false t h) in
+    let long = wiped-long rows r in
+    let wide = wiped-long work w in
+    record {
+      ready = record { rowsZero = wiped-zero rows r; rowsEnough = omega (arith, one, long); sharedEnough = two; codesEnough = three };
+      fresh = record { zero = wiped-zero work w; room = omega (arith, g, wide) };
+    }
+
+module _ {library section s : List ℕ} {x : ℕ} {rows shared codes work : List ℕ} {v : Verdict} (j : EnoughJudged library section s x rows shared codes work v) {rows₁ shared₁ codes₁ work₁ rows₂ shared₂ codes₂ work₂ : List ℕ} (z : Cleared rows₁ shared₁ codes₁ work₁ rows₂ shared₂ codes₂ work₂) where
+  pub body-judged : length rows₁ ≡ length rows → length shared₁ ≡ length shared → length codes₁ ≡ length codes → length work₁ ≡ length work → BodyJudged library section s x rows shared codes work rows₂ shared₂ codes₂ work₂ v
+  body-judged r h c w =
       record {
         answer = j .answer;
         rowsAfter = z .rowsZero ∙ ap (λ (n : ℕ). replicate n 0) r;
+        sharedAfter = z .sharedZero ∙ ap (λ (n : ℕ). replicate n 0) h;
         codesAfter = z .codesZero ∙ ap (λ (n : ℕ). replicate n 0) c;
         workAfter = z .workZero ∙ ap (λ (n : ℕ). replicate n 0) w;
       }
 
-pub ruleset lent-exits = (lent-refused, count-fits, may-size, lent-judged, all-clear, fresh-lent, work-small, enough-judged, body-judged)
+pub ruleset lent-exits = (lent-refused, count-fits, may-size, lent-judged, table-small, work-small, enough-judged, lent-prepared, body-judged)

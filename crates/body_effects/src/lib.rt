@@ -11,9 +11,11 @@ ghost use Rattle.scope.specs.BodyRules.{andRuled};
 ghost use Rattle.scope.specs.Bodies.{withinOperands, doPlan};
 ghost use Rattle.body_state.specs.State.{stack, plainOf, plannedOf, contextAt, stateAt, Upright, Stepped};
 ghost use Rattle.body_effects.specs.Effects.{afterPlain};
+ghost use Rattle.type_table.specs.View.{bothCodes};
 
 // The operands are taken, and `left` of the frame's stay: the plan's values are given, and its local is set.
 fn give_plain(
+    shared: &[u16],
     codes: &[u16],
     work: &mut [u32],
     locals: u16,
@@ -26,7 +28,7 @@ fn give_plain(
         let before = now (work .entry) in
         let after = now (work .exit) in
         let state = stateAt before locals check in
-        let planned = afterPlain (now (codes .entry)) state plan (stack before (check .base) left) in
+        let planned = afterPlain (bothCodes (now (shared .entry)) (now (codes .entry))) state plan (stack before (check .base) left) in
         ⌜ Stepped before after locals (check .depth) (withinOperands planned) r ⌝ }
 {
     let depth = check.depth;
@@ -47,7 +49,7 @@ fn give_plain(
     let rest = plan.rest;
     let back = plan.back;
     let gives = plan.gives;
-    let given = body_push::give(codes, work, rest, back, gives, base, left);
+    let given = body_push::give(shared, codes, work, rest, back, gives, base, left);
     match given {
         Given::Full => Step::Fault(refusals::OVERSIZE),
         Given::Is(high) => {
@@ -64,6 +66,7 @@ fn give_plain(
 
 fn do_plain(
     rows: &[u16],
+    shared: &[u16],
     codes: &[u16],
     work: &mut [u32],
     scene: Scene,
@@ -74,9 +77,9 @@ fn do_plain(
     ensures { λ r.
         let before = now (work .entry) in
         let after = now (work .exit) in
-        let context = contextAt (now (rows .entry)) (now (codes .entry)) before scene in
+        let context = contextAt (now (rows .entry)) (bothCodes (now (shared .entry)) (now (codes .entry))) before scene in
         let state = stateAt before (scene .locals) check in
-        let want = doPlan context state (plainOf (now (codes .entry)) plan) in
+        let want = doPlan context state (plainOf (bothCodes (now (shared .entry)) (now (codes .entry))) plan) in
         ⌜ Stepped before after (scene .locals) (check .depth) want r ⌝ }
 {
     let locals = scene.locals;
@@ -86,16 +89,28 @@ fn do_plain(
     let top = plan.top;
     let second = plan.second;
     let rest = plan.rest;
-    let taken = body_operands::take_plan(rows, codes, work, top, second, rest, base, height, dead);
+    let taken = body_operands::take_plan(
+        rows,
+        shared,
+        codes,
+        work,
+        top,
+        second,
+        rest,
+        base,
+        height,
+        dead,
+    );
     match taken {
         Left::Fault(number) => Step::Fault(number),
-        Left::Is(left) => give_plain(codes, work, locals, check, plan, left),
+        Left::Is(left) => give_plain(shared, codes, work, locals, check, plan, left),
     }
 }
 
 // What a plan does, or its refusal's number.
 pub fn do_planned(
     rows: &[u16],
+    shared: &[u16],
     codes: &[u16],
     work: &mut [u32],
     scene: Scene,
@@ -106,16 +121,17 @@ pub fn do_planned(
     ensures { λ r.
         let before = now (work .entry) in
         let after = now (work .exit) in
-        let context = contextAt (now (rows .entry)) (now (codes .entry)) before scene in
+        let context = contextAt (now (rows .entry)) (bothCodes (now (shared .entry)) (now (codes .entry))) before scene in
         let state = stateAt before (scene .locals) check in
-        let want = andRuled (plannedOf (now (codes .entry)) planned) (doPlan context state) in
+        let want = andRuled (plannedOf (bothCodes (now (shared .entry)) (now (codes .entry))) planned) (doPlan context state) in
         ⌜ Stepped before after (scene .locals) (check .depth) want r ⌝ }
 {
     match planned {
         Planned::Fault(number) => Step::Fault(number),
-        Planned::NonNull => body_references::do_non_null(rows, codes, work, scene, check),
+        Planned::NonNull => body_references::do_non_null(rows, shared, codes, work, scene, check),
         Planned::Descriptor(x, y) => body_references::do_descriptor(
             rows,
+            shared,
             codes,
             work,
             scene,
@@ -123,6 +139,6 @@ pub fn do_planned(
             x,
             y,
         ),
-        Planned::Plain(plan) => do_plain(rows, codes, work, scene, check, plan),
+        Planned::Plain(plan) => do_plain(rows, shared, codes, work, scene, check, plan),
     }
 }

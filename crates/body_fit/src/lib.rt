@@ -11,7 +11,7 @@ ghost use mathlib.Core.Path.{_≡_};
 ghost use mathlib.Core.Bool.{cond};
 ghost use Rattle.scope.specs.Order.{itFits, unfit};
 ghost use Rattle.scope.specs.Bodies.{fit};
-ghost use Rattle.type_table.specs.View.{view};
+ghost use Rattle.type_table.specs.View.{view, bothCodes};
 ghost use Rattle.type_fit.specs.Outcomes.{fitIs};
 ghost use Rattle.body_state.specs.State.{operandAtCode, wantedAtCode};
 
@@ -24,8 +24,8 @@ fn as_reference(reference: bool) -> Fit
 
 // "An unknown is below every type": a non-null reference of unknown heap, below every reference type. Most operands are of the
 // very type that is wanted, so that is asked first.
-pub fn fit_word(rows: &[u16], codes: &[u16], o: u64, w: u64) -> Fit
-    ensures { λ r. ⌜ r ≡ fitIs (fit (view (now (rows .entry)) (now (codes .entry))) (operandAtCode o) (wantedAtCode w)) ⌝ }
+pub fn fit_word(rows: &[u16], shared: &[u16], codes: &[u16], o: u64, w: u64) -> Fit
+    ensures { λ r. ⌜ r ≡ fitIs (fit (view (now (rows .entry)) (bothCodes (now (shared .entry)) (now (codes .entry)))) (operandAtCode o) (wantedAtCode w)) ⌝ }
 {
     if o == w {
         return Fit::Fits;
@@ -45,5 +45,5 @@ pub fn fit_word(rows: &[u16], codes: &[u16], o: u64, w: u64) -> Fit
     if w == ANY_REFERENCE {
         return as_reference(REFERENCES <= o);
     }
-    type_fit::val_fit(rows, codes, o - KNOWN, w - KNOWN)
+    type_fit::val_fit(rows, shared, codes, o - KNOWN, w - KNOWN)
 }

@@ -3,6 +3,7 @@
 use body_loop::Ended;
 use body_state::Scene;
 ghost use Rattle.body_loop.specs.Loop.{Begun, JudgedFrom};
+ghost use Rattle.type_table.specs.View.{bothCodes};
 
 // One entry for each first byte, by its pairs of binary digits: how many operands, the code of their type, the code of the
 // result's type (00 i32, 01 i64, 10 f32, 11 f64); 0 where the byte is no numeric code.
@@ -284,6 +285,7 @@ const NUMERIC: [u8; 256] = [
 // The instructions from the place `at` on, up to the last `end`.
 pub fn judge_all(
     rows: &[u16],
+    shared: &[u16],
     codes: &[u16],
     work: &mut [u32],
     scene: Scene,
@@ -291,8 +293,8 @@ pub fn judge_all(
     at: usize,
 ) -> Ended
     requires { ⌜ Begun (now work) scene (now s) at ⌝ }
-    ensures { λ r. ⌜ JudgedFrom (now (rows .entry)) (now (codes .entry)) (now (work .entry)) (now (work .exit)) scene (now (s .entry)) at r ⌝ }
+    ensures { λ r. ⌜ JudgedFrom (now (rows .entry)) (bothCodes (now (shared .entry)) (now (codes .entry))) (now (work .entry)) (now (work .exit)) scene (now (s .entry)) at r ⌝ }
 {
     let table = NUMERIC;
-    body_loop::judge_from(rows, codes, &table, work, scene, s, at)
+    body_loop::judge_from(rows, shared, codes, &table, work, scene, s, at)
 }

@@ -6,12 +6,13 @@ use lib.ListN.{length}
 use borrow.Author.Tests.{lt-ltb, le-ltb}
 use Rattle.scope.specs.Sizes.{mostBytes}
 use Rattle.scope.specs.Refusals.{oversize}
+use Rattle.scope.specs.Judging.{plain}
 use Rattle.scope.specs.declared.Verdict.{Verdict}
 use Rattle.scope.specs.declared.Verdict
 use Rattle.body_judge.specs.Typed.{Sized, Typing, sizedOn, TypedJudged, SizedJudged}
 
 module _ {rows codes work : List ℕ} {types x : ℕ} (z : Sized rows codes work types x) (s : List ℕ) where
-  pub sized-over : mostBytes < length s → {work′ : List ℕ} → work′ ≡ work → SizedJudged rows codes work work′ s types x (Verdict.the-variants.Refused oversize 0)
+  pub sized-over : mostBytes < length s → {work′ : List ℕ} → work′ ≡ work → SizedJudged rows codes work work′ s types x (Verdict.the-variants.Refused oversize (plain 0))
   unfolding sizedOn
   sized-over h e = record { answer = λ ds v l. rw (lt-ltb mostBytes (length s) h); size = rw e }
 

@@ -17,6 +17,7 @@ use Rattle.scope.specs.Syntax.{Val, func, Definition, typesOf}
 use Rattle.scope.specs.Sections.{ended}
 use Rattle.scope.specs.BodyRules.{Context}
 use Rattle.scope.specs.Bodies.{State, Function, Code, Body, instructions, startState, contextOf, localsAt, judgeFrom, bodyAt, judgedOf}
+use Rattle.scope.specs.Judging.{plain}
 use Rattle.scope.specs.Answers.{verdictOf}
 use Rattle.scope.specs.declared.Verdict.{Verdict}
 use Rattle.scope.specs.declared.Verdict
@@ -39,14 +40,14 @@ use Rattle.body_judge.specs.Typed.{finishedAs, Typing, typedOn, TypedJud
 
 -- last, 5
 
-pub finish-refused : (s : List ℕ) {e : Ended} {n p : ℕ} → e ≡ Ended.the-variants.Refused n p → Verdict.the-variants.Refused n p ≡ finishedAs s e
+pub finish-refused : (s : List ℕ) {e : Ended} {n p : ℕ} → e ≡ Ended.the-variants.Refused n p → Verdict.the-variants.Refused n (plain p) ≡ finishedAs s e
 finish-refused s f = rw f refl
 
 module _ (s : List ℕ) {e : Ended} {count stop : ℕ} (f : e ≡ Ended.the-variants.Finished count stop) where
   pub finish-all : stop ≡ length s → Verdict.the-variants.Accepted count ≡ finishedAs s e
   finish-all h = rw (f, eq-eqb stop (length s) h) refl
 
-  pub finish-over : (stop ≡ length s → ⊥) → Verdict.the-variants.Refused leftOver stop ≡ finishedAs s e
+  pub finish-over : (stop ≡ length s → ⊥) → Verdict.the-variants.Refused leftOver (plain stop) ≡ finishedAs s e
   finish-over h = rw (f, ne-eqb stop (length s) h) refl
 
 -- how a body is read: its locals, then its instructions, then nothing
@@ -66,7 +67,7 @@ body-read ds f s = sym (then-then (u32 s 0) (λ n entries. localsAt (length ds) 
 read-verdict : (ds : List Definition) (f : Function) (s : List ℕ) (ls : List Val) (o : Read Code) → verdictOf instructions (judgedOf (then o (λ code stop. ended s (record { types = ds; function = f; locals = ls; code = code }) stop))) ≡ finishedAs s (endedIs 0 o)
 read-verdict ds f s ls (got code stop) = go (eqb stop (length s))
   where
-    go : (all : Bool) → verdictOf instructions (judgedOf (cond all (got (record { types = ds; function = f; locals = ls; code = code }) stop) (refused leftOver stop))) ≡ cond all (Verdict.the-variants.Accepted (0 + length code)) (Verdict.the-variants.Refused leftOver stop)
+    go : (all : Bool) → verdictOf instructions (judgedOf (cond all (got (record { types = ds; function = f; locals = ls; code = code }) stop) (refused leftOver stop))) ≡ cond all (Verdict.the-variants.Accepted (0 + length code)) (Verdict.the-variants.Refused leftOver (plain stop))
     go true = rw (zero-add (length code)) refl
     go false = refl
 read-verdict ds f s ls (refused n p) = refl
@@ -87,7 +88,7 @@ pub form-is : (rows codes : List ℕ) (x : ℕ) (shape : Shape) → view rows co
 form-is rows codes x shape a ds v = ap (λ (ts : ℕ → Definition). ts x .form) (sym v) ∙ a
 
 module _ {rows codes work s : List ℕ} {types x : ℕ} (t : Typing rows codes work s types x) {shape : Shape} where
-  pub typed-struct : {first n : ℕ} → shape ≡ Shape.the-variants.Struct first n → view rows codes x .form ≡ shapeForm codes shape → {work′ : List ℕ} → work′ ≡ work → TypedJudged rows codes work work′ s types x (Verdict.the-variants.Refused notAFunction 0)
+  pub typed-struct : {first n : ℕ} → shape ≡ Shape.the-variants.Struct first n → view rows codes x .form ≡ shapeForm codes shape → {work′ : List ℕ} → work′ ≡ work → TypedJudged rows codes work work′ s types x (Verdict.the-variants.Refused notAFunction (plain 0))
   unfolding typedOn
   typed-struct e a same = record { answer = λ ds v l. rw (form-is rows codes x shape a ds v, e) refl; size = rw same }
 
@@ -115,7 +116,7 @@ module _ {rows codes work s : List ℕ} {types x : ℕ} (t : Typing rows codes w
     locals-as ds v l = typed-is ds v ∙ ap judgedOf (body-read ds function s ∙ ap₂ (λ (k : ℕ) (j : ℕ). then (localsFirst k j s) (rest ds function s)) l many)
 
     module _ {r : Started} {work₁ : List ℕ} (b : StartedAs (localsFirst types n s) s codes work work₁ first n r) where
-      pub typed-unstarted : {k place : ℕ} → r ≡ Started.the-variants.Refused k place → TypedJudged rows codes work work₁ s types x (Verdict.the-variants.Refused k place)
+      pub typed-unstarted : {k place : ℕ} → r ≡ Started.the-variants.Refused k place → TypedJudged rows codes work work₁ s types x (Verdict.the-variants.Refused k (plain place))
       typed-unstarted f = record { answer = λ ds v l. rw (locals-as ds v l, started-refused n (localsFirst types n s) (b .answer) f) refl; size = b .size }
 
       module _ {locals next : ℕ} (f : r ≡ Started.the-variants.Is locals next) where

@@ -10,7 +10,7 @@ use Rattle.scope.specs.Layout.{workSize}
 use Rattle.scope.specs.Refusals.{oversize, leftOver, notAFunction}
 use Rattle.scope.specs.Reading.{given}
 use Rattle.scope.specs.Syntax.{Val, func, Definition, typesOf}
-use Rattle.scope.specs.Judging.{Judged, rejected}
+use Rattle.scope.specs.Judging.{plain, Judged, rejected}
 use Rattle.scope.specs.Bodies.{functionOf, Body, instructions, bodyAt, judgedOf}
 use Rattle.scope.specs.Answers.{verdictOf}
 use Rattle.scope.specs.declared.Verdict.{Verdict}
@@ -22,8 +22,8 @@ use Rattle.body_loop.specs.declared.Ended
 -- the count of instructions where nothing follows the last of them, else 5 at the first byte that is left
 abbrev pub finishedAs : List ℕ → Ended → Verdict
 finishedAs s (Ended.the-variants.Finished count stop) =
-    cond (eqb stop (length s)) (Verdict.the-variants.Accepted count) (Verdict.the-variants.Refused leftOver stop)
-finishedAs s (Ended.the-variants.Refused n p) = Verdict.the-variants.Refused n p
+    cond (eqb stop (length s)) (Verdict.the-variants.Accepted count) (Verdict.the-variants.Refused leftOver (plain stop))
+finishedAs s (Ended.the-variants.Refused n p) = Verdict.the-variants.Refused n (plain p)
 
 -- the scratch is wiped and has its size
 pub record Fresh (work : List ℕ) : Type 0 where
@@ -43,10 +43,10 @@ pub record Typing (rows codes work s : List ℕ) (types x : ℕ) : Type 0 where
 -- the verdict on a body against the types of an accepted section (scope's judgeBody)
 
 unfoldable pub typedOn : List Definition → List ℕ → ℕ → Judged Body
-typedOn ds s x = given (functionOf (typesOf ds x .form)) (rejected notAFunction 0) (λ f. judgedOf (bodyAt ds f s))
+typedOn ds s x = given (functionOf (typesOf ds x .form)) (rejected notAFunction (plain 0)) (λ f. judgedOf (bodyAt ds f s))
 
 unfoldable pub sizedOn : List Definition → List ℕ → ℕ → Judged Body
-sizedOn ds s x = cond (ltb mostBytes (length s)) (rejected oversize 0) (typedOn ds s x)
+sizedOn ds s x = cond (ltb mostBytes (length s)) (rejected oversize (plain 0)) (typedOn ds s x)
 
 -- where the table says these types, the answer is the verdict
 pub record TypedJudged (rows codes work work′ s : List ℕ) (types x : ℕ) (r : Verdict) : Type 0 where

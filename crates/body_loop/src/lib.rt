@@ -5,6 +5,7 @@ use body_state::Scene;
 use body_state::Step;
 use scope::refusals;
 ghost use Rattle.body_loop.specs.Loop.{Ready, JudgedFrom};
+ghost use Rattle.type_table.specs.View.{bothCodes};
 
 // How many instructions there are, and the place after the last `end`; or a refusal's number and place.
 pub enum Ended {
@@ -15,6 +16,7 @@ pub enum Ended {
 // There are no more instructions than bytes: `left` of them at most.
 pub fn judge_from(
     rows: &[u16],
+    shared: &[u16],
     codes: &[u16],
     table: &[u8],
     work: &mut [u32],
@@ -23,7 +25,7 @@ pub fn judge_from(
     at: usize,
 ) -> Ended
     requires { ⌜ Ready (now table) (now work) scene (now s) at ⌝ }
-    ensures { λ r. ⌜ JudgedFrom (now (rows .entry)) (now (codes .entry)) (now (work .entry)) (now (work .exit)) scene (now (s .entry)) at r ⌝ }
+    ensures { λ r. ⌜ JudgedFrom (now (rows .entry)) (bothCodes (now (shared .entry)) (now (codes .entry))) (now (work .entry)) (now (work .exit)) scene (now (s .entry)) at r ⌝ }
 {
     let mut next = at;
     let mut count: u64 = 0;
@@ -43,6 +45,7 @@ pub fn judge_from(
             InstructionRead::Is(i, following) => {
                 let stepped = body_step::step(
                     rows,
+                    shared,
                     codes,
                     table,
                     work,

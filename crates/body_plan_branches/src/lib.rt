@@ -7,7 +7,7 @@ use body_state::Scene;
 use body_state::Values;
 use scope::refusals;
 use type_table::Link;
-ghost use Rattle.type_table.specs.View.{view};
+ghost use Rattle.type_table.specs.View.{view, bothCodes};
 ghost use Rattle.body_plan_labels.specs.Labels.{labelsAt};
 ghost use Rattle.body_plan_cast_forms.specs.Forms.{castBetween};
 ghost use Rattle.body_plan_branches.specs.Branches.{castOp, descOp, CastLabel, Branching};
@@ -39,6 +39,7 @@ fn cast_label(work: &[u32], scene: Scene, depth: u16, l: u64, source: u64, targe
 // br_on_cast and br_on_cast_fail.
 pub fn br_on_cast(
     rows: &[u16],
+    shared: &[u16],
     codes: &[u16],
     work: &[u32],
     scene: Scene,
@@ -49,16 +50,17 @@ pub fn br_on_cast(
     fail: bool,
 ) -> Planned
     ensures { λ r.
-        let types = view (now (rows .entry)) (now (codes .entry)) in
-        let labels = labelsAt (now (codes .entry)) (now (work .entry)) scene depth in
+        let types = view (now (rows .entry)) (bothCodes (now (shared .entry)) (now (codes .entry))) in
+        let labels = labelsAt (bothCodes (now (shared .entry)) (now (codes .entry))) (now (work .entry)) scene depth in
         let cast = castOp fail (castBetween l source target) in
-        ⌜ Branching (now (codes .entry)) types (scene .types) labels cast r ⌝ }
+        ⌜ Branching (bothCodes (now (shared .entry)) (now (codes .entry))) types (scene .types) labels cast r ⌝ }
 {
     let label = cast_label(work, scene, depth, l, source.heap, target.heap);
     match label {
         Target::Fault(number) => Planned::Fault(number),
         Target::Is(values) => body_plan_cast_forms::casts(
             rows,
+            shared,
             codes,
             0,
             source,
@@ -72,6 +74,7 @@ pub fn br_on_cast(
 // br_on_cast_desc_eq and br_on_cast_desc_eq_fail: the target's descriptor is taken first.
 pub fn br_on_cast_desc(
     rows: &[u16],
+    shared: &[u16],
     codes: &[u16],
     work: &[u32],
     scene: Scene,
@@ -82,22 +85,23 @@ pub fn br_on_cast_desc(
     fail: bool,
 ) -> Planned
     ensures { λ r.
-        let types = view (now (rows .entry)) (now (codes .entry)) in
-        let labels = labelsAt (now (codes .entry)) (now (work .entry)) scene depth in
+        let types = view (now (rows .entry)) (bothCodes (now (shared .entry)) (now (codes .entry))) in
+        let labels = labelsAt (bothCodes (now (shared .entry)) (now (codes .entry))) (now (work .entry)) scene depth in
         let cast = descOp fail (castBetween l source target) in
-        ⌜ Branching (now (codes .entry)) types (scene .types) labels cast r ⌝ }
+        ⌜ Branching (bothCodes (now (shared .entry)) (now (codes .entry))) types (scene .types) labels cast r ⌝ }
 {
     let label = cast_label(work, scene, depth, l, source.heap, target.heap);
     match label {
         Target::Fault(number) => Planned::Fault(number),
         Target::Is(values) => {
-            let descriptor = body_plan_casts::descriptor_for(rows, codes, target.heap);
+            let descriptor = body_plan_casts::descriptor_for(rows, shared, codes, target.heap);
             match descriptor {
                 Link::Nothing => Planned::Fault(refusals::BAD_STRUCT),
                 Link::To(d) => {
                     let top = body_plan_parts::ref_code(true, d);
                     body_plan_cast_forms::casts(
                         rows,
+                        shared,
                         codes,
                         top + WANTED,
                         source,

@@ -7,7 +7,7 @@ use body_state::Planned;
 use body_state::Values;
 use scope::refusals;
 use type_fit::Fit;
-ghost use Rattle.type_table.specs.View.{view};
+ghost use Rattle.type_table.specs.View.{view, bothCodes};
 ghost use Rattle.body_plan_carried.specs.Carried.{SplitOf, Small, Carries};
 
 // A list's last type by its code, and those before it.
@@ -17,8 +17,8 @@ pub enum Split {
 }
 
 // A list's last type.
-fn split_last(codes: &[u16], values: Values) -> Split
-    ensures { λ r. ⌜ SplitOf (now (codes .entry)) values r ⌝ }
+fn split_last(shared: &[u16], codes: &[u16], values: Values) -> Split
+    ensures { λ r. ⌜ SplitOf (bothCodes (now (shared .entry)) (now (codes .entry))) values r ⌝ }
 {
     match values {
         Values::Types(first, n) => {
@@ -26,7 +26,7 @@ fn split_last(codes: &[u16], values: Values) -> Split
                 return Split::Nothing;
             }
             let before = n - 1;
-            let code = lent_u16::word(codes, first as u64 + before as u64);
+            let code = type_table::code_word(shared, codes, first as u64 + before as u64);
             Split::Is(Values::Types(first, before), code)
         }
         Values::Fields(first, n) => {
@@ -34,7 +34,7 @@ fn split_last(codes: &[u16], values: Values) -> Split
                 return Split::Nothing;
             }
             let before = n - 1;
-            let field = lent_u16::word(codes, first as u64 + before as u64);
+            let field = type_table::code_word(shared, codes, first as u64 + before as u64);
             Split::Is(Values::Fields(first, before), field / 2)
         }
         Values::One(c) => {
@@ -47,6 +47,7 @@ fn split_last(codes: &[u16], values: Values) -> Split
 // A branching cast's label, by codes: what is carried is below its last type. `first` is taken before the object.
 pub fn carries(
     rows: &[u16],
+    shared: &[u16],
     codes: &[u16],
     first: u64,
     source: u64,
@@ -55,14 +56,14 @@ pub fn carries(
     label: Values,
 ) -> Planned
     requires { ⌜ Small source falls ⌝ }
-    ensures { λ r. ⌜ Carries (now (codes .entry)) (view (now (rows .entry)) (now (codes .entry))) first source carried falls label r ⌝ }
+    ensures { λ r. ⌜ Carries (bothCodes (now (shared .entry)) (now (codes .entry))) (view (now (rows .entry)) (bothCodes (now (shared .entry)) (now (codes .entry)))) first source carried falls label r ⌝ }
 {
-    let split = split_last(codes, label);
+    let split = split_last(shared, codes, label);
     match split {
         Split::Nothing => Planned::Fault(refusals::BAD_BRANCH),
         Split::Is(before, last) => {
             // the label's rule relies on the first outcome alone, and makes 25 of the other two
-            let fit = type_fit::val_fit(rows, codes, carried, last);
+            let fit = type_fit::val_fit(rows, shared, codes, carried, last);
             match fit {
                 Fit::ButForNull => Planned::Fault(refusals::BAD_BRANCH),
                 Fit::Unfit => Planned::Fault(refusals::BAD_BRANCH),

@@ -3,7 +3,7 @@
 use body_state::Planned;
 use body_state::Values;
 use scope::refusals;
-ghost use Rattle.type_table.specs.View.{view};
+ghost use Rattle.type_table.specs.View.{view, bothCodes};
 ghost use Rattle.body_plan_cast_forms.specs.Forms.{Low, FormCarries, Casts};
 
 // A reference type: whether it may be null, and its heap type's code.
@@ -15,6 +15,7 @@ pub struct Reference {
 // The plain form carries the target and falls through with the rest, the fail form the other way round.
 fn form_carries(
     rows: &[u16],
+    shared: &[u16],
     codes: &[u16],
     first: u64,
     source: Reference,
@@ -23,20 +24,21 @@ fn form_carries(
     label: Values,
 ) -> Planned
     requires { ⌜ Low (source .heap) (target .heap) ⌝ }
-    ensures { λ r. ⌜ FormCarries (now (codes .entry)) (view (now (rows .entry)) (now (codes .entry))) first source target fail label r ⌝ }
+    ensures { λ r. ⌜ FormCarries (bothCodes (now (shared .entry)) (now (codes .entry))) (view (now (rows .entry)) (bothCodes (now (shared .entry)) (now (codes .entry)))) first source target fail label r ⌝ }
 {
     let from = body_plan_parts::ref_code(source.null, source.heap);
     let to = body_plan_parts::ref_code(target.null, target.heap);
     let rest = body_plan_rest::rest_code(source.null, target.null, source.heap);
     if fail {
-        return body_plan_carried::carries(rows, codes, first, from, rest, to, label);
+        return body_plan_carried::carries(rows, shared, codes, first, from, rest, to, label);
     }
-    body_plan_carried::carries(rows, codes, first, from, to, rest, label)
+    body_plan_carried::carries(rows, shared, codes, first, from, to, rest, label)
 }
 
 // A branching cast's rule: source and target are of one hierarchy, and the label takes what is carried.
 pub fn casts(
     rows: &[u16],
+    shared: &[u16],
     codes: &[u16],
     first: u64,
     source: Reference,
@@ -45,11 +47,11 @@ pub fn casts(
     label: Values,
 ) -> Planned
     requires { ⌜ Low (source .heap) (target .heap) ⌝ }
-    ensures { λ r. ⌜ Casts (now (codes .entry)) (view (now (rows .entry)) (now (codes .entry))) first source target fail label r ⌝ }
+    ensures { λ r. ⌜ Casts (bothCodes (now (shared .entry)) (now (codes .entry))) (view (now (rows .entry)) (bothCodes (now (shared .entry)) (now (codes .entry)))) first source target fail label r ⌝ }
 {
-    let related = body_plan_rest::one_hierarchy(rows, codes, source.heap, target.heap);
+    let related = body_plan_rest::one_hierarchy(rows, shared, codes, source.heap, target.heap);
     if !related {
         return Planned::Fault(refusals::BAD_BRANCH);
     }
-    form_carries(rows, codes, first, source, target, fail, label)
+    form_carries(rows, shared, codes, first, source, target, fail, label)
 }

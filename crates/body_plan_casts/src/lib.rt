@@ -13,7 +13,7 @@ ghost use mathlib.Core.Path.{_≡_};
 ghost use Rattle.scope.specs.Memory.{abstractCode};
 ghost use Rattle.scope.specs.Instructions.{ref-null, ref-cast, ref-get-desc, ref-cast-desc-eq};
 ghost use Rattle.scope.specs.BodyRules.{topOf, descriptorFor};
-ghost use Rattle.type_table.specs.View.{heapAtCode, view};
+ghost use Rattle.type_table.specs.View.{heapAtCode, view, bothCodes};
 ghost use Rattle.body_plan_parts.specs.Planning.{Follows, Anywhere};
 ghost use Rattle.body_plan_casts.specs.Casts.{Tests, DescriptorFor};
 
@@ -34,57 +34,64 @@ pub fn ref_null(types: u16, heap: u64) -> Planned
 }
 
 // The number of the top of a heap type's hierarchy.
-pub fn top_of(rows: &[u16], codes: &[u16], heap: u64) -> u64
-    ensures { λ r. ⌜ r ≡ abstractCode (topOf (view (now (rows .entry)) (now (codes .entry))) (heapAtCode heap)) ⌝ }
+pub fn top_of(rows: &[u16], shared: &[u16], codes: &[u16], heap: u64) -> u64
+    ensures { λ r. ⌜ r ≡ abstractCode (topOf (view (now (rows .entry)) (bothCodes (now (shared .entry)) (now (codes .entry)))) (heapAtCode heap)) ⌝ }
 {
     let kind = type_table::heap_of(heap);
     match kind {
         HeapKind::Abstract(a) => type_abstract::top_of(a),
         HeapKind::Defined(x) => {
-            let form = type_hierarchy::kind_of(rows, codes, x);
+            let form = type_hierarchy::kind_of(rows, shared, codes, x);
             type_abstract::top_of(form)
         }
         HeapKind::Exact(x) => {
-            let form = type_hierarchy::kind_of(rows, codes, x);
+            let form = type_hierarchy::kind_of(rows, shared, codes, x);
             type_abstract::top_of(form)
         }
     }
 }
 
 // ref.test, null or not: it takes any reference of the target's hierarchy.
-pub fn ref_test(rows: &[u16], codes: &[u16], types: u16, heap: u64) -> Planned
-    ensures { λ r. ⌜ Tests (now (codes .entry)) (view (now (rows .entry)) (now (codes .entry))) types (heapAtCode heap) r ⌝ }
+pub fn ref_test(rows: &[u16], shared: &[u16], codes: &[u16], types: u16, heap: u64) -> Planned
+    ensures { λ r. ⌜ Tests (bothCodes (now (shared .entry)) (now (codes .entry))) (view (now (rows .entry)) (bothCodes (now (shared .entry)) (now (codes .entry)))) types (heapAtCode heap) r ⌝ }
 {
     if !type_reach::heap_in_reach(heap, types as u64) {
         return Planned::Fault(refusals::OUT_OF_REACH);
     }
-    let top = top_of(rows, codes, heap);
+    let top = top_of(rows, shared, codes, heap);
     let object = body_plan_parts::ref_code(true, top);
     body_plan_parts::takes(object + WANTED, 0, Values::Types(0, 0), I32 + GIVEN)
 }
 
 // ref.cast, likewise.
-pub fn ref_cast(rows: &[u16], codes: &[u16], types: u16, null: bool, heap: u64) -> Planned
-    ensures { λ r. ⌜ Follows (now (codes .entry)) (view (now (rows .entry)) (now (codes .entry))) types (ref-cast null (heapAtCode heap)) r ⌝ }
+pub fn ref_cast(
+    rows: &[u16],
+    shared: &[u16],
+    codes: &[u16],
+    types: u16,
+    null: bool,
+    heap: u64,
+) -> Planned
+    ensures { λ r. ⌜ Follows (bothCodes (now (shared .entry)) (now (codes .entry))) (view (now (rows .entry)) (bothCodes (now (shared .entry)) (now (codes .entry)))) types (ref-cast null (heapAtCode heap)) r ⌝ }
 {
     if !type_reach::heap_in_reach(heap, types as u64) {
         return Planned::Fault(refusals::OUT_OF_REACH);
     }
-    let top = top_of(rows, codes, heap);
+    let top = top_of(rows, shared, codes, heap);
     let object = body_plan_parts::ref_code(true, top);
     let made = body_plan_parts::ref_code(null, heap);
     body_plan_parts::takes(object + WANTED, 0, Values::Types(0, 0), made + GIVEN)
 }
 
 // The code of the heap type whose descriptor a descriptor cast to this heap type takes: exact where that is exact.
-pub fn descriptor_for(rows: &[u16], codes: &[u16], heap: u64) -> Link
-    ensures { λ r. ⌜ DescriptorFor (descriptorFor (view (now (rows .entry)) (now (codes .entry))) (heapAtCode heap)) r ⌝ }
+pub fn descriptor_for(rows: &[u16], shared: &[u16], codes: &[u16], heap: u64) -> Link
+    ensures { λ r. ⌜ DescriptorFor (descriptorFor (view (now (rows .entry)) (bothCodes (now (shared .entry)) (now (codes .entry)))) (heapAtCode heap)) r ⌝ }
 {
     let kind = type_table::heap_of(heap);
     match kind {
         HeapKind::Abstract(_) => Link::Nothing,
         HeapKind::Defined(x) => {
-            let descriptor = body_plan_parts::descriptor_of(rows, codes, x);
+            let descriptor = body_plan_parts::descriptor_of(rows, shared, codes, x);
             match descriptor {
                 Link::Nothing => Link::Nothing,
                 Link::To(y) => {
@@ -94,7 +101,7 @@ pub fn descriptor_for(rows: &[u16], codes: &[u16], heap: u64) -> Link
             }
         }
         HeapKind::Exact(x) => {
-            let descriptor = body_plan_parts::descriptor_of(rows, codes, x);
+            let descriptor = body_plan_parts::descriptor_of(rows, shared, codes, x);
             match descriptor {
                 Link::Nothing => Link::Nothing,
                 Link::To(y) => {
@@ -107,13 +114,13 @@ pub fn descriptor_for(rows: &[u16], codes: &[u16], heap: u64) -> Link
 }
 
 // ref.get_desc x
-pub fn get_desc(rows: &[u16], codes: &[u16], types: u16, x: u64) -> Planned
-    ensures { λ r. ⌜ Follows (now (codes .entry)) (view (now (rows .entry)) (now (codes .entry))) types (ref-get-desc x) r ⌝ }
+pub fn get_desc(rows: &[u16], shared: &[u16], codes: &[u16], types: u16, x: u64) -> Planned
+    ensures { λ r. ⌜ Follows (bothCodes (now (shared .entry)) (now (codes .entry))) (view (now (rows .entry)) (bothCodes (now (shared .entry)) (now (codes .entry)))) types (ref-get-desc x) r ⌝ }
 {
     if types as u64 <= x {
         return Planned::Fault(refusals::OUT_OF_REACH);
     }
-    let descriptor = body_plan_parts::descriptor_of(rows, codes, x);
+    let descriptor = body_plan_parts::descriptor_of(rows, shared, codes, x);
     match descriptor {
         Link::Nothing => Planned::Fault(refusals::BAD_STRUCT),
         Link::To(y) => {
@@ -125,13 +132,20 @@ pub fn get_desc(rows: &[u16], codes: &[u16], types: u16, x: u64) -> Planned
 }
 
 // ref.cast_desc_eq: it takes a reference below any, then the target's descriptor on top.
-pub fn cast_desc_eq(rows: &[u16], codes: &[u16], types: u16, null: bool, heap: u64) -> Planned
-    ensures { λ r. ⌜ Follows (now (codes .entry)) (view (now (rows .entry)) (now (codes .entry))) types (ref-cast-desc-eq null (heapAtCode heap)) r ⌝ }
+pub fn cast_desc_eq(
+    rows: &[u16],
+    shared: &[u16],
+    codes: &[u16],
+    types: u16,
+    null: bool,
+    heap: u64,
+) -> Planned
+    ensures { λ r. ⌜ Follows (bothCodes (now (shared .entry)) (now (codes .entry))) (view (now (rows .entry)) (bothCodes (now (shared .entry)) (now (codes .entry)))) types (ref-cast-desc-eq null (heapAtCode heap)) r ⌝ }
 {
     if !type_reach::heap_in_reach(heap, types as u64) {
         return Planned::Fault(refusals::OUT_OF_REACH);
     }
-    let descriptor = descriptor_for(rows, codes, heap);
+    let descriptor = descriptor_for(rows, shared, codes, heap);
     match descriptor {
         Link::Nothing => Planned::Fault(refusals::BAD_STRUCT),
         Link::To(d) => {

@@ -2,7 +2,7 @@
 use type_table::ValKind;
 ghost use mathlib.Core.Path.{_≡_};
 ghost use Rattle.scope.specs.BodyRules.{hasDefault};
-ghost use Rattle.type_table.specs.View.{valAtCode};
+ghost use Rattle.type_table.specs.View.{valAtCode, bothCodes};
 ghost use Rattle.body_plan_defaults.specs.Defaults.{typeOf, allDefault};
 
 // Numbers and nullable references have a default.
@@ -27,13 +27,13 @@ fn type_of(fields: bool, word: u64) -> u64
 }
 
 // Whether each of n fields, or of n types, whose codes start at `first` has a default.
-pub fn all_default(codes: &[u16], first: u32, n: u32, fields: bool) -> bool
-    ensures { λ r. ⌜ r ≡ allDefault fields (now (codes .entry)) first n ⌝ }
+pub fn all_default(shared: &[u16], codes: &[u16], first: u32, n: u32, fields: bool) -> bool
+    ensures { λ r. ⌜ r ≡ allDefault fields (bothCodes (now (shared .entry)) (now (codes .entry))) first n ⌝ }
 {
     let mut at = first as u64;
     let mut left = n as u64;
     while 0 < left {
-        let word = lent_u16::word(codes, at);
+        let word = type_table::code_word(shared, codes, at);
         let code = type_of(fields, word);
         if !has_default(code) {
             return false;

@@ -7,7 +7,7 @@ use body_state::Planned;
 use body_state::Values;
 use scope::refusals;
 ghost use Rattle.scope.specs.Instructions.{struct-get, struct-set};
-ghost use Rattle.type_table.specs.View.{view};
+ghost use Rattle.type_table.specs.View.{view, bothCodes};
 ghost use Rattle.body_plan_parts.specs.Planning.{Follows};
 ghost use Rattle.body_plan_fields.specs.OneField.{FieldOf};
 
@@ -18,15 +18,15 @@ pub enum Field {
 }
 
 // A field of a type in reach.
-fn field_of(rows: &[u16], codes: &[u16], types: u16, x: u64, i: u64) -> Field
-    ensures { λ r. ⌜ FieldOf (view (now (rows .entry)) (now (codes .entry))) types x i r ⌝ }
+fn field_of(rows: &[u16], shared: &[u16], codes: &[u16], types: u16, x: u64, i: u64) -> Field
+    ensures { λ r. ⌜ FieldOf (view (now (rows .entry)) (bothCodes (now (shared .entry)) (now (codes .entry)))) types x i r ⌝ }
 {
-    let found = body_plan_structs::struct_of(rows, codes, types, x);
+    let found = body_plan_structs::struct_of(rows, shared, codes, types, x);
     match found {
         Fields::Fault(number) => Field::Fault(number),
         Fields::Are(first, n) => {
             if i < n as u64 {
-                let code = lent_u16::word(codes, first as u64 + i);
+                let code = type_table::code_word(shared, codes, first as u64 + i);
                 return Field::Is(code);
             }
             Field::Fault(refusals::BAD_STRUCT)
@@ -35,10 +35,17 @@ fn field_of(rows: &[u16], codes: &[u16], types: u16, x: u64, i: u64) -> Field
 }
 
 // struct.get x i
-pub fn struct_get(rows: &[u16], codes: &[u16], types: u16, x: u64, i: u64) -> Planned
-    ensures { λ r. ⌜ Follows (now (codes .entry)) (view (now (rows .entry)) (now (codes .entry))) types (struct-get x i) r ⌝ }
+pub fn struct_get(
+    rows: &[u16],
+    shared: &[u16],
+    codes: &[u16],
+    types: u16,
+    x: u64,
+    i: u64,
+) -> Planned
+    ensures { λ r. ⌜ Follows (bothCodes (now (shared .entry)) (now (codes .entry))) (view (now (rows .entry)) (bothCodes (now (shared .entry)) (now (codes .entry)))) types (struct-get x i) r ⌝ }
 {
-    let found = field_of(rows, codes, types, x, i);
+    let found = field_of(rows, shared, codes, types, x, i);
     match found {
         Field::Fault(number) => Planned::Fault(number),
         Field::Is(field) => {
@@ -49,10 +56,17 @@ pub fn struct_get(rows: &[u16], codes: &[u16], types: u16, x: u64, i: u64) -> Pl
 }
 
 // struct.set x i
-pub fn struct_set(rows: &[u16], codes: &[u16], types: u16, x: u64, i: u64) -> Planned
-    ensures { λ r. ⌜ Follows (now (codes .entry)) (view (now (rows .entry)) (now (codes .entry))) types (struct-set x i) r ⌝ }
+pub fn struct_set(
+    rows: &[u16],
+    shared: &[u16],
+    codes: &[u16],
+    types: u16,
+    x: u64,
+    i: u64,
+) -> Planned
+    ensures { λ r. ⌜ Follows (bothCodes (now (shared .entry)) (now (codes .entry))) (view (now (rows .entry)) (bothCodes (now (shared .entry)) (now (codes .entry)))) types (struct-set x i) r ⌝ }
 {
-    let found = field_of(rows, codes, types, x, i);
+    let found = field_of(rows, shared, codes, types, x, i);
     match found {
         Field::Fault(number) => Planned::Fault(number),
         Field::Is(field) => {

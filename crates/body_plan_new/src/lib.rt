@@ -7,14 +7,14 @@ use body_plan_structs::Pair;
 use body_state::Planned;
 use body_state::Values;
 ghost use Rattle.scope.specs.Instructions.{struct-new, struct-new-desc};
-ghost use Rattle.type_table.specs.View.{view};
+ghost use Rattle.type_table.specs.View.{view, bothCodes};
 ghost use Rattle.body_plan_parts.specs.Planning.{Follows};
 
 // struct.new x
-pub fn struct_new(rows: &[u16], codes: &[u16], types: u16, x: u64) -> Planned
-    ensures { λ r. ⌜ Follows (now (codes .entry)) (view (now (rows .entry)) (now (codes .entry))) types (struct-new x) r ⌝ }
+pub fn struct_new(rows: &[u16], shared: &[u16], codes: &[u16], types: u16, x: u64) -> Planned
+    ensures { λ r. ⌜ Follows (bothCodes (now (shared .entry)) (now (codes .entry))) (view (now (rows .entry)) (bothCodes (now (shared .entry)) (now (codes .entry)))) types (struct-new x) r ⌝ }
 {
-    let found = body_plan_structs::undescribed(rows, codes, types, x);
+    let found = body_plan_structs::undescribed(rows, shared, codes, types, x);
     match found {
         Fields::Fault(number) => Planned::Fault(number),
         Fields::Are(first, n) => {
@@ -25,10 +25,10 @@ pub fn struct_new(rows: &[u16], codes: &[u16], types: u16, x: u64) -> Planned
 }
 
 // struct.new_desc x
-pub fn struct_new_desc(rows: &[u16], codes: &[u16], types: u16, x: u64) -> Planned
-    ensures { λ r. ⌜ Follows (now (codes .entry)) (view (now (rows .entry)) (now (codes .entry))) types (struct-new-desc x) r ⌝ }
+pub fn struct_new_desc(rows: &[u16], shared: &[u16], codes: &[u16], types: u16, x: u64) -> Planned
+    ensures { λ r. ⌜ Follows (bothCodes (now (shared .entry)) (now (codes .entry))) (view (now (rows .entry)) (bothCodes (now (shared .entry)) (now (codes .entry)))) types (struct-new-desc x) r ⌝ }
 {
-    let found = body_plan_structs::described(rows, codes, types, x);
+    let found = body_plan_structs::described(rows, shared, codes, types, x);
     match found {
         Pair::Fault(number) => Planned::Fault(number),
         Pair::Are(first, n, y) => {

@@ -11,10 +11,12 @@ use borrow.Author.Tests.{ne-eqb}
 use Rattle.scope.specs.Abstract.{ANY, EQ}
 use Rattle.scope.specs.Syntax.{abstract, defined, exact, i32, Val, num, ref}
 use Rattle.scope.specs.BodyRules.{value, anyValue, anyReference}
+use Rattle.type_table.specs.RowWords.{descriptorWord}
 use Rattle.type_table.specs.View.{heapAtCode, valAtCode, linkAt, view}
 use Rattle.type_table.specs.declared.Link.{Link}
 use Rattle.type_table.specs.Answers.{linkIs}
 use Rattle.type_table.proofs.Laws.{link-to, link-read}
+use Rattle.scope.specs.Layout.{rowSpan}
 use Rattle.scope.specs.Memory.{valCode}
 use Rattle.scope.proofs.Impossible.{impossible}
 use Rattle.type_table.proofs.Codes.{heap-code-at}
@@ -108,13 +110,13 @@ link-less : (w : ℕ) (b : Bool) {y : ℕ} → cond b none (some (w - 1)) ≡ so
 link-less w true e = impossible cc
 link-less w false e = cc
 
-pub descriptor-small : (rows codes : List ℕ) (x : ℕ) → getD rows (12 * x + 6) 0 < 2 ^ 16 → {r : Link} → r ≡ linkIs (view rows codes x .descriptor) → DescriptorOf (view rows codes x .descriptor) r
+pub descriptor-small : (rows codes : List ℕ) (x : ℕ) → getD rows (rowSpan * x + descriptorWord) 0 < 2 ^ 16 → {r : Link} → r ≡ linkIs (view rows codes x .descriptor) → DescriptorOf (view rows codes x .descriptor) r
 unfolding view
 descriptor-small rows codes x h e =
     record {
-      is = link-read (linkAt (getD rows (12 * x + 6) 0)) e;
+      is = link-read (linkAt (getD rows (rowSpan * x + descriptorWord) 0)) e;
       small = λ y q.
-          let w = getD rows (12 * x + 6) 0 in
+          let w = getD rows (rowSpan * x + descriptorWord) 0 in
           let same : w - 1 ≡ y = link-less w (eqb w 0) (link-to (linkAt w) e q) in
           let few : w < 2 ^ 16 = h in
           rw (← same) (omega arith);

@@ -7,7 +7,7 @@ use type_table::Link;
 ghost use Prim.Native.Nat.{_<_, _^_};
 ghost use mathlib.Core.Bool.{true};
 ghost use Rattle.scope.specs.Syntax.{defined, exact, ref};
-ghost use Rattle.type_table.specs.View.{heapAtCode, view};
+ghost use Rattle.type_table.specs.View.{heapAtCode, view, bothCodes};
 ghost use Rattle.body_plan_parts.specs.Planning.{heapBound, Takes, Stops, CodeIs, DescriptorOf};
 
 // What a plan's `top` and `second` are beyond the code of the type that is wanted, and its `gives` beyond the code of the
@@ -83,8 +83,8 @@ pub fn exact_code(null: bool, x: u64) -> u64
 }
 
 // The descriptor of a type: what the table answers, and that the number is small.
-pub fn descriptor_of(rows: &[u16], codes: &[u16], x: u64) -> Link
-    ensures { λ r. ⌜ DescriptorOf (view (now (rows .entry)) (now (codes .entry)) x .descriptor) r ⌝ }
+pub fn descriptor_of(rows: &[u16], shared: &[u16], codes: &[u16], x: u64) -> Link
+    ensures { λ r. ⌜ DescriptorOf (view (now (rows .entry)) (bothCodes (now (shared .entry)) (now (codes .entry))) x .descriptor) r ⌝ }
 {
-    type_table::descriptor_of(rows, codes, x)
+    type_table::descriptor_of(rows, shared, codes, x)
 }

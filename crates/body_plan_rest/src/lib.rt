@@ -5,7 +5,7 @@ ghost use Prim.Native.Nat.{_<_};
 ghost use mathlib.Core.Path.{_≡_};
 ghost use Rattle.scope.specs.Syntax.{ref};
 ghost use Rattle.scope.specs.BodyRules.{oneHierarchy};
-ghost use Rattle.type_table.specs.View.{heapAtCode, view};
+ghost use Rattle.type_table.specs.View.{heapAtCode, view, bothCodes};
 ghost use Rattle.body_plan_parts.specs.Planning.{heapBound, CodeIs};
 
 // The code of the rest: the source, not null where the target may be null.
@@ -21,10 +21,10 @@ pub fn rest_code(source: bool, target: bool, heap: u64) -> u64
 }
 
 // Whether two heap types are of one hierarchy.
-pub fn one_hierarchy(rows: &[u16], codes: &[u16], source: u64, target: u64) -> bool
-    ensures { λ r. ⌜ r ≡ oneHierarchy (view (now (rows .entry)) (now (codes .entry))) (heapAtCode source) (heapAtCode target) ⌝ }
+pub fn one_hierarchy(rows: &[u16], shared: &[u16], codes: &[u16], source: u64, target: u64) -> bool
+    ensures { λ r. ⌜ r ≡ oneHierarchy (view (now (rows .entry)) (bothCodes (now (shared .entry)) (now (codes .entry)))) (heapAtCode source) (heapAtCode target) ⌝ }
 {
-    let above_source = body_plan_casts::top_of(rows, codes, source);
-    let above_target = body_plan_casts::top_of(rows, codes, target);
+    let above_source = body_plan_casts::top_of(rows, shared, codes, source);
+    let above_target = body_plan_casts::top_of(rows, shared, codes, target);
     above_source == above_target
 }

@@ -3,7 +3,7 @@
 use scope::refusals;
 use type_table::Link;
 use type_table::Shape;
-ghost use Rattle.type_table.specs.View.{view};
+ghost use Rattle.type_table.specs.View.{view, bothCodes};
 ghost use Rattle.body_plan_structs.specs.Structs.{StructOf, Undescribed, Described};
 
 // Where the codes of a struct's fields start and how many there are; or a refusal's number.
@@ -19,11 +19,11 @@ pub enum Pair {
 }
 
 // The fields of a type in reach that is a struct.
-pub fn struct_of(rows: &[u16], codes: &[u16], types: u16, x: u64) -> Fields
-    ensures { λ r. ⌜ StructOf (now (codes .entry)) (view (now (rows .entry)) (now (codes .entry))) types x r ⌝ }
+pub fn struct_of(rows: &[u16], shared: &[u16], codes: &[u16], types: u16, x: u64) -> Fields
+    ensures { λ r. ⌜ StructOf (bothCodes (now (shared .entry)) (now (codes .entry))) (view (now (rows .entry)) (bothCodes (now (shared .entry)) (now (codes .entry)))) types x r ⌝ }
 {
     if x < types as u64 {
-        let shape = type_table::shape_of(rows, codes, x);
+        let shape = type_table::shape_of(rows, shared, codes, x);
         match shape {
             Shape::Struct(first, n) => Fields::Are(first, n),
             Shape::Func(_, _, _, _) => Fields::Fault(refusals::BAD_STRUCT),
@@ -34,14 +34,14 @@ pub fn struct_of(rows: &[u16], codes: &[u16], types: u16, x: u64) -> Fields
 }
 
 // The fields of a struct without a descriptor.
-pub fn undescribed(rows: &[u16], codes: &[u16], types: u16, x: u64) -> Fields
-    ensures { λ r. ⌜ Undescribed (now (codes .entry)) (view (now (rows .entry)) (now (codes .entry))) types x r ⌝ }
+pub fn undescribed(rows: &[u16], shared: &[u16], codes: &[u16], types: u16, x: u64) -> Fields
+    ensures { λ r. ⌜ Undescribed (bothCodes (now (shared .entry)) (now (codes .entry))) (view (now (rows .entry)) (bothCodes (now (shared .entry)) (now (codes .entry)))) types x r ⌝ }
 {
-    let found = struct_of(rows, codes, types, x);
+    let found = struct_of(rows, shared, codes, types, x);
     match found {
         Fields::Fault(number) => Fields::Fault(number),
         Fields::Are(first, n) => {
-            let descriptor = body_plan_parts::descriptor_of(rows, codes, x);
+            let descriptor = body_plan_parts::descriptor_of(rows, shared, codes, x);
             match descriptor {
                 Link::Nothing => Fields::Are(first, n),
                 Link::To(_) => Fields::Fault(refusals::BAD_STRUCT),
@@ -51,14 +51,14 @@ pub fn undescribed(rows: &[u16], codes: &[u16], types: u16, x: u64) -> Fields
 }
 
 // The fields of a struct with a descriptor, and that descriptor.
-pub fn described(rows: &[u16], codes: &[u16], types: u16, x: u64) -> Pair
-    ensures { λ r. ⌜ Described (now (codes .entry)) (view (now (rows .entry)) (now (codes .entry))) types x r ⌝ }
+pub fn described(rows: &[u16], shared: &[u16], codes: &[u16], types: u16, x: u64) -> Pair
+    ensures { λ r. ⌜ Described (bothCodes (now (shared .entry)) (now (codes .entry))) (view (now (rows .entry)) (bothCodes (now (shared .entry)) (now (codes .entry)))) types x r ⌝ }
 {
-    let found = struct_of(rows, codes, types, x);
+    let found = struct_of(rows, shared, codes, types, x);
     match found {
         Fields::Fault(number) => Pair::Fault(number),
         Fields::Are(first, n) => {
-            let descriptor = body_plan_parts::descriptor_of(rows, codes, x);
+            let descriptor = body_plan_parts::descriptor_of(rows, shared, codes, x);
             match descriptor {
                 Link::Nothing => Pair::Fault(refusals::BAD_STRUCT),
                 Link::To(y) => Pair::Are(first, n, y),

@@ -19,6 +19,7 @@ ghost use Rattle.body_numeric.specs.Entries.{Tabled};
 ghost use Rattle.body_state.specs.State.{contextAt, stateAt};
 ghost use Rattle.body_decoded.specs.Decoded.{instrOf};
 ghost use Rattle.body_plans.specs.Acts.{actOf};
+ghost use Rattle.type_table.specs.View.{bothCodes};
 
 // What an instruction does: it opens a block or, where the bool says so, a loop, with that result (0 none, else one more
 // than its code); it closes the innermost frame; or it has a plan.
@@ -31,6 +32,7 @@ pub enum Act {
 // What an instruction does, where the check stands.
 pub fn act_of(
     rows: &[u16],
+    shared: &[u16],
     codes: &[u16],
     table: &[u8],
     work: &[u32],
@@ -40,9 +42,9 @@ pub fn act_of(
 ) -> Act
     requires { ⌜ Tabled (now table) ⌝ }
     ensures { λ r.
-        let context = contextAt (now (rows .entry)) (now (codes .entry)) (now (work .entry)) scene in
+        let context = contextAt (now (rows .entry)) (bothCodes (now (shared .entry)) (now (codes .entry))) (now (work .entry)) scene in
         let state = stateAt (now (work .entry)) (scene .locals) check in
-        ⌜ actOf (now (codes .entry)) context state r ≡ judgeInstr context state (instrOf i) ⌝ }
+        ⌜ actOf (bothCodes (now (shared .entry)) (now (codes .entry))) context state r ≡ judgeInstr context state (instrOf i) ⌝ }
 {
     let types = scene.types;
     let locals = scene.locals;
@@ -128,27 +130,27 @@ pub fn act_of(
         }
         Instruction::RefAsNonNull => Act::Does(Planned::NonNull),
         Instruction::StructNew(x) => {
-            let plan = body_plan_new::struct_new(rows, codes, types, x);
+            let plan = body_plan_new::struct_new(rows, shared, codes, types, x);
             Act::Does(plan)
         }
         Instruction::StructNewDefault(x) => {
-            let plan = body_plan_new_default::struct_new_default(rows, codes, types, x);
+            let plan = body_plan_new_default::struct_new_default(rows, shared, codes, types, x);
             Act::Does(plan)
         }
         Instruction::StructGet(x, f) => {
-            let plan = body_plan_fields::struct_get(rows, codes, types, x, f);
+            let plan = body_plan_fields::struct_get(rows, shared, codes, types, x, f);
             Act::Does(plan)
         }
         Instruction::StructSet(x, f) => {
-            let plan = body_plan_fields::struct_set(rows, codes, types, x, f);
+            let plan = body_plan_fields::struct_set(rows, shared, codes, types, x, f);
             Act::Does(plan)
         }
         Instruction::RefTest(_, h) => {
-            let plan = body_plan_casts::ref_test(rows, codes, types, h);
+            let plan = body_plan_casts::ref_test(rows, shared, codes, types, h);
             Act::Does(plan)
         }
         Instruction::RefCast(n, h) => {
-            let plan = body_plan_casts::ref_cast(rows, codes, types, n, h);
+            let plan = body_plan_casts::ref_cast(rows, shared, codes, types, n, h);
             Act::Does(plan)
         }
         Instruction::BrOnCast(l, m, h, n, k) => {
@@ -156,6 +158,7 @@ pub fn act_of(
             let target = Reference { null: n, heap: k };
             let plan = body_plan_branches::br_on_cast(
                 rows,
+                shared,
                 codes,
                 work,
                 scene,
@@ -172,6 +175,7 @@ pub fn act_of(
             let target = Reference { null: n, heap: k };
             let plan = body_plan_branches::br_on_cast(
                 rows,
+                shared,
                 codes,
                 work,
                 scene,
@@ -184,19 +188,25 @@ pub fn act_of(
             Act::Does(plan)
         }
         Instruction::StructNewDesc(x) => {
-            let plan = body_plan_new::struct_new_desc(rows, codes, types, x);
+            let plan = body_plan_new::struct_new_desc(rows, shared, codes, types, x);
             Act::Does(plan)
         }
         Instruction::StructNewDefaultDesc(x) => {
-            let plan = body_plan_new_default::struct_new_default_desc(rows, codes, types, x);
+            let plan = body_plan_new_default::struct_new_default_desc(
+                rows,
+                shared,
+                codes,
+                types,
+                x,
+            );
             Act::Does(plan)
         }
         Instruction::RefGetDesc(x) => {
-            let plan = body_plan_casts::get_desc(rows, codes, types, x);
+            let plan = body_plan_casts::get_desc(rows, shared, codes, types, x);
             Act::Does(plan)
         }
         Instruction::RefCastDescEq(n, h) => {
-            let plan = body_plan_casts::cast_desc_eq(rows, codes, types, n, h);
+            let plan = body_plan_casts::cast_desc_eq(rows, shared, codes, types, n, h);
             Act::Does(plan)
         }
         Instruction::BrOnCastDescEq(l, m, h, n, k) => {
@@ -204,6 +214,7 @@ pub fn act_of(
             let target = Reference { null: n, heap: k };
             let plan = body_plan_branches::br_on_cast_desc(
                 rows,
+                shared,
                 codes,
                 work,
                 scene,
@@ -220,6 +231,7 @@ pub fn act_of(
             let target = Reference { null: n, heap: k };
             let plan = body_plan_branches::br_on_cast_desc(
                 rows,
+                shared,
                 codes,
                 work,
                 scene,

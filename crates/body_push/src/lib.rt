@@ -3,6 +3,7 @@ use body_state::Values;
 use scope::sizes;
 ghost use Rattle.body_state.specs.State.{resultsAt};
 ghost use Rattle.body_push.specs.Gives.{Long, BackLength, GivesLength, backOf, givenOf, Space, PutBack, GivenTo};
+ghost use Rattle.type_table.specs.View.{bothCodes};
 
 // How many values are put back.
 fn back_length(list: Values, back: bool) -> u32
@@ -19,12 +20,20 @@ fn gives_length(gives: u64) -> u32
 }
 
 // The values of a list, where they are put back.
-fn push_back(codes: &[u16], work: &mut [u32], list: Values, back: bool, base: u32, height: u32)
-    requires { ⌜ Space (now work) base height (backOf (now codes) list back) ⌝ }
-    ensures { λ r. ⌜ PutBack (now (work .entry)) (now (work .exit)) base height (backOf (now (codes .entry)) list back) ⌝ }
+fn push_back(
+    shared: &[u16],
+    codes: &[u16],
+    work: &mut [u32],
+    list: Values,
+    back: bool,
+    base: u32,
+    height: u32,
+)
+    requires { ⌜ Space (now work) base height (backOf (bothCodes (now shared) (now codes)) list back) ⌝ }
+    ensures { λ r. ⌜ PutBack (now (work .entry)) (now (work .exit)) base height (backOf (bothCodes (now (shared .entry)) (now (codes .entry))) list back) ⌝ }
 {
     if back {
-        body_put::push_list(codes, work, list, base, height);
+        body_put::push_list(shared, codes, work, list, base, height);
     }
 }
 
@@ -47,6 +56,7 @@ pub enum Given {
 
 // The values of a list, where they are put back, and then one type.
 pub fn give(
+    shared: &[u16],
     codes: &[u16],
     work: &mut [u32],
     list: Values,
@@ -56,7 +66,7 @@ pub fn give(
     height: u32,
 ) -> Given
     requires { ⌜ Long (now work) ⌝ }
-    ensures { λ r. ⌜ GivenTo (now (work .entry)) (now (work .exit)) base height (givenOf (now (codes .entry)) list back gives) r ⌝ }
+    ensures { λ r. ⌜ GivenTo (now (work .entry)) (now (work .exit)) base height (givenOf (bothCodes (now (shared .entry)) (now (codes .entry))) list back gives) r ⌝ }
 {
     let n = back_length(list, back);
     let g = gives_length(gives);
@@ -65,7 +75,7 @@ pub fn give(
     if sizes::MOST_OPERANDS < base as u64 + top {
         return Given::Full;
     }
-    push_back(codes, work, list, back, base, height);
+    push_back(shared, codes, work, list, back, base, height);
     push_gives(work, gives, base, last as u32);
     Given::Is(top as u32)
 }

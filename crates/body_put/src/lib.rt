@@ -9,6 +9,7 @@ ghost use Rattle.scope.specs.Bodies.{onTop};
 ghost use Rattle.body_state.specs.Layout.{wordBound};
 ghost use Rattle.body_state.specs.State.{operandAtCode, valuesOf};
 ghost use Rattle.body_put.specs.Putting.{Room, Pushed};
+ghost use Rattle.type_table.specs.View.{bothCodes};
 
 // An operand's word on top.
 pub fn push(work: &mut [u32], base: u32, height: u32, o: u64)
@@ -23,16 +24,23 @@ pub fn push(work: &mut [u32], base: u32, height: u32, o: u64)
 }
 
 // The types of a list, the last on top.
-pub fn push_list(codes: &[u16], work: &mut [u32], list: Values, base: u32, height: u32)
-    requires { ⌜ Room (now work) base height (length (valuesOf (now codes) list)) ⌝ }
+pub fn push_list(
+    shared: &[u16],
+    codes: &[u16],
+    work: &mut [u32],
+    list: Values,
+    base: u32,
+    height: u32,
+)
+    requires { ⌜ Room (now work) base height (length (valuesOf (bothCodes (now shared) (now codes)) list)) ⌝ }
     ensures { λ r.
-        let vs = valuesOf (now (codes .entry)) list in
+        let vs = valuesOf (bothCodes (now (shared .entry)) (now (codes .entry))) list in
         ⌜ Pushed (now (work .entry)) (now (work .exit)) base height (height + length vs) (onTop vs) ⌝ }
 {
     let n = body_state::length_of(list);
     let mut i: u32 = 0;
     while i < n {
-        let code = body_state::code_of(codes, list, i);
+        let code = body_state::code_of(shared, codes, list, i);
         push(work, base, height + i, code + KNOWN);
         i = i + 1;
     }

@@ -11,7 +11,7 @@ ghost use mathlib.Core.Bool.{cond};
 ghost use Rattle.scope.specs.Syntax.{nullable, nonNull, defined, exact};
 ghost use Rattle.scope.specs.BodyRules.{value};
 ghost use Rattle.scope.specs.Bodies.{known, fits, nonNullOf, withinOperands};
-ghost use Rattle.type_table.specs.View.{view};
+ghost use Rattle.type_table.specs.View.{view, bothCodes};
 ghost use Rattle.body_state.specs.State.{operandAtCode, stack, contextAt, stateAt, Upright, Stepped};
 ghost use Rattle.body_references.specs.OneMore.{withTop, nonNullDone, descriptorDone};
 
@@ -66,6 +66,7 @@ fn non_null_word(o: u32) -> u32
 // "ref.as_non_null of an unknown is a non-null reference of unknown heap."
 pub fn do_non_null(
     rows: &[u16],
+    shared: &[u16],
     codes: &[u16],
     work: &mut [u32],
     scene: Scene,
@@ -75,7 +76,7 @@ pub fn do_non_null(
     ensures { λ r.
         let before = now (work .entry) in
         let after = now (work .exit) in
-        let context = contextAt (now (rows .entry)) (now (codes .entry)) before scene in
+        let context = contextAt (now (rows .entry)) (bothCodes (now (shared .entry)) (now (codes .entry))) before scene in
         let want = nonNullDone context (stateAt before (scene .locals) check) in
         ⌜ Stepped before after (scene .locals) (check .depth) want r ⌝ }
 {
@@ -85,6 +86,7 @@ pub fn do_non_null(
     let dead = check.dead;
     let taken = body_take::take_one(
         rows,
+        shared,
         codes,
         work,
         body_words::ANY_REFERENCE,
@@ -102,14 +104,14 @@ pub fn do_non_null(
 }
 
 // "(ref y), exact when the operand is below (ref null (exact x))": of the three outcomes that is the first alone.
-fn descriptor_word(rows: &[u16], codes: &[u16], o: u32, x: u16, y: u16) -> u32
+fn descriptor_word(rows: &[u16], shared: &[u16], codes: &[u16], o: u32, x: u16, y: u16) -> u32
     ensures { λ r.
-        let types = view (now (rows .entry)) (now (codes .entry)) in
+        let types = view (now (rows .entry)) (bothCodes (now (shared .entry)) (now (codes .entry))) in
         let exactly = fits types (operandAtCode o) (value (nullable (exact x))) in
         ⌜ operandAtCode r ≡ known (nonNull (cond exactly (exact y) (defined y))) ⌝ }
 {
     let exact_x = 2 + (5 + 2 * (11 + 2 * x as u64));
-    let fit = body_fit::fit_word(rows, codes, o as u64, exact_x);
+    let fit = body_fit::fit_word(rows, shared, codes, o as u64, exact_x);
     let exact_y = 2 + (4 + 2 * (11 + 2 * y as u32));
     let plain_y = 2 + (4 + 2 * (10 + 2 * y as u32));
     match fit {
@@ -122,6 +124,7 @@ fn descriptor_word(rows: &[u16], codes: &[u16], o: u32, x: u16, y: u16) -> u32
 // "ref.get_desc x takes (ref null x)."
 pub fn do_descriptor(
     rows: &[u16],
+    shared: &[u16],
     codes: &[u16],
     work: &mut [u32],
     scene: Scene,
@@ -133,7 +136,7 @@ pub fn do_descriptor(
     ensures { λ r.
         let before = now (work .entry) in
         let after = now (work .exit) in
-        let context = contextAt (now (rows .entry)) (now (codes .entry)) before scene in
+        let context = contextAt (now (rows .entry)) (bothCodes (now (shared .entry)) (now (codes .entry))) before scene in
         let want = descriptorDone x y context (stateAt before (scene .locals) check) in
         ⌜ Stepped before after (scene .locals) (check .depth) want r ⌝ }
 {
@@ -142,11 +145,11 @@ pub fn do_descriptor(
     let height = check.height;
     let dead = check.dead;
     let wanted = 2 + (5 + 2 * (10 + 2 * x as u64));
-    let taken = body_take::take_one(rows, codes, work, wanted, base, height, dead);
+    let taken = body_take::take_one(rows, shared, codes, work, wanted, base, height, dead);
     match taken {
         Take::Fault(number) => Step::Fault(number),
         Take::Took(o, left) => {
-            let word = descriptor_word(rows, codes, o, x, y);
+            let word = descriptor_word(rows, shared, codes, o, x, y);
             put_operand(work, locals, check, left, word)
         }
     }

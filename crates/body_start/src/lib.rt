@@ -8,15 +8,16 @@ ghost use lib.ListN.{length};
 ghost use Rattle.scope.specs.Memory.{flag};
 ghost use Rattle.scope.specs.Bodies.{localsAt};
 ghost use Rattle.body_start.specs.Beginning.{localsFirst, ParametersPut, startsSet, MarkRoom, MarksPut, Starting, StartingAt, StartedAs};
+ghost use Rattle.type_table.specs.View.{bothCodes};
 
 // The types of the n parameters, whose codes stand in the table from `first` on.
-fn put_parameters(codes: &[u16], work: &mut [u32], first: u32, n: u32)
+fn put_parameters(shared: &[u16], codes: &[u16], work: &mut [u32], first: u32, n: u32)
     requires { ⌜ n ≤ length (now work) ⌝ }
-    ensures { λ r. ⌜ ParametersPut (now (codes .entry)) (now (work .entry)) (now (work .exit)) first n ⌝ }
+    ensures { λ r. ⌜ ParametersPut (bothCodes (now (shared .entry)) (now (codes .entry))) (now (work .entry)) (now (work .exit)) first n ⌝ }
 {
     let mut i: u64 = 0;
     while i < n as u64 {
-        let code = lent_u16::word(codes, first as u64 + i);
+        let code = type_table::code_word(shared, codes, first as u64 + i);
         lent_u32::put32(work, i, code);
         i = i + 1;
     }
@@ -61,6 +62,7 @@ fn start_at(
     s: &[u8],
     entries: usize,
     n: u64,
+    shared: &[u16],
     codes: &[u16],
     work: &mut [u32],
     types: u16,
@@ -72,9 +74,9 @@ fn start_at(
         let before = now (work .entry) in
         let after = now (work .exit) in
         let read = localsAt types n params (now (s .entry)) entries in
-        ⌜ StartedAs read (now (s .entry)) (now (codes .entry)) before after first params r ⌝ }
+        ⌜ StartedAs read (now (s .entry)) (bothCodes (now (shared .entry)) (now (codes .entry))) before after first params r ⌝ }
 {
-    put_parameters(codes, work, first, params);
+    put_parameters(shared, codes, work, first, params);
     let read = body_locals::locals_at(s, entries, n, types as u64, work, 0, params as u64);
     match read {
         LocalsRead::Refused(number, place) => Started::Refused(number, place),
@@ -88,6 +90,7 @@ fn start_at(
 // A body's locals, read from its first byte on into scratch that is all zero.
 pub fn start(
     s: &[u8],
+    shared: &[u16],
     codes: &[u16],
     work: &mut [u32],
     types: u16,
@@ -99,11 +102,21 @@ pub fn start(
         let before = now (work .entry) in
         let after = now (work .exit) in
         let read = localsFirst types params (now (s .entry)) in
-        ⌜ StartedAs read (now (s .entry)) (now (codes .entry)) before after first params r ⌝ }
+        ⌜ StartedAs read (now (s .entry)) (bothCodes (now (shared .entry)) (now (codes .entry))) before after first params r ⌝ }
 {
     let counted = number::u32_at(s, 0);
     match counted {
         Natural::Refused(number, place) => Started::Refused(number, place),
-        Natural::Is(n, entries) => start_at(s, entries, n, codes, work, types, first, params),
+        Natural::Is(n, entries) => start_at(
+            s,
+            entries,
+            n,
+            shared,
+            codes,
+            work,
+            types,
+            first,
+            params,
+        ),
     }
 }

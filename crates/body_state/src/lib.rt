@@ -6,6 +6,7 @@ ghost use Prim.Native.Nat.{_+_, _*_};
 ghost use Rattle.lent_u32.specs.Scratch.{Word32At};
 ghost use Rattle.body_state.specs.Layout.{operandsFrom, framesFrom, frameSpan};
 ghost use Rattle.body_state.specs.State.{isSetAt, LocalOf, LengthOf, CodeOf, ResultsOf};
+ghost use Rattle.type_table.specs.View.{bothCodes};
 
 // Where in the scratch the words begin, as specs/Layout.antt has it. A local's type stands at its number; then, by the number
 // of a local, the frame in which it was set, and that frame's stamp; then the operands; then the frames.
@@ -149,13 +150,13 @@ pub fn length_of(values: Values) -> u32
 }
 
 // The code of a list's type at i, where there is one.
-pub fn code_of(codes: &[u16], values: Values, i: u32) -> u64
-    ensures { λ r. ⌜ CodeOf (now (codes .entry)) values i r ⌝ }
+pub fn code_of(shared: &[u16], codes: &[u16], values: Values, i: u32) -> u64
+    ensures { λ r. ⌜ CodeOf (bothCodes (now (shared .entry)) (now (codes .entry))) values i r ⌝ }
 {
     match values {
-        Values::Types(first, _) => lent_u16::word(codes, first as u64 + i as u64),
+        Values::Types(first, _) => type_table::code_word(shared, codes, first as u64 + i as u64),
         Values::Fields(first, _) => {
-            let field = lent_u16::word(codes, first as u64 + i as u64);
+            let field = type_table::code_word(shared, codes, first as u64 + i as u64);
             field / 2
         }
         Values::One(c) => c as u64 % CODE_BOUND,

@@ -8,10 +8,12 @@ ghost use Rattle.scope.specs.Bodies.{judgeInstr};
 ghost use Rattle.body_decoded.specs.Decoded.{instrOf};
 ghost use Rattle.body_state.specs.State.{contextAt, stateAt};
 ghost use Rattle.body_step.specs.Stepping.{Standing, SteppedAt};
+ghost use Rattle.type_table.specs.View.{bothCodes};
 
 // One instruction at the place `at`: its tests, its operands, 28 and 4.
 pub fn step(
     rows: &[u16],
+    shared: &[u16],
     codes: &[u16],
     table: &[u8],
     work: &mut [u32],
@@ -24,14 +26,22 @@ pub fn step(
     ensures { λ r.
         let before = now (work .entry) in
         let after = now (work .exit) in
-        let context = contextAt (now (rows .entry)) (now (codes .entry)) before scene in
+        let context = contextAt (now (rows .entry)) (bothCodes (now (shared .entry)) (now (codes .entry))) before scene in
         let want = judgeInstr context (stateAt before (scene .locals) check) (instrOf i) in
         ⌜ SteppedAt before after (scene .locals) at want r ⌝ }
 {
-    let act = body_plans::act_of(rows, codes, table, work, scene, check, i);
+    let act = body_plans::act_of(rows, shared, codes, table, work, scene, check, i);
     match act {
         Act::Opens(is_loop, w) => body_frames::open(work, scene, check, is_loop, w, at),
-        Act::Closes => body_end::close(rows, codes, work, scene, check),
-        Act::Does(planned) => body_effects::do_planned(rows, codes, work, scene, check, planned),
+        Act::Closes => body_end::close(rows, shared, codes, work, scene, check),
+        Act::Does(planned) => body_effects::do_planned(
+            rows,
+            shared,
+            codes,
+            work,
+            scene,
+            check,
+            planned,
+        ),
     }
 }

@@ -7,7 +7,7 @@ use type_fit::Fit;
 ghost use mathlib.Core.Path.{_≡_};
 ghost use mathlib.Core.List.{[], _∷_};
 ghost use Rattle.scope.specs.Bodies.{takeAll};
-ghost use Rattle.type_table.specs.View.{view};
+ghost use Rattle.type_table.specs.View.{view, bothCodes};
 ghost use Rattle.body_state.specs.State.{wantedAtCode, stack};
 ghost use Rattle.body_take.specs.Took.{tookOf};
 
@@ -20,6 +20,7 @@ pub enum Take {
 // One operand from the top: 31 where only null is wrong, 20 where it is missing or does not fit.
 pub fn take_one(
     rows: &[u16],
+    shared: &[u16],
     codes: &[u16],
     work: &[u32],
     w: u64,
@@ -28,7 +29,7 @@ pub fn take_one(
     dead: bool,
 ) -> Take
     ensures { λ r.
-        let types = view (now (rows .entry)) (now (codes .entry)) in
+        let types = view (now (rows .entry)) (bothCodes (now (shared .entry)) (now (codes .entry))) in
         let words = now (work .entry) in
         ⌜ tookOf words base r ≡ takeAll types dead (wantedAtCode w ∷ []) (stack words base height) ⌝ }
 {
@@ -40,7 +41,7 @@ pub fn take_one(
     }
     let left = height - 1;
     let o = body_state::operand_word(work, base, left);
-    let fit = body_fit::fit_word(rows, codes, o, w);
+    let fit = body_fit::fit_word(rows, shared, codes, o, w);
     match fit {
         Fit::Fits => Take::Took(o as u32, left),
         Fit::ButForNull => Take::Fault(refusals::ONLY_NULL),

@@ -19,10 +19,13 @@ same-length-2 c = search (lent-exits, needs)
 same-length-3 : tie.Need-same-length-3
 same-length-3 c = search (lent-exits, needs)
 
+same-length-4 : tie.Need-same-length-4
+same-length-4 c = search (lent-exits, needs)
+
 returns : tie.Need-returns
 returns c = search (lent-exits, needs)
 
 pub judge-body-spec : {M : Type 1} → statement M
 judge-body-spec =
     tie.close
-    (tie.spec judge-enough-requires clear-requires same-length same-length-2 same-length-3 returns)
+    (tie.spec judge-enough-requires clear-requires same-length same-length-2 same-length-3 same-length-4 returns)

@@ -28,8 +28,8 @@ enum-told c = search (end-exits, needs)
 enum-known-given : tie.Need-enum-known-given
 enum-known-given c = search (end-exits, needs)
 
-sub-t23 : tie.Need-sub-t23
-sub-t23 c = search (end-exits, needs)
+sub-t24 : tie.Need-sub-t24
+sub-t24 c = search (end-exits, needs)
 
 same-length : tie.Need-same-length
 same-length c = search (end-exits, needs)
@@ -55,7 +55,7 @@ step-out-spec =
     give-requires
     enum-told
     enum-known-given
-    sub-t23
+    sub-t24
     same-length
     returns
     same-length-2

@@ -3,12 +3,13 @@ use borrow.Author.Needs.{needs}
 use Rattle.body_loop.proofs.Looping.{Going, loop-exits, going-finished}
 use Rattle.body_loop.proofs.judge_from.Statement.{statement}
 use Rattle.body_loop.proofs.judge_from.Tie as tie
+use Rattle.type_table.specs.View.{bothCodes}
 
 abbrev Inv-loop : tie.InvT-loop
-Inv-loop rows codes table work₀ scene s at next₀ count₀ left₀ check₀ work next count left check = Going rows codes work₀ scene s at work next count left check
+Inv-loop rows shared codes table work₀ scene s at next₀ count₀ left₀ check₀ work next count left check = Going rows (bothCodes shared codes) work₀ scene s at work next count left check
 
 abbrev μ-loop : tie.MeasureT-loop
-μ-loop rows codes table work₀ scene s at next₀ count₀ left₀ check₀ work next count left check = left
+μ-loop rows shared codes table work₀ scene s at next₀ count₀ left₀ check₀ work next count left check = left
 
 loop-holds : tie.Need-loop-holds Inv-loop μ-loop
 loop-holds c = search (loop-exits, needs)
@@ -43,8 +44,8 @@ returns-2 c = search (loop-exits, needs)
 enum-told : tie.Need-enum-told Inv-loop μ-loop
 enum-told c = search (loop-exits, needs)
 
-add-t24 : tie.Need-add-t24 Inv-loop μ-loop
-add-t24 c = search (loop-exits, needs)
+add-t25 : tie.Need-add-t25 Inv-loop μ-loop
+add-t25 c = search (loop-exits, needs)
 
 same-length-3 : tie.Need-same-length-3 Inv-loop μ-loop
 same-length-3 c = search (loop-exits, needs)
@@ -90,7 +91,7 @@ judge-from-spec =
     same-length-2
     returns-2
     enum-told
-    add-t24
+    add-t25
     same-length-3
     returns-3
     enum-known-stepped-2

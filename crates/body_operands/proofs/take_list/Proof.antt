@@ -1,16 +1,16 @@
 -- `body_operands::take_list` meets its contract: each turn takes the last of the types that are not taken yet.
 use borrow.Author.Needs.{needs}
-use Rattle.type_table.specs.View.{view}
+use Rattle.type_table.specs.View.{view, bothCodes}
 use Rattle.body_state.specs.State.{valuesOf}
 use Rattle.body_operands.proofs.Several.{FromTop, several-exits}
 use Rattle.body_operands.proofs.take_list.Statement.{statement}
 use Rattle.body_operands.proofs.take_list.Tie as tie
 
 abbrev Inv-loop : tie.InvT-loop
-Inv-loop rows codes work list base height dead i₀ left₀ i left = FromTop (view rows codes) dead work base height (valuesOf codes list) left i
+Inv-loop rows shared codes work list base height dead i₀ left₀ i left = FromTop (view rows (bothCodes shared codes)) dead work base height (valuesOf (bothCodes shared codes) list) left i
 
 abbrev μ-loop : tie.MeasureT-loop
-μ-loop rows codes work list base height dead i₀ left₀ i left = i
+μ-loop rows shared codes work list base height dead i₀ left₀ i left = i
 
 length-of-requires : tie.Need-length-of-requires Inv-loop μ-loop
 length-of-requires c κs = search (several-exits, needs)

@@ -13,17 +13,17 @@ returns c = search (last-exits, needs)
 sub-before : tie.Need-sub-before
 sub-before c = search (last-exits, needs)
 
-cast-word : tie.Need-cast-word
-cast-word c = search (last-exits, needs)
+cast-code-word : tie.Need-cast-code-word
+cast-code-word c = search (last-exits, needs)
 
-cast-word-2 : tie.Need-cast-word-2
-cast-word-2 c = search (last-exits, needs)
+cast-code-word-2 : tie.Need-cast-code-word-2
+cast-code-word-2 c = search (last-exits, needs)
 
-add-word : tie.Need-add-word
-add-word c = search (last-exits, needs)
+add-code-word : tie.Need-add-code-word
+add-code-word c = search (last-exits, needs)
 
-word-requires : tie.Need-word-requires
-word-requires c κs = search (last-exits, needs)
+code-word-requires : tie.Need-code-word-requires
+code-word-requires c κs = search (last-exits, needs)
 
 enum-known-values-2 : tie.Need-enum-known-values-2
 enum-known-values-2 c = search (last-exits, needs)
@@ -34,17 +34,17 @@ returns-2 c = search (last-exits, needs)
 sub-before-2 : tie.Need-sub-before-2
 sub-before-2 c = search (last-exits, needs)
 
-cast-word-3 : tie.Need-cast-word-3
-cast-word-3 c = search (last-exits, needs)
+cast-code-word-3 : tie.Need-cast-code-word-3
+cast-code-word-3 c = search (last-exits, needs)
 
-cast-word-4 : tie.Need-cast-word-4
-cast-word-4 c = search (last-exits, needs)
+cast-code-word-4 : tie.Need-cast-code-word-4
+cast-code-word-4 c = search (last-exits, needs)
 
-add-word-2 : tie.Need-add-word-2
-add-word-2 c = search (last-exits, needs)
+add-code-word-2 : tie.Need-add-code-word-2
+add-code-word-2 c = search (last-exits, needs)
 
-word-requires-2 : tie.Need-word-requires-2
-word-requires-2 c κs = search (last-exits, needs)
+code-word-requires-2 : tie.Need-code-word-requires-2
+code-word-requires-2 c κs = search (last-exits, needs)
 
 enum-known-values-3 : tie.Need-enum-known-values-3
 enum-known-values-3 c = search (last-exits, needs)
@@ -68,17 +68,17 @@ split-last-spec =
     enum-known-values
     returns
     sub-before
-    cast-word
-    cast-word-2
-    add-word
-    word-requires
+    cast-code-word
+    cast-code-word-2
+    add-code-word
+    code-word-requires
     enum-known-values-2
     returns-2
     sub-before-2
-    cast-word-3
-    cast-word-4
-    add-word-2
-    word-requires-2
+    cast-code-word-3
+    cast-code-word-4
+    add-code-word-2
+    code-word-requires-2
     enum-known-values-3
     cast-code
     returns-3

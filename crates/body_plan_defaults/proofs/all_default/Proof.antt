@@ -3,18 +3,19 @@ use borrow.Author.Needs.{needs}
 use Rattle.body_plan_defaults.proofs.Defaults.{Walk, default-exits}
 use Rattle.body_plan_defaults.proofs.all_default.Statement.{statement}
 use Rattle.body_plan_defaults.proofs.all_default.Tie as tie
+use Rattle.type_table.specs.View.{bothCodes}
 
 abbrev Inv-loop : tie.InvT-loop
-Inv-loop codes first n fields at₀ left₀ at left = Walk fields codes first n at left
+Inv-loop shared codes first n fields at₀ left₀ at left = Walk fields (bothCodes shared codes) first n at left
 
 abbrev μ-loop : tie.MeasureT-loop
-μ-loop codes first n fields at₀ left₀ at left = left
+μ-loop shared codes first n fields at₀ left₀ at left = left
 
 loop-holds : tie.Need-loop-holds Inv-loop μ-loop
 loop-holds c = search (default-exits, needs)
 
-word-requires : tie.Need-word-requires Inv-loop μ-loop
-word-requires c κs = search (default-exits, needs)
+code-word-requires : tie.Need-code-word-requires Inv-loop μ-loop
+code-word-requires c κs = search (default-exits, needs)
 
 type-of-requires : tie.Need-type-of-requires Inv-loop μ-loop
 type-of-requires c κs = search (default-exits, needs)
@@ -47,7 +48,7 @@ all-default-spec =
     Inv-loop
     μ-loop
     loop-holds
-    word-requires
+    code-word-requires
     type-of-requires
     has-default-requires
     returns

@@ -16,14 +16,14 @@ enum-known-found-2 c = search (found-exits, needs)
 cast-if1 : tie.Need-cast-if1
 cast-if1 c = search (found-exits, needs)
 
-cast-word : tie.Need-cast-word
-cast-word c = search (found-exits, needs)
+cast-code-word : tie.Need-cast-code-word
+cast-code-word c = search (found-exits, needs)
 
-add-word : tie.Need-add-word
-add-word c = search (found-exits, needs)
+add-code-word : tie.Need-add-code-word
+add-code-word c = search (found-exits, needs)
 
-word-requires : tie.Need-word-requires
-word-requires c κs = search (found-exits, needs)
+code-word-requires : tie.Need-code-word-requires
+code-word-requires c κs = search (found-exits, needs)
 
 returns : tie.Need-returns
 returns c = search (found-exits, needs)
@@ -42,9 +42,9 @@ field-of-spec =
     enum-known-found
     enum-known-found-2
     cast-if1
-    cast-word
-    add-word
-    word-requires
+    cast-code-word
+    add-code-word
+    code-word-requires
     returns
     returns-2
     returns-3)

@@ -37,8 +37,8 @@ cast-push-gives c = search (give-exits, needs)
 push-gives-requires : tie.Need-push-gives-requires
 push-gives-requires c κs = search space-gives
 
-cast-t20 : tie.Need-cast-t20
-cast-t20 c = search (give-exits, needs)
+cast-t21 : tie.Need-cast-t21
+cast-t21 c = search (give-exits, needs)
 
 same-length : tie.Need-same-length
 same-length c = search (give-exits, needs)
@@ -61,6 +61,6 @@ give-spec =
     push-back-requires
     cast-push-gives
     push-gives-requires
-    cast-t20
+    cast-t21
     same-length
     returns-2)

@@ -5,12 +5,13 @@ use Rattle.body_state.specs.State.{valuesOf}
 use Rattle.body_put.proofs.OnTop.{FirstOn, on-exits}
 use Rattle.body_put.proofs.push_list.Statement.{statement}
 use Rattle.body_put.proofs.push_list.Tie as tie
+use Rattle.type_table.specs.View.{bothCodes}
 
 abbrev Inv-loop : tie.InvT-loop
-Inv-loop codes work₀ list base height n i₀ work i = FirstOn work₀ work base height (valuesOf codes list) n i
+Inv-loop shared codes work₀ list base height n i₀ work i = FirstOn work₀ work base height (valuesOf (bothCodes shared codes) list) n i
 
 abbrev μ-loop : tie.MeasureT-loop
-μ-loop codes work₀ list base height n i₀ work i = n - i
+μ-loop shared codes work₀ list base height n i₀ work i = n - i
 
 length-of-requires : tie.Need-length-of-requires Inv-loop μ-loop
 length-of-requires c κs = search (on-exits, needs)

@@ -4,21 +4,22 @@ use borrow.Author.Needs.{needs}
 use Rattle.body_start.proofs.Parameters.{SoFar, parameter-exits}
 use Rattle.body_start.proofs.put_parameters.Statement.{statement}
 use Rattle.body_start.proofs.put_parameters.Tie as tie
+use Rattle.type_table.specs.View.{bothCodes}
 
 abbrev Inv-loop : tie.InvT-loop
-Inv-loop codes work₀ first n i₀ work i = SoFar codes work₀ work first n i
+Inv-loop shared codes work₀ first n i₀ work i = SoFar (bothCodes shared codes) work₀ work first n i
 
 abbrev μ-loop : tie.MeasureT-loop
-μ-loop codes work₀ first n i₀ work i = n - i
+μ-loop shared codes work₀ first n i₀ work i = n - i
 
 loop-holds : tie.Need-loop-holds Inv-loop μ-loop
 loop-holds c = search (parameter-exits, needs)
 
-add-word : tie.Need-add-word Inv-loop μ-loop
-add-word c = search (parameter-exits, needs)
+add-code-word : tie.Need-add-code-word Inv-loop μ-loop
+add-code-word c = search (parameter-exits, needs)
 
-word-requires : tie.Need-word-requires Inv-loop μ-loop
-word-requires c κs = search (parameter-exits, needs)
+code-word-requires : tie.Need-code-word-requires Inv-loop μ-loop
+code-word-requires c κs = search (parameter-exits, needs)
 
 put32-requires : tie.Need-put32-requires Inv-loop μ-loop
 put32-requires c κs = search (parameter-exits, needs)
@@ -45,8 +46,8 @@ put-parameters-spec =
     Inv-loop
     μ-loop
     loop-holds
-    add-word
-    word-requires
+    add-code-word
+    code-word-requires
     put32-requires
     add-i
     loop-less

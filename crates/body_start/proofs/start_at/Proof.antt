@@ -19,8 +19,8 @@ enum-known-read-2 c = search (start-at-exits, needs)
 mark-start-requires : tie.Need-mark-start-requires
 mark-start-requires c κs = record { room = search needs; few = search (start-at-exits, needs) }
 
-cast-t25 : tie.Need-cast-t25
-cast-t25 c = search (start-at-exits, needs)
+cast-t26 : tie.Need-cast-t26
+cast-t26 c = search (start-at-exits, needs)
 
 same-length : tie.Need-same-length
 same-length c = search (start-at-exits, needs)
@@ -43,7 +43,7 @@ start-at-spec =
     enum-known-read
     enum-known-read-2
     mark-start-requires
-    cast-t25
+    cast-t26
     same-length
     returns
     same-length-2

@@ -7,26 +7,26 @@ use Rattle.body_state.proofs.code_of.Tie as tie
 enum-known-values : tie.Need-enum-known-values
 enum-known-values c = search (answer-exits, needs)
 
-cast-word : tie.Need-cast-word
-cast-word c = search (answer-exits, needs)
+cast-code-word : tie.Need-cast-code-word
+cast-code-word c = search (answer-exits, needs)
 
-add-word : tie.Need-add-word
-add-word c = search (answer-exits, needs)
+add-code-word : tie.Need-add-code-word
+add-code-word c = search (answer-exits, needs)
 
-word-requires : tie.Need-word-requires
-word-requires c κs = search (answer-exits, needs)
+code-word-requires : tie.Need-code-word-requires
+code-word-requires c κs = search (answer-exits, needs)
 
 enum-known-values-2 : tie.Need-enum-known-values-2
 enum-known-values-2 c = search (answer-exits, needs)
 
-cast-word-2 : tie.Need-cast-word-2
-cast-word-2 c = search (answer-exits, needs)
+cast-code-word-2 : tie.Need-cast-code-word-2
+cast-code-word-2 c = search (answer-exits, needs)
 
-add-word-2 : tie.Need-add-word-2
-add-word-2 c = search (answer-exits, needs)
+add-code-word-2 : tie.Need-add-code-word-2
+add-code-word-2 c = search (answer-exits, needs)
 
-word-requires-2 : tie.Need-word-requires-2
-word-requires-2 c κs = search (answer-exits, needs)
+code-word-requires-2 : tie.Need-code-word-requires-2
+code-word-requires-2 c κs = search (answer-exits, needs)
 
 enum-known-values-3 : tie.Need-enum-known-values-3
 enum-known-values-3 c = search (answer-exits, needs)
@@ -48,13 +48,13 @@ code-of-spec =
     tie.close
     (tie.spec
     enum-known-values
-    cast-word
-    add-word
-    word-requires
+    cast-code-word
+    add-code-word
+    code-word-requires
     enum-known-values-2
-    cast-word-2
-    add-word-2
-    word-requires-2
+    cast-code-word-2
+    add-code-word-2
+    code-word-requires-2
     enum-known-values-3
     cast-result
     returns

@@ -4,8 +4,8 @@ use Rattle.body_take.proofs.OneTaken.{one-exits}
 use Rattle.body_take.proofs.take_one.Statement.{statement}
 use Rattle.body_take.proofs.take_one.Tie as tie
 
-cast-t13 : tie.Need-cast-t13
-cast-t13 c = search (one-exits, needs)
+cast-t14 : tie.Need-cast-t14
+cast-t14 c = search (one-exits, needs)
 
 returns : tie.Need-returns
 returns c = search (one-exits, needs)
@@ -25,8 +25,8 @@ fit-word-requires c κs = search (one-exits, needs)
 enum-told : tie.Need-enum-told
 enum-told c = search (one-exits, needs)
 
-cast-t15 : tie.Need-cast-t15
-cast-t15 c = search (one-exits, needs)
+cast-t16 : tie.Need-cast-t16
+cast-t16 c = search (one-exits, needs)
 
 enum-told-2 : tie.Need-enum-told-2
 enum-told-2 c = search (one-exits, needs)
@@ -47,14 +47,14 @@ pub take-one-spec : {M : Type 1} → statement M
 take-one-spec =
     tie.close
     (tie.spec
-    cast-t13
+    cast-t14
     returns
     returns-2
     sub-left
     operand-word-requires
     fit-word-requires
     enum-told
-    cast-t15
+    cast-t16
     enum-told-2
     enum-told-3
     returns-3
