@@ -16,8 +16,8 @@ stateOf counts objects cells locals operands blocks =
     record { counts = counts; objects = objects; cells = cells; locals = locals; operands = operands; blocks = blocks }
 
 -- with the scratch, all that is lent to a run
-abbrev pub memory : List ℕ → List ℕ → List ℕ → List ℕ → StateWords → RunMemory
-memory rows codes work ends state = record { rows = rows; codes = codes; work = work; ends = ends; state = state }
+abbrev pub memory : List ℕ → List ℕ → List ℕ → List ℕ → List ℕ → StateWords → RunMemory
+memory rows shared codes work ends state = record { rows = rows; shared = shared; codes = codes; work = work; ends = ends; state = state }
 
 pub record Cleared (state state′ : StateWords) : Type 0 where
   pub counts : state′ .counts ≡ wiped (state .counts)

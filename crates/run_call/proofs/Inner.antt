@@ -4,6 +4,7 @@ use mathlib.Core.Path.{_≡_, sym, ap, _∙_}
 use mathlib.Core.List.{List}
 use native.Mathlib.Omega.{arith}
 use lib.ListN.{length}
+use Rattle.scope.specs.declared.Place.{Place}
 use Rattle.scope.specs.declared.Ran.{Ran}
 use Rattle.scope.specs.declared.Ran
 use Rattle.scope.specs.Layout.{blockSpan}
@@ -118,7 +119,7 @@ module _ {s rows codes work ends : List ℕ} {count : ℕ} {c o e l p b : List �
 module _ {s : List ℕ} {budget : ℕ} {rows codes work ends : List ℕ} {c o e l p b : List ℕ} {prepared : Prepared}
     (may : Waiting s budget rows codes work ends (stateOf c o e l p b) prepared) where
   pub refusal-told :
-      {n place : ℕ} → prepared ≡ Prepared.the-variants.Refused n place → {c′ o′ e′ l′ p′ b′ : List ℕ}
+      {n : ℕ} {place : Place} → prepared ≡ Prepared.the-variants.Refused n place → {c′ o′ e′ l′ p′ b′ : List ℕ}
       → c′ ≡ c → o′ ≡ o → e′ ≡ e → l′ ≡ l → p′ ≡ p → b′ ≡ b
       → RunPrepared s budget rows codes work ends (stateOf c o e l p b) (stateOf c′ o′ e′ l′ p′ b′) prepared (Ran.the-variants.Refused n place)
   refusal-told {n} {place} is f g h i j k =

@@ -6,6 +6,7 @@ use mathlib.Core.Bool.{Bool, true, _&&_}
 use mathlib.Core.List.{List, _++_}
 use lib.ListN.{length, replicate}
 use borrow.Author.Tests.{leb-true}
+use Rattle.scope.specs.declared.Place.{Place}
 use Rattle.scope.specs.declared.Ran.{Ran}
 use Rattle.scope.specs.declared.Ran
 use Rattle.scope.specs.Layout.{countsSize, objectsSize, cellsSize, localsSize, operandsSize, blocksSize}
@@ -31,7 +32,7 @@ filled-long m m′ ws e = ap (λ (n : ℕ). ws ++ replicate (n - length ws) 0) e
 -- a refusal
 
 pub refused-tried :
-    {s : List ℕ} {want : Judged Trial} {n p : ℕ} {c o e l q b c′ o′ e′ l′ q′ b′ : List ℕ} → want ≡ rejected n p → Zeroed (stateOf c o e l q b)
+    {s : List ℕ} {want : Judged Trial} {n : ℕ} {p : Place} {c o e l q b c′ o′ e′ l′ q′ b′ : List ℕ} → want ≡ rejected n p → Zeroed (stateOf c o e l q b)
     → c′ ≡ c → o′ ≡ o → e′ ≡ e → l′ ≡ l → q′ ≡ q → b′ ≡ b
     → Tried s want (stateOf c o e l q b) (stateOf c′ o′ e′ l′ q′ b′) (Ran.the-variants.Refused n p)
 refused-tried w z ce oe ee le qe be =
@@ -86,38 +87,39 @@ after-wiped words m {m₁} {j} e f = ap (lentAfter words m₁) f ∙ go j
 
 module _ {state state₁ : StateWords} (z : Cleared state state₁) where
   call-cleared :
-      (section s : List ℕ) (x budget : ℕ) (rows codes work ends : List ℕ)
-      → runCall section s x budget (memory rows codes work ends state₁) ≡ runCall section s x budget (memory rows codes work ends state)
-  call-cleared section s x budget rows codes work ends =
+      (library section s : List ℕ) (x budget : ℕ) (rows shared codes work ends : List ℕ)
+      → runCall library section s x budget (memory rows shared codes work ends state₁) ≡ runCall library section s x budget (memory rows shared codes work ends state)
+  call-cleared library section s x budget rows shared codes work ends =
       rw (wiped-long (state .counts) (z .counts), wiped-long (state .objects) (z .objects), wiped-long (state .cells) (z .cells), wiped-long (state .locals) (z .locals), wiped-long (state .operands) (z .operands), wiped-long (state .blocks) (z .blocks))
 
 -- the state is zero and, where a run is due, has room
 pub may-wait :
-    {state state₁ : StateWords} → Cleared state state₁ → {enough : Bool} → enough ≡ stateLent state₁ → {section s : List ℕ} {x budget : ℕ} {scratch : Bool}
-    {rows₁ codes₁ work₁ ends₁ : List ℕ} {prepared : Prepared} → PreparedFor section s x budget scratch enough rows₁ codes₁ work₁ ends₁ prepared
+    {state state₁ : StateWords} → Cleared state state₁ → {enough : Bool} → enough ≡ stateLent state₁ → {library section s : List ℕ} {x budget : ℕ} {scratch : Bool}
+    {rows₁ codes₁ work₁ ends₁ : List ℕ} {prepared : Prepared} → PreparedFor library section s x budget scratch enough rows₁ codes₁ work₁ ends₁ prepared
     → Waiting s budget rows₁ codes₁ work₁ ends₁ state₁ prepared
-may-wait {state₁ = state₁} z {enough} f {section} {s} {x} {budget} {scratch} p =
+may-wait {state₁ = state₁} z {enough} f {library} {section} {s} {x} {budget} {scratch} p =
     record {
-      want = lentEnough (scratch && enough) (trialRun section s x budget);
+      want = lentEnough (scratch && enough) (trialRun library section s x budget);
       prepares = p .is;
       zero = cleared-zeroed z;
       room = λ count results next e. room-of state₁ (sym f ∙ p .room count results next e);
     }
 
-module _ {state state₁ : StateWords} (z : Cleared state state₁) {enough : Bool} (f : enough ≡ stateLent state₁) {section s : List ℕ} {x budget : ℕ}
-    {rows codes work ends rows₁ codes₁ work₁ ends₁ : List ℕ} {prepared : Prepared}
-    (p : PreparedFor section s x budget (scratchLent rows codes work ends) enough rows₁ codes₁ work₁ ends₁ prepared) where
+module _ {state state₁ : StateWords} (z : Cleared state state₁) {enough : Bool} (f : enough ≡ stateLent state₁) {library section s : List ℕ} {x budget : ℕ}
+    {rows shared codes work ends rows₁ codes₁ work₁ ends₁ : List ℕ} {prepared : Prepared}
+    (p : PreparedFor library section s x budget (scratchLent rows shared codes work ends) enough rows₁ codes₁ work₁ ends₁ prepared) where
   pub tried-whole :
       {state₂ : StateWords} {r : Ran} → RunPrepared s budget rows₁ codes₁ work₁ ends₁ state₁ state₂ prepared r
-      → {rows₂ codes₂ work₂ ends₂ rows₃ codes₃ work₃ ends₃ : List ℕ} → ScratchCleared rows₂ codes₂ work₂ ends₂ rows₃ codes₃ work₃ ends₃
-      → length rows₂ ≡ length rows → length codes₂ ≡ length codes → length work₂ ≡ length work → length ends₂ ≡ length ends
-      → RunTried section s x budget (memory rows codes work ends state) (memory rows₃ codes₃ work₃ ends₃ state₂) r
-  tried-whole ran w re ce we ee =
-      let same = call-cleared z section s x budget rows codes work ends in
-      let t : Tried s (runCall section s x budget (memory rows codes work ends state₁)) state₁ _ _ = ran .is _ (rw f at (p .is)) in
+      → {rows₂ shared₂ codes₂ work₂ ends₂ rows₃ shared₃ codes₃ work₃ ends₃ : List ℕ} → ScratchCleared rows₂ shared₂ codes₂ work₂ ends₂ rows₃ shared₃ codes₃ work₃ ends₃
+      → length rows₂ ≡ length rows → length shared₂ ≡ length shared → length codes₂ ≡ length codes → length work₂ ≡ length work → length ends₂ ≡ length ends
+      → RunTried library section s x budget (memory rows shared codes work ends state) (memory rows₃ shared₃ codes₃ work₃ ends₃ state₂) r
+  tried-whole ran w re he ce we ee =
+      let same = call-cleared z library section s x budget rows shared codes work ends in
+      let t : Tried s (runCall library section s x budget (memory rows shared codes work ends state₁)) state₁ _ _ = ran .is _ (rw f at (p .is)) in
       record {
         answer = t .answer ∙ ap (ranOf s) same;
         rowsAfter = w .rowsZero ∙ ap (λ (n : ℕ). replicate n 0) re;
+        sharedAfter = w .sharedZero ∙ ap (λ (n : ℕ). replicate n 0) he;
         codesAfter = w .codesZero ∙ ap (λ (n : ℕ). replicate n 0) ce;
         workAfter = w .workZero ∙ ap (λ (n : ℕ). replicate n 0) we;
         endsAfter = w .endsZero ∙ ap (λ (n : ℕ). replicate n 0) ee;

@@ -44,12 +44,12 @@ pub trial-is :
     → trialOf b budget .ending ≡ run (programAt rows codes results) budget 0 (machineAt s count (words objects cells locals₁ operands blocks) (startStage next))
 trial-is t f l a objects cells operands blocks budget = ap₂ (λ (p : Program) (m : Machine). run p budget 0 m) (program-is t f) (start-is l a objects cells operands blocks)
 
-module _ {section s : List ℕ} {x : ℕ} {b : Body} (runs : Runs section s x b) {rows codes : List ℕ} {types first n second results : ℕ}
+module _ {library section s : List ℕ} {x : ℕ} {b : Body} (runs : Runs library section s x b) {rows codes : List ℕ} {types first n second results : ℕ}
     (t : TypesAgain b rows codes types) (f : FunctionAgain b codes first n second results) {work : List ℕ} {count next : ℕ}
     (l : LocalsAgain b s work count next) {locals locals₁ : List ℕ} (a : Started work locals locals₁ count) {ends : List ℕ} (e : EndsOf s ends next)
     {objects cells operands blocks : List ℕ} where
   start-orderly :
-      Parts section s x b → objectsSize ≤ length objects → cellsSize ≤ length cells → localsSize ≤ length locals₁ → operandsSize ≤ length operands → blocksSize ≤ length blocks
+      Parts library section s x b → objectsSize ≤ length objects → cellsSize ≤ length cells → localsSize ≤ length locals₁ → operandsSize ≤ length operands → blocksSize ≤ length blocks
       → Orderly s ends count (words objects cells locals₁ operands blocks) (startStage next)
   unfolding lower
   start-orderly p o c h v k =

@@ -45,12 +45,19 @@ pub fn tell(ended: Ending, first: usize) -> Ran
 }
 
 // Zero in every word of the scratch.
-pub fn clear_scratch(rows: &mut [u16], codes: &mut [u16], used: &mut [u32], ends: &mut [u16])
-    ensures { λ r. let rows′ = now (rows .exit) in let codes′ = now (codes .exit) in let work′ = now (used .exit) in
+pub fn clear_scratch(
+    rows: &mut [u16],
+    shared: &mut [u16],
+    codes: &mut [u16],
+    used: &mut [u32],
+    ends: &mut [u16],
+)
+    ensures { λ r. let rows′ = now (rows .exit) in let shared′ = now (shared .exit) in let codes′ = now (codes .exit) in let work′ = now (used .exit) in
         let ends′ = now (ends .exit) in
-        ⌜ ScratchCleared (now (rows .entry)) (now (codes .entry)) (now (used .entry)) (now (ends .entry)) rows′ codes′ work′ ends′ ⌝ }
+        ⌜ ScratchCleared (now (rows .entry)) (now (shared .entry)) (now (codes .entry)) (now (used .entry)) (now (ends .entry)) rows′ shared′ codes′ work′ ends′ ⌝ }
 {
     lent_u16::wipe(rows);
+    lent_u16::wipe(shared);
     lent_u16::wipe(codes);
     lent_u32::wipe32(used);
     lent_u16::wipe(ends);

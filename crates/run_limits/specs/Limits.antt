@@ -5,5 +5,5 @@ use mathlib.Core.List.{List}
 use Rattle.scope.specs.Layout.{workSize, endsSize}
 use Rattle.scope.specs.Answers.{tableLent, holds}
 
-abbrev pub scratchLent : List ℕ → List ℕ → List ℕ → List ℕ → Bool
-scratchLent rows codes work ends = tableLent rows codes && holds workSize work && holds endsSize ends
+abbrev pub scratchLent : List ℕ → List ℕ → List ℕ → List ℕ → List ℕ → Bool
+scratchLent rows shared codes work ends = tableLent rows shared codes && holds workSize work && holds endsSize ends

@@ -7,13 +7,16 @@ ghost use Rattle.scope.specs.Sizes.{mostBudget};
 ghost use Rattle.run_limits.specs.Limits.{scratchLent};
 
 // Whether each buffer of the scratch has its one size.
-pub fn scratch_enough(rows: &[u16], codes: &[u16], work: &[u32], ends: &[u16]) -> bool
-    ensures { λ r. ⌜ r ≡ scratchLent (now (rows .entry)) (now (codes .entry)) (now (work .entry)) (now (ends .entry)) ⌝ }
+pub fn scratch_enough(
+    rows: &[u16],
+    shared: &[u16],
+    codes: &[u16],
+    work: &[u32],
+    ends: &[u16],
+) -> bool
+    ensures { λ r. ⌜ r ≡ scratchLent (now (rows .entry)) (now (shared .entry)) (now (codes .entry)) (now (work .entry)) (now (ends .entry)) ⌝ }
 {
-    if rows.len() < sizes::ROWS {
-        return false;
-    }
-    if codes.len() < sizes::CODES {
+    if !lent_limits::table_enough(rows, shared, codes) {
         return false;
     }
     if work.len() < sizes::WORK {

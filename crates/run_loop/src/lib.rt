@@ -7,11 +7,13 @@ use run_turn::Turn;
 ghost use Rattle.run_state.specs.Machines.{words};
 ghost use Rattle.run_step.specs.Carried.{StepOf};
 ghost use Rattle.run_loop.specs.Runs.{Readable, Runnable, RanFrom};
+ghost use Rattle.type_table.specs.View.{bothCodes};
 
 // The next step: of the instruction at the stage's place.
 fn step_next(
     s: &[u8],
     rows: &[u16],
+    shared: &[u16],
     codes: &[u16],
     ends: &[u16],
     objects: &mut [u16],
@@ -27,7 +29,7 @@ fn step_next(
     ensures { λ r.
         let before = words (now (objects .entry)) (now (cells .entry)) (now (locals .entry)) (now (operands .entry)) (now (blocks .entry)) in
         let after = words (now (objects .exit)) (now (cells .exit)) (now (locals .exit)) (now (operands .exit)) (now (blocks .exit)) in
-        ⌜ StepOf (now (s .entry)) (now (rows .entry)) (now (codes .entry)) (now (ends .entry)) count before after stage results r ⌝ }
+        ⌜ StepOf (now (s .entry)) (now (rows .entry)) (bothCodes (now (shared .entry)) (now (codes .entry))) (now (ends .entry)) count before after stage results r ⌝ }
 {
     let place = stage.place;
     let read = body_instruction::instruction_at(s, place);
@@ -36,6 +38,7 @@ fn step_next(
         InstructionRead::Is(i, next) => run_step::step(
             s,
             rows,
+            shared,
             codes,
             ends,
             objects,
@@ -56,6 +59,7 @@ fn step_next(
 pub fn run_from(
     s: &[u8],
     rows: &[u16],
+    shared: &[u16],
     codes: &[u16],
     ends: &[u16],
     objects: &mut [u16],
@@ -68,11 +72,11 @@ pub fn run_from(
     first: usize,
     budget: u64,
 ) -> Ending
-    requires { ⌜ Runnable (now s) (now rows) (now codes) (now ends) count (words (now objects) (now cells) (now locals) (now operands) (now blocks)) results first ⌝ }
+    requires { ⌜ Runnable (now s) (now rows) (bothCodes (now shared) (now codes)) (now ends) count (words (now objects) (now cells) (now locals) (now operands) (now blocks)) results first ⌝ }
     ensures { λ r.
         let before = words (now (objects .entry)) (now (cells .entry)) (now (locals .entry)) (now (operands .entry)) (now (blocks .entry)) in
         let after = words (now (objects .exit)) (now (cells .exit)) (now (locals .exit)) (now (operands .exit)) (now (blocks .exit)) in
-        ⌜ RanFrom (now (s .entry)) (now (rows .entry)) (now (codes .entry)) count before after results first budget r ⌝ }
+        ⌜ RanFrom (now (s .entry)) (now (rows .entry)) (bothCodes (now (shared .entry)) (now (codes .entry))) count before after results first budget r ⌝ }
 {
     let mut stage = run_state::start(first);
     let mut steps: u64 = 0;
@@ -80,6 +84,7 @@ pub fn run_from(
         let stepped = step_next(
             s,
             rows,
+            shared,
             codes,
             ends,
             objects,

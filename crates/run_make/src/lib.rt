@@ -7,6 +7,7 @@ ghost use Prim.Native.Nat.{_+_};
 ghost use Rattle.run_values.specs.Values.{valuesFrom};
 ghost use Rattle.run_state.specs.Moved.{defaultsAt};
 ghost use Rattle.run_make.specs.Made.{PutRoom, PutMade, Makable, MakableGiven, MadeIs};
+ghost use Rattle.type_table.specs.View.{bothCodes};
 
 // The row of a new object with k cells, and its reference on `left` operands.
 fn put_made(
@@ -73,6 +74,7 @@ pub fn make_given(
 
 // An object of the defaults of k fields, whose codes stand in the table from `first` on.
 pub fn make_default(
+    shared: &[u16],
     codes: &[u16],
     objects: &mut [u16],
     cells: &mut [u64],
@@ -86,7 +88,7 @@ pub fn make_default(
 ) -> Stepped
     requires { ⌜ Makable (now objects) (now cells) (now operands) stage left k ⌝ }
     ensures { λ r.
-        let fields = defaultsAt (now (codes .entry)) first k in
+        let fields = defaultsAt (bothCodes (now (shared .entry)) (now (codes .entry))) first k in
         ⌜ MadeIs
         (now (objects .entry)) (now (objects .exit))
         (now (cells .entry)) (now (cells .exit))
@@ -97,7 +99,7 @@ pub fn make_default(
         return Stepped::Astray;
     }
     let total = stage.cells;
-    run_cells::default_cells(codes, cells, first, k, total);
+    run_cells::default_cells(shared, codes, cells, first, k, total);
     let later = put_made(objects, operands, stage, left, x, d, k);
     Stepped::Goes(later)
 }

@@ -5,13 +5,14 @@ use run_state::Move;
 use run_value::Value;
 use scope::traps;
 ghost use Rattle.scope.specs.Instructions.{ref-test, ref-cast, br-on-cast, br-on-cast-fail, ref-cast-desc-eq, br-on-cast-desc-eq, br-on-cast-desc-eq-fail};
-ghost use Rattle.type_table.specs.View.{heapAtCode};
+ghost use Rattle.type_table.specs.View.{heapAtCode, bothCodes};
 ghost use Rattle.body_decoded.specs.Decoded.{castOf};
 ghost use Rattle.run_move_casts.specs.Casts.{CastPlans, DescriptorPlans};
 
 // ref.test
 pub fn test_move(
     rows: &[u16],
+    shared: &[u16],
     codes: &[u16],
     objects: &[u16],
     n: u32,
@@ -19,16 +20,17 @@ pub fn test_move(
     null: bool,
     h: u64,
 ) -> Move
-    ensures { λ r. ⌜ CastPlans (now (rows .entry)) (now (codes .entry)) (now (objects .entry)) n first (ref-test null (heapAtCode h)) r ⌝ }
+    ensures { λ r. ⌜ CastPlans (now (rows .entry)) (bothCodes (now (shared .entry)) (now (codes .entry))) (now (objects .entry)) n first (ref-test null (heapAtCode h)) r ⌝ }
 {
     let one = Move::Gives(1, Value::I32(1));
     let zero = Move::Gives(1, Value::I32(0));
-    run_passing::move_by_type(rows, codes, objects, n, first, null, h, one, zero)
+    run_passing::move_by_type(rows, shared, codes, objects, n, first, null, h, one, zero)
 }
 
 // ref.cast
 pub fn cast_move(
     rows: &[u16],
+    shared: &[u16],
     codes: &[u16],
     objects: &[u16],
     n: u32,
@@ -36,16 +38,28 @@ pub fn cast_move(
     null: bool,
     h: u64,
 ) -> Move
-    ensures { λ r. ⌜ CastPlans (now (rows .entry)) (now (codes .entry)) (now (objects .entry)) n first (ref-cast null (heapAtCode h)) r ⌝ }
+    ensures { λ r. ⌜ CastPlans (now (rows .entry)) (bothCodes (now (shared .entry)) (now (codes .entry))) (now (objects .entry)) n first (ref-cast null (heapAtCode h)) r ⌝ }
 {
     let onward = Move::Leaves(0);
     let trap = Move::Traps(traps::CAST);
-    run_passing::move_by_type(rows, codes, objects, n, first, null, h, onward, trap)
+    run_passing::move_by_type(
+        rows,
+        shared,
+        codes,
+        objects,
+        n,
+        first,
+        null,
+        h,
+        onward,
+        trap,
+    )
 }
 
 // br_on_cast: the target is asked for, not the source
 pub fn on_cast_move(
     rows: &[u16],
+    shared: &[u16],
     codes: &[u16],
     objects: &[u16],
     n: u32,
@@ -56,16 +70,29 @@ pub fn on_cast_move(
     null: bool,
     h: u64,
 ) -> Move
-    ensures { λ r. ⌜ CastPlans (now (rows .entry)) (now (codes .entry)) (now (objects .entry)) n first (br-on-cast (castOf l «source_null» source null h)) r ⌝ }
+    ensures { λ r. ⌜ CastPlans (now (rows .entry)) (bothCodes (now (shared .entry)) (now (codes .entry))) (now (objects .entry)) n first (br-on-cast (castOf l «source_null» source null h)) r ⌝ }
 {
+    let target = h;
     let branch = Move::Branches(0, l);
     let onward = Move::Leaves(0);
-    run_passing::move_by_type(rows, codes, objects, n, first, null, h, branch, onward)
+    run_passing::move_by_type(
+        rows,
+        shared,
+        codes,
+        objects,
+        n,
+        first,
+        null,
+        target,
+        branch,
+        onward,
+    )
 }
 
 // br_on_cast_fail
 pub fn on_cast_fail_move(
     rows: &[u16],
+    shared: &[u16],
     codes: &[u16],
     objects: &[u16],
     n: u32,
@@ -76,11 +103,22 @@ pub fn on_cast_fail_move(
     null: bool,
     h: u64,
 ) -> Move
-    ensures { λ r. ⌜ CastPlans (now (rows .entry)) (now (codes .entry)) (now (objects .entry)) n first (br-on-cast-fail (castOf l «source_null» source null h)) r ⌝ }
+    ensures { λ r. ⌜ CastPlans (now (rows .entry)) (bothCodes (now (shared .entry)) (now (codes .entry))) (now (objects .entry)) n first (br-on-cast-fail (castOf l «source_null» source null h)) r ⌝ }
 {
     let onward = Move::Leaves(0);
     let branch = Move::Branches(0, l);
-    run_passing::move_by_type(rows, codes, objects, n, first, null, h, onward, branch)
+    run_passing::move_by_type(
+        rows,
+        shared,
+        codes,
+        objects,
+        n,
+        first,
+        null,
+        h,
+        onward,
+        branch,
+    )
 }
 
 // ref.cast_desc_eq

@@ -10,6 +10,7 @@ ghost use Rattle.scope.specs.Instructions.{struct-new, struct-new-default, stru
 ghost use Rattle.lent_u16.specs.Words.{wordLimit};
 ghost use Rattle.run_state.specs.Planned.{MakePlans};
 ghost use Rattle.run_move_new.specs.Makes.{MakesGiven, MakesDefaults};
+ghost use Rattle.type_table.specs.View.{bothCodes};
 
 // A descriptor is told by a word.
 const WORDS: u64 = 65536;
@@ -17,6 +18,7 @@ const WORDS: u64 = 65536;
 // An object of type x with the descriptor word d, of the values that lie on the stack under the topmost `taken`.
 fn given_move(
     rows: &[u16],
+    shared: &[u16],
     codes: &[u16],
     n: u32,
     total: u32,
@@ -26,9 +28,9 @@ fn given_move(
     d: u16,
 ) -> Move
     requires { ⌜ x < wordLimit ⌝ }
-    ensures { λ r. ⌜ MakesGiven (now (rows .entry)) (now (codes .entry)) n total height taken x d r ⌝ }
+    ensures { λ r. ⌜ MakesGiven (now (rows .entry)) (bothCodes (now (shared .entry)) (now (codes .entry))) n total height taken x d r ⌝ }
 {
-    let shape = type_table::shape_of(rows, codes, x);
+    let shape = type_table::shape_of(rows, shared, codes, x);
     match shape {
         Shape::Func(_, _, _, _) => Move::Astray,
         Shape::Struct(_, k) => {
@@ -44,15 +46,24 @@ fn given_move(
 }
 
 // The same of the defaults of its fields.
-fn default_move(rows: &[u16], codes: &[u16], n: u32, total: u32, taken: u32, x: u64, d: u16) -> Move
+fn default_move(
+    rows: &[u16],
+    shared: &[u16],
+    codes: &[u16],
+    n: u32,
+    total: u32,
+    taken: u32,
+    x: u64,
+    d: u16,
+) -> Move
     requires { ⌜ x < wordLimit ⌝ }
-    ensures { λ r. ⌜ MakesDefaults (now (rows .entry)) (now (codes .entry)) n total taken x d r ⌝ }
+    ensures { λ r. ⌜ MakesDefaults (now (rows .entry)) (bothCodes (now (shared .entry)) (now (codes .entry))) n total taken x d r ⌝ }
 {
-    let shape = type_table::shape_of(rows, codes, x);
+    let shape = type_table::shape_of(rows, shared, codes, x);
     match shape {
         Shape::Func(_, _, _, _) => Move::Astray,
         Shape::Struct(first, k) => {
-            if !body_plan_defaults::all_default(codes, first, k, true) {
+            if !body_plan_defaults::all_default(shared, codes, first, k, true) {
                 return Move::Astray;
             }
             if run_heap::room_for(n, total, k) {
@@ -66,6 +77,7 @@ fn default_move(rows: &[u16], codes: &[u16], n: u32, total: u32, taken: u32, x: 
 // struct.new x
 pub fn new_move(
     rows: &[u16],
+    shared: &[u16],
     codes: &[u16],
     n: u32,
     total: u32,
@@ -74,14 +86,15 @@ pub fn new_move(
     x: u64,
 ) -> Move
     requires { ⌜ x < wordLimit ⌝ }
-    ensures { λ r. ⌜ MakePlans (now (rows .entry)) (now (codes .entry)) n total height first (struct-new x) r ⌝ }
+    ensures { λ r. ⌜ MakePlans (now (rows .entry)) (bothCodes (now (shared .entry)) (now (codes .entry))) n total height first (struct-new x) r ⌝ }
 {
-    given_move(rows, codes, n, total, height, 0, x, 0)
+    given_move(rows, shared, codes, n, total, height, 0, x, 0)
 }
 
 // struct.new_default x
 pub fn new_default_move(
     rows: &[u16],
+    shared: &[u16],
     codes: &[u16],
     n: u32,
     total: u32,
@@ -90,14 +103,15 @@ pub fn new_default_move(
     x: u64,
 ) -> Move
     requires { ⌜ x < wordLimit ⌝ }
-    ensures { λ r. ⌜ MakePlans (now (rows .entry)) (now (codes .entry)) n total height first (struct-new-default x) r ⌝ }
+    ensures { λ r. ⌜ MakePlans (now (rows .entry)) (bothCodes (now (shared .entry)) (now (codes .entry))) n total height first (struct-new-default x) r ⌝ }
 {
-    default_move(rows, codes, n, total, 0, x, 0)
+    default_move(rows, shared, codes, n, total, 0, x, 0)
 }
 
 // struct.new_desc x: the descriptor is looked at before room.
 pub fn new_desc_move(
     rows: &[u16],
+    shared: &[u16],
     codes: &[u16],
     n: u32,
     total: u32,
@@ -106,7 +120,7 @@ pub fn new_desc_move(
     x: u64,
 ) -> Move
     requires { ⌜ x < wordLimit ⌝ }
-    ensures { λ r. ⌜ MakePlans (now (rows .entry)) (now (codes .entry)) n total height first (struct-new-desc x) r ⌝ }
+    ensures { λ r. ⌜ MakePlans (now (rows .entry)) (bothCodes (now (shared .entry)) (now (codes .entry))) n total height first (struct-new-desc x) r ⌝ }
 {
     let reference = run_state::reference_of(first);
     match reference {
@@ -118,6 +132,7 @@ pub fn new_desc_move(
             }
             given_move(
                 rows,
+                shared,
                 codes,
                 n,
                 total,
@@ -133,6 +148,7 @@ pub fn new_desc_move(
 // struct.new_default_desc x
 pub fn new_default_desc_move(
     rows: &[u16],
+    shared: &[u16],
     codes: &[u16],
     n: u32,
     total: u32,
@@ -141,7 +157,7 @@ pub fn new_default_desc_move(
     x: u64,
 ) -> Move
     requires { ⌜ x < wordLimit ⌝ }
-    ensures { λ r. ⌜ MakePlans (now (rows .entry)) (now (codes .entry)) n total height first (struct-new-default-desc x) r ⌝ }
+    ensures { λ r. ⌜ MakePlans (now (rows .entry)) (bothCodes (now (shared .entry)) (now (codes .entry))) n total height first (struct-new-default-desc x) r ⌝ }
 {
     let reference = run_state::reference_of(first);
     match reference {
@@ -151,7 +167,16 @@ pub fn new_default_desc_move(
             if n as u64 <= d {
                 return Move::Astray;
             }
-            default_move(rows, codes, n, total, 1, x, ((d + 1) % WORDS) as u16)
+            default_move(
+                rows,
+                shared,
+                codes,
+                n,
+                total,
+                1,
+                x,
+                ((d + 1) % WORDS) as u16,
+            )
         }
     }
 }

@@ -8,11 +8,13 @@ use run_value::Value;
 use scope::traps;
 ghost use Rattle.body_decoded.specs.Named.{Modest};
 ghost use Rattle.run_moves.specs.Moving.{MoveOf};
+ghost use Rattle.type_table.specs.View.{bothCodes};
 
 // What an instruction inside its block comes to; one that opens or closes a block has no move. An operand is read only where the
 // instruction looks at it: most look at one or none.
 pub fn move_of(
     rows: &[u16],
+    shared: &[u16],
     codes: &[u16],
     objects: &[u16],
     cells: &[u64],
@@ -25,7 +27,7 @@ pub fn move_of(
     requires { ⌜ Modest i ⌝ }
     ensures { λ r.
         ⌜ MoveOf
-        (now (rows .entry)) (now (codes .entry))
+        (now (rows .entry)) (bothCodes (now (shared .entry)) (now (codes .entry)))
         (now (objects .entry)) (now (cells .entry)) (now (locals .entry)) (now (operands .entry))
         count stage i r ⌝ }
 {
@@ -89,11 +91,11 @@ pub fn move_of(
         }
         Instruction::StructNew(x) => {
             let first = run_stack::top(operands, base, height);
-            run_move_new::new_move(rows, codes, n, total, height, first, x)
+            run_move_new::new_move(rows, shared, codes, n, total, height, first, x)
         }
         Instruction::StructNewDefault(x) => {
             let first = run_stack::top(operands, base, height);
-            run_move_new::new_default_move(rows, codes, n, total, height, first, x)
+            run_move_new::new_default_move(rows, shared, codes, n, total, height, first, x)
         }
         Instruction::StructGet(x, f) => {
             let first = run_stack::top(operands, base, height);
@@ -106,16 +108,17 @@ pub fn move_of(
         }
         Instruction::RefTest(null, h) => {
             let first = run_stack::top(operands, base, height);
-            run_move_casts::test_move(rows, codes, objects, n, first, null, h)
+            run_move_casts::test_move(rows, shared, codes, objects, n, first, null, h)
         }
         Instruction::RefCast(null, h) => {
             let first = run_stack::top(operands, base, height);
-            run_move_casts::cast_move(rows, codes, objects, n, first, null, h)
+            run_move_casts::cast_move(rows, shared, codes, objects, n, first, null, h)
         }
         Instruction::BrOnCast(l, source_null, source, null, h) => {
             let first = run_stack::top(operands, base, height);
             run_move_casts::on_cast_move(
                 rows,
+                shared,
                 codes,
                 objects,
                 n,
@@ -131,6 +134,7 @@ pub fn move_of(
             let first = run_stack::top(operands, base, height);
             run_move_casts::on_cast_fail_move(
                 rows,
+                shared,
                 codes,
                 objects,
                 n,
@@ -144,11 +148,11 @@ pub fn move_of(
         }
         Instruction::StructNewDesc(x) => {
             let first = run_stack::top(operands, base, height);
-            run_move_new::new_desc_move(rows, codes, n, total, height, first, x)
+            run_move_new::new_desc_move(rows, shared, codes, n, total, height, first, x)
         }
         Instruction::StructNewDefaultDesc(x) => {
             let first = run_stack::top(operands, base, height);
-            run_move_new::new_default_desc_move(rows, codes, n, total, height, first, x)
+            run_move_new::new_default_desc_move(rows, shared, codes, n, total, height, first, x)
         }
         Instruction::RefGetDesc(x) => {
             let first = run_stack::top(operands, base, height);

@@ -7,6 +7,7 @@ use scope::traps;
 use type_table::Link;
 ghost use mathlib.Core.Path.{_≡_};
 ghost use Rattle.run_passing.specs.Passes.{PassesAs, PassesDescriptorAs, chosenOf, CastChosen, DescriptorChosen};
+ghost use Rattle.type_table.specs.View.{bothCodes};
 
 // Whether a value passes a cast; or it is missing or no reference.
 pub enum Passing {
@@ -17,6 +18,7 @@ pub enum Passing {
 // Null passes where the target may be null, an object by the type it was made as.
 fn passes_cast(
     rows: &[u16],
+    shared: &[u16],
     codes: &[u16],
     objects: &[u16],
     n: u32,
@@ -24,7 +26,7 @@ fn passes_cast(
     null: bool,
     h: u64,
 ) -> Passing
-    ensures { λ r. ⌜ PassesAs (now (rows .entry)) (now (codes .entry)) (now (objects .entry)) n top null h r ⌝ }
+    ensures { λ r. ⌜ PassesAs (now (rows .entry)) (bothCodes (now (shared .entry)) (now (codes .entry))) (now (objects .entry)) n top null h r ⌝ }
 {
     let reference = run_state::reference_of(top);
     match reference {
@@ -35,7 +37,7 @@ fn passes_cast(
                 return Passing::Wrong;
             }
             let made = run_objects::type_of(objects, o as u32);
-            let below = type_order::heap_below(rows, codes, 11 + 2 * made, h);
+            let below = type_order::heap_below(rows, shared, codes, 11 + 2 * made, h);
             Passing::Is(below)
         }
     }
@@ -75,6 +77,7 @@ fn chosen(passes: Passing, yes: Move, no: Move) -> Move
 // A cast of the topmost operand to the heap type with the code h, nullable or not.
 pub fn move_by_type(
     rows: &[u16],
+    shared: &[u16],
     codes: &[u16],
     objects: &[u16],
     n: u32,
@@ -84,9 +87,9 @@ pub fn move_by_type(
     yes: Move,
     no: Move,
 ) -> Move
-    ensures { λ r. ⌜ CastChosen (now (rows .entry)) (now (codes .entry)) (now (objects .entry)) n first null h yes no r ⌝ }
+    ensures { λ r. ⌜ CastChosen (now (rows .entry)) (bothCodes (now (shared .entry)) (now (codes .entry))) (now (objects .entry)) n first null h yes no r ⌝ }
 {
-    let passes = passes_cast(rows, codes, objects, n, first, null, h);
+    let passes = passes_cast(rows, shared, codes, objects, n, first, null, h);
     chosen(passes, yes, no)
 }
 

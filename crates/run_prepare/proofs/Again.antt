@@ -6,25 +6,27 @@ use mathlib.Core.List.{List}
 use native.Mathlib.Omega.{arith}
 use lib.ListN.{length, replicate}
 use Rattle.scope.specs.Reading.{got}
-use Rattle.scope.specs.Syntax.{Val, func}
+use Rattle.scope.specs.Syntax.{Val, func, Definition, typesOf}
 use Rattle.scope.specs.Layout.{workSize, endsSize}
-use Rattle.scope.specs.Judging.{accepted}
+use Rattle.scope.specs.Judging.{accepted, Joined, judgeJoined}
 use Rattle.scope.specs.Bodies.{Body}
-use Rattle.scope.specs.Answers.{tableLent, verdictOf, sectionCall, SectionJudged}
-use Rattle.scope.specs.declared.Verdict.{Verdict}
-use Rattle.scope.specs.declared.Verdict
+use Rattle.scope.specs.declared.Place.{Place}
+use Rattle.scope.proofs.Accepted.{sections-joined}
 use Rattle.scope.proofs.Impossible.{contradiction}
 use Rattle.type_table.specs.declared.Shape.{Shape}
 use Rattle.type_table.specs.declared.Shape
 use Rattle.type_table.specs.Answers.{shapeForm}
-use Rattle.type_table.specs.View.{valAtCode, codesAt, view}
+use Rattle.type_table.specs.View.{valAtCode, codesAt, view, bothCodes}
 use Rattle.body_state.specs.State.{valAtWord}
 use Rattle.body_state.proofs.Answers.{codes-length}
 use Rattle.body_start.specs.declared.Started.{Started}
 use Rattle.body_start.specs.declared.Started
 use Rattle.body_start.specs.Beginning.{localsFirst, Starting, StartedAs}
 use Rattle.run_ends.specs.Matching.{Fillable, Filled, EndsOf}
-use Rattle.section_call.proofs.Asking.{viewed}
+use Rattle.section_both.specs.declared.TwoJudged.{TwoJudged}
+use Rattle.section_both.specs.declared.TwoJudged
+use Rattle.section_both.specs.Both.{joinedIs, BothJudged}
+use Rattle.section_both.proofs.Viewing.{viewed}
 use Rattle.body_judge.proofs.Typing.{started-got, started-refused, form-is}
 use Rattle.run_prepare.specs.Parts.{Parts, TypesAgain, FunctionAgain, LocalsAgain}
 use Rattle.run_prepare.proofs.Bodily.{few-types, few-parameters}
@@ -36,27 +38,38 @@ pub may-start-again :
     → work ≡ replicate (length work) 0 → workSize ≤ length work → Starting work types n
 may-start-again t f zero room = record { zero = zero; room = omega arith; few = f .few; known = t .few }
 
-module _ {section s : List ℕ} {x : ℕ} {b : Body} (p : Parts section s x b) where
-  -- the section
+module _ {library section s : List ℕ} {x : ℕ} {b : Body} (p : Parts library section s x b) where
+  -- the sections
 
-  module _ {rows codes rows₁ codes₁ : List ℕ} {v : Verdict} (a : SectionJudged section rows codes rows₁ codes₁ v) (lent : tableLent rows codes ≡ true) where
-    call-again : sectionCall section rows codes ≡ accepted (b .types)
-    call-again = rw lent (p .judged)
+  module _ {rows shared codes rows₁ shared₁ codes₁ : List ℕ} {v : TwoJudged} (a : BothJudged library section rows shared codes rows₁ shared₁ codes₁ v) where
+    record JudgedAgain : Type 0 where
+      both : Joined
+      judged : judgeJoined library section ≡ accepted both
+      same : both .types ≡ b .types
 
-    verdict-again : v ≡ Verdict.the-variants.Accepted (length (b .types))
-    verdict-again = a .answer ∙ ap (verdictOf length) call-again
+    judged-again : JudgedAgain
+    judged-again = go (sections-joined library section (p .judged))
+      where
+        go : (j : Joined) × (judgeJoined library section ≡ accepted j) × (j .types ≡ b .types) → JudgedAgain
+        go (j, is, types) = record { both = j; judged = is; same = types }
 
-    pub section-unrefused : {n place : ℕ} → v ≡ Verdict.the-variants.Refused n place → ⊥
-    section-unrefused e = let f = verdict-again in contradiction cc
+    verdict-again : v ≡ TwoJudged.the-variants.Accepted (judged-again .both .before) (length (b .types))
+    verdict-again =
+        let again = judged-again in
+        a .answer ∙ ap joinedIs (again .judged) ∙ ap (λ (ds : List Definition). TwoJudged.the-variants.Accepted (again .both .before) (length ds)) (again .same)
 
-    pub section-again : {count : ℕ} → v ≡ Verdict.the-variants.Accepted count → TypesAgain b rows₁ codes₁ count
-    section-again {count} e =
+    pub sections-unrefused : {n : ℕ} {place : Place} → v ≡ TwoJudged.the-variants.Refused n place → ⊥
+    sections-unrefused e = let f = verdict-again in contradiction cc
+
+    pub sections-again : {before count : ℕ} → v ≡ TwoJudged.the-variants.Accepted before count → TypesAgain b rows₁ (bothCodes shared₁ codes₁) count
+    sections-again {count = count} e =
         let f = verdict-again in
         let many : count ≡ length (b .types) = cc in
-        record { types = viewed a (b .types) call-again; many = many; few = omega (arith, few-types p) }
+        let again = judged-again in
+        record { types = viewed library section (again .judged) (a .stands (again .both) (again .judged)) ∙ ap typesOf (again .same); many = many; few = omega (arith, few-types p) }
 
-    pub count-fits : {count : ℕ} → v ≡ Verdict.the-variants.Accepted count → count < 2 ^ 16
-    count-fits e = let few = section-again e .few in omega arith
+    pub count-fits : {before count : ℕ} → v ≡ TwoJudged.the-variants.Accepted before count → count < 2 ^ 16
+    count-fits e = let few = sections-again e .few in omega arith
 
   -- the function's type
 

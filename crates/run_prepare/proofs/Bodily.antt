@@ -11,7 +11,8 @@ use Rattle.scope.specs.Refusals.{oversize, notAFunction}
 use Rattle.scope.specs.Reading.{got, given}
 use Rattle.scope.specs.Numbers.{u32}
 use Rattle.scope.specs.Syntax.{Form, struct, func, Definition, typesOf}
-use Rattle.scope.specs.Judging.{Judged, accepted, rejected, judgeSection}
+use Rattle.scope.specs.Judging.{plain, Judged, accepted, rejected, judgeSections}
+use Rattle.scope.specs.declared.Place.{Place}
 use Rattle.scope.specs.Bodies.{Function, functionOf, localsAt, judgeFrom, contextOf, startState, Body, bodyAt, judgeBody}
 use Rattle.scope.proofs.Telling.{Gives, gives-this, gives-nothing, gives-then, Accepting, accepts-nothing, accepts-then, accepts-read}
 use Rattle.body_start.specs.Beginning.{localsFirst}
@@ -21,18 +22,18 @@ use Rattle.run_ends.proofs.Balance.{judged-code, judged-balanced}
 use Rattle.body_call.proofs.Lending.{accepted-bounded}
 use Rattle.run_prepare.specs.Parts.{Parts}
 
-accepts-unless : {A : Type 0} {P : A → Type 0} (t : Bool) (n p : ℕ) {j : Judged A} → (t ≡ false → Accepting P j) → Accepting P (cond t (rejected n p) j)
+accepts-unless : {A : Type 0} {P : A → Type 0} (t : Bool) (n : ℕ) (p : Place) {j : Judged A} → (t ≡ false → Accepting P j) → Accepting P (cond t (rejected n p) j)
 accepts-unless true n p k = accepts-nothing
 accepts-unless false n p k = k refl
 
 accepts-function :
     {P : Body → Type 0} (form : Form) {j : Function → Judged Body} → ((f : Function) → form ≡ func (f .parameters) (f .results) → Accepting P (j f))
-    → Accepting P (given (functionOf form) (rejected notAFunction 0) j)
+    → Accepting P (given (functionOf form) (rejected notAFunction (plain 0)) j)
 accepts-function (struct fs) k = accepts-nothing
 accepts-function (func ps rs) k = k (record { parameters = ps; results = rs }) refl
 
-module _ (section s : List ℕ) (x : ℕ) (ds : List Definition) (judged : judgeSection section ≡ accepted ds) (short : length s ≤ mostBytes) where
-  body-parts : (f : Function) → typesOf ds x .form ≡ func (f .parameters) (f .results) → Gives (Parts section s x) (bodyAt ds f s)
+module _ (library section s : List ℕ) (x : ℕ) (ds : List Definition) (judged : judgeSections library section ≡ accepted ds) (short : length s ≤ mostBytes) where
+  body-parts : (f : Function) → typesOf ds x .form ≡ func (f .parameters) (f .results) → Gives (Parts library section s x) (bodyAt ds f s)
   unfolding bodyAt localsFirst
   body-parts f form =
       gives-then (u32 s 0) (λ n entries counted.
@@ -46,22 +47,22 @@ module _ (section s : List ℕ) (x : ℕ) (ds : List Definition) (judged : judge
       gives-this (record { judged = judged; short = short; form = form; first = first; read = rw counted are; code = is; balanced = rw is at closed }))
       gives-nothing)))
 
-judged-parts : (section s : List ℕ) (x : ℕ) → Accepting (Parts section s x) (judgeBody section s x)
+judged-parts : (library section s : List ℕ) (x : ℕ) → Accepting (Parts library section s x) (judgeBody library section s x)
 unfolding judgeBody
-judged-parts section s x =
-    accepts-then (judgeSection section) (λ ds judged.
-    accepts-unless (ltb mostBytes (length s)) oversize 0 (λ sized.
+judged-parts library section s x =
+    accepts-then (judgeSections library section) (λ ds judged.
+    accepts-unless (ltb mostBytes (length s)) oversize (plain 0) (λ sized.
     accepts-function (typesOf ds x .form) (λ f form.
-    accepts-read (bodyAt ds f s) (body-parts section s x ds judged (ltb-false mostBytes (length s) sized) f form))))
+    accepts-read (bodyAt ds f s) (body-parts library section s x ds judged (ltb-false mostBytes (length s) sized) f form))))
 
-pub parts : {section s : List ℕ} {x : ℕ} {b : Body} → judgeBody section s x ≡ accepted b → Parts section s x b
-parts {section} {s} {x} {b} e = judged-parts section s x .tells b e
+pub parts : {library section s : List ℕ} {x : ℕ} {b : Body} → judgeBody library section s x ≡ accepted b → Parts library section s x b
+parts {library} {section} {s} {x} {b} e = judged-parts library section s x .tells b e
 
 -- the sizes of its types
 
-module _ {section s : List ℕ} {x : ℕ} {b : Body} (p : Parts section s x b) where
+module _ {library section s : List ℕ} {x : ℕ} {b : Body} (p : Parts library section s x b) where
   pub few-types : length (b .types) ≤ mostTypes
-  few-types = accepted-bounded section (p .judged) .types
+  few-types = accepted-bounded library section (p .judged) .types
 
   pub few-parameters : length (b .function .parameters) ≤ mostEach
-  few-parameters = accepted-bounded section (p .judged) .parameters x (b .function .parameters) (b .function .results) (p .form)
+  few-parameters = accepted-bounded library section (p .judged) .parameters x (b .function .parameters) (b .function .results) (p .form)

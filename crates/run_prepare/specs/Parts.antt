@@ -7,16 +7,16 @@ use lib.ListN.{length}
 use Rattle.scope.specs.Sizes.{mostBytes, mostLocals, mostEach, mostTypes}
 use Rattle.scope.specs.Reading.{got}
 use Rattle.scope.specs.Syntax.{func, typesOf}
-use Rattle.scope.specs.Judging.{accepted, judgeSection}
+use Rattle.scope.specs.Judging.{accepted, judgeSections}
 use Rattle.scope.specs.Bodies.{Body}
 use Rattle.type_table.specs.View.{valAtCode, codesAt, view}
 use Rattle.body_state.specs.State.{valAtWord}
 use Rattle.body_start.specs.Beginning.{localsFirst}
 use Rattle.run_ends.specs.Matching.{codeAt, Balanced}
 
--- the section, the function's type, the locals from the first byte on, and the code from where they end
-pub record Parts (section s : List ℕ) (x : ℕ) (b : Body) : Type 0 where
-  pub judged : judgeSection section ≡ accepted (b .types)
+-- the sections, the function's type, the locals from the first byte on, and the code from where they end
+pub record Parts (library section s : List ℕ) (x : ℕ) (b : Body) : Type 0 where
+  pub judged : judgeSections library section ≡ accepted (b .types)
   pub short : length s ≤ mostBytes
   pub form : typesOf (b .types) x .form ≡ func (b .function .parameters) (b .function .results)
   pub first : ℕ

@@ -11,6 +11,7 @@ use Rattle.scope.specs.Running.{trialOf, withParameters, Trial, trialRun}
 use Rattle.scope.specs.Answers.{tableLent, lentEnough}
 use Rattle.scope.specs.Layout.{workSize, endsSize}
 use Rattle.scope.proofs.Soundness.{Runs}
+use Rattle.section_both.specs.Both.{Ready}
 use Rattle.run_ends.specs.Matching.{EndsOf}
 use Rattle.run_prepare.specs.declared.Prepared.{Prepared}
 use Rattle.run_prepare.specs.declared.Prepared
@@ -20,9 +21,10 @@ use Rattle.run_prepare.specs.Parts.{TypesAgain, FunctionAgain, LocalsAga
 
 -- the body's parts are at hand: its types in the table, its locals' types in the scratch, its code from a place on
 pub record Placing (s rows codes work : List ℕ) (count results next : ℕ) (b : Body) : Type 0 where
+  pub library : List ℕ
   pub section : List ℕ
   pub number : ℕ
-  pub runs : Runs section s number b
+  pub runs : Runs library section s number b
   pub types : ℕ
   pub table : TypesAgain b rows codes types
   pub first : ℕ
@@ -53,9 +55,10 @@ pub record ZeroScratch (work ends : List ℕ) : Type 0 where
 -- an accepted body, its section's table, and its function's codes in it
 
 pub record Shaping (s rows codes : List ℕ) (types first params results : ℕ) (b : Body) : Type 0 where
+  pub library : List ℕ
   pub section : List ℕ
   pub number : ℕ
-  pub judged : judgeBody section s number ≡ accepted b
+  pub judged : judgeBody library section s number ≡ accepted b
   pub table : TypesAgain b rows codes types
   pub second : ℕ
   pub function : FunctionAgain b codes first params second results
@@ -74,8 +77,9 @@ pub record BodyRead (s codes work′ ends′ : List ℕ) (types first params res
 -- an accepted body and its section's table
 
 pub record Typing (s : List ℕ) (x : ℕ) (rows codes : List ℕ) (types : ℕ) (b : Body) : Type 0 where
+  pub library : List ℕ
   pub section : List ℕ
-  pub judged : judgeBody section s x ≡ accepted b
+  pub judged : judgeBody library section s x ≡ accepted b
   pub table : TypesAgain b rows codes types
 
 pub record Typed (s : List ℕ) (x : ℕ) (rows codes work ends : List ℕ) (types : ℕ) : Type 0 where
@@ -86,28 +90,28 @@ pub record Typed (s : List ℕ) (x : ℕ) (rows codes work ends : List ℕ) (typ
 pub record TypeRead (s : List ℕ) (x : ℕ) (rows codes work′ ends′ : List ℕ) (types : ℕ) (r : Prepared) : Type 0 where
   pub is : (b : Body) (budget : ℕ) → Typing s x rows codes types b → Prepares (withParameters b budget) budget s rows codes work′ ends′ r
 
--- a body that was accepted
+-- a body that was accepted, and memory as its verdict left it
 
-pub record Allowed (section s : List ℕ) (x : ℕ) (rows codes work ends : List ℕ) : Type 0 where
+pub record Allowed (library section s : List ℕ) (x : ℕ) (rows shared codes work ends : List ℕ) : Type 0 where
   pub body : Body
-  pub judged : judgeBody section s x ≡ accepted body
-  pub table : tableLent rows codes ≡ true
+  pub judged : judgeBody library section s x ≡ accepted body
+  pub ready : Ready rows shared codes
   pub scratch : ZeroScratch work ends
 
-pub record SectionRead (section s : List ℕ) (x : ℕ) (rows′ codes′ work′ ends′ : List ℕ) (r : Prepared) : Type 0 where
-  pub is : (b : Body) (budget : ℕ) → judgeBody section s x ≡ accepted b → Prepares (withParameters b budget) budget s rows′ codes′ work′ ends′ r
+pub record SectionRead (library section s : List ℕ) (x : ℕ) (rows′ codes′ work′ ends′ : List ℕ) (r : Prepared) : Type 0 where
+  pub is : (b : Body) (budget : ℕ) → judgeBody library section s x ≡ accepted b → Prepares (withParameters b budget) budget s rows′ codes′ work′ ends′ r
 
 -- each buffer of the scratch has its size
 
-pub record ScratchRoom (rows codes work ends : List ℕ) : Type 0 where
-  pub table : tableLent rows codes ≡ true
+pub record ScratchRoom (rows shared codes work ends : List ℕ) : Type 0 where
+  pub table : tableLent rows shared codes ≡ true
   pub workRoom : workSize ≤ length work
   pub endsRoom : endsSize ≤ length ends
 
-pub record RunJudged (section s : List ℕ) (x budget : ℕ) (rows′ codes′ work′ ends′ : List ℕ) (r : Prepared) : Type 0 where
-  pub is : Prepares (trialRun section s x budget) budget s rows′ codes′ work′ ends′ r
+pub record RunJudged (library section s : List ℕ) (x budget : ℕ) (rows′ codes′ work′ ends′ : List ℕ) (r : Prepared) : Type 0 where
+  pub is : Prepares (trialRun library section s x budget) budget s rows′ codes′ work′ ends′ r
 
 -- the whole: 14 for the scratch or the state, then the verdict; and a run only where both are enough
-pub record PreparedFor (section s : List ℕ) (x budget : ℕ) (scratch state : Bool) (rows′ codes′ work′ ends′ : List ℕ) (r : Prepared) : Type 0 where
-  pub is : Prepares (lentEnough (scratch && state) (trialRun section s x budget)) budget s rows′ codes′ work′ ends′ r
+pub record PreparedFor (library section s : List ℕ) (x budget : ℕ) (scratch state : Bool) (rows′ codes′ work′ ends′ : List ℕ) (r : Prepared) : Type 0 where
+  pub is : Prepares (lentEnough (scratch && state) (trialRun library section s x budget)) budget s rows′ codes′ work′ ends′ r
   pub room : (count results next : ℕ) → r ≡ Prepared.the-variants.Ready count results next → state ≡ true

@@ -14,7 +14,7 @@ use Rattle.run_sound.proofs.Bounds.{machine-bounded}
 use Rattle.run_sound.proofs.Astraying.{not-astray, code-there}
 use Rattle.run_sound.proofs.Back.{read-back}
 
-module _ {section s : List ℕ} {x : ℕ} {b : Body} (runs : Runs section s x b) (few : length (b .types) ≤ mostTypes) where
+module _ {library section s : List ℕ} {x : ℕ} {b : Body} (runs : Runs library section s x b) (few : length (b .types) ≤ mostTypes) where
   sound-body : Sound s (programOf b) (startOf b)
   sound-body =
       record {

@@ -44,12 +44,12 @@ not-astray here p (dangling i o e long) = let there = operand-there i (here .typ
 -- code
 
 pub accepted-here :
-    {section s : List ℕ} {x : ℕ} {b : Body} {m : Machine} {code : Code} → Runs section s x b → (here : TypedHere b m) → m .code ≡ code
+    {library section s : List ℕ} {x : ℕ} {b : Body} {m : Machine} {code : Code} → Runs library section s x b → (here : TypedHere b m) → m .code ≡ code
     → Accepts (contextFor b) (here .state) code
 accepted-here {b} runs here e = subst (Accepts (contextFor b) (here .state)) e (accepted-there (runs-known runs .accepts) (here .stands))
 
 none-accepted : {c : Context} {st : State} → Accepts c st [] → ⊥
 none-accepted accepts = elim accepts [ ]
 
-pub code-there : {section s : List ℕ} {x : ℕ} {b : Body} {m : Machine} → Runs section s x b → TypedHere b m → m .code ≡ [] → ⊥
+pub code-there : {library section s : List ℕ} {x : ℕ} {b : Body} {m : Machine} → Runs library section s x b → TypedHere b m → m .code ≡ [] → ⊥
 code-there runs here e = none-accepted (accepted-here runs here e)

@@ -94,6 +94,6 @@ module _ (c : Context) (few : c .count ≤ mostTypes) where
   accepted-back {st} (next e more) short = instr-back st short .tells _ e
 
 pub read-back :
-    {section s : List ℕ} {x : ℕ} {b : Body} {m : Machine} {at stop : ℕ} {i : Instr} {code : Code} → Runs section s x b → length (b .types) ≤ mostTypes
+    {library section s : List ℕ} {x : ℕ} {b : Body} {m : Machine} {at stop : ℕ} {i : Instr} {code : Code} → Runs library section s x b → length (b .types) ≤ mostTypes
     → TypedHere b m → m .code ≡ (at, i) ∷ code → instrAt s at ≡ got i stop → instrOf (instructionOf i) ≡ i
 read-back {s} {b} {at} runs few here e read = accepted-back (contextFor b) few (accepted-here runs here e) (read-short s at read)

@@ -6,6 +6,7 @@ use mathlib.Core.Path.{_≡_, refl}
 use mathlib.Core.List.{List, [], _∷_}
 use lib.ListN.{length, drop}
 use Rattle.scope.specs.Sizes.{mostTypes}
+use Rattle.scope.specs.Sections.{emptyLibrary}
 use Rattle.scope.specs.Judging.{Judged, accepted, rejected}
 use Rattle.scope.specs.Instructions.{op, struct-new-default}
 use Rattle.scope.specs.Bodies.{Body, judgeBody}
@@ -29,9 +30,9 @@ bodyOf (accepted b) = b
 bodyOf (rejected n p) = record { types = []; function = record { parameters = []; results = [] }; locals = []; code = [] }
 
 abbrev maker : Body
-maker = bodyOf (judgeBody types bytes 6)
+maker = bodyOf (judgeBody emptyLibrary types bytes 6)
 
-maker-runs : Runs types bytes 6 maker
+maker-runs : Runs emptyLibrary types bytes 6 maker
 unfolding computes
 maker-runs = record { isAccepted = refl; defaults = refl }
 

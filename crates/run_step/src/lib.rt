@@ -5,10 +5,12 @@ use run_state::Stage;
 use run_state::Stepped;
 ghost use Rattle.run_state.specs.Machines.{words};
 ghost use Rattle.run_step.specs.Carried.{Movable, Carried, Inside, InsideIs, Steppable, StepOf};
+ghost use Rattle.type_table.specs.View.{bothCodes};
 
 // A move, carried out. Nothing is written where it traps.
 fn carry_out(
     s: &[u8],
+    shared: &[u16],
     codes: &[u16],
     ends: &[u16],
     objects: &mut [u16],
@@ -25,7 +27,7 @@ fn carry_out(
     ensures { λ r.
         let before = words (now (objects .entry)) (now (cells .entry)) (now (locals .entry)) (now (operands .entry)) (now (blocks .entry)) in
         let after = words (now (objects .exit)) (now (cells .exit)) (now (locals .exit)) (now (operands .exit)) (now (blocks .entry)) in
-        ⌜ Carried (now (s .entry)) (now (codes .entry)) (now (ends .entry)) count before after stage results it r ⌝ }
+        ⌜ Carried (now (s .entry)) (bothCodes (now (shared .entry)) (now (codes .entry))) (now (ends .entry)) count before after stage results it r ⌝ }
 {
     let height = stage.height;
     let base = stage.base;
@@ -61,7 +63,19 @@ fn carry_out(
         }
         Move::MakesDefault(n, x, d, first, k) => {
             let left = height - n;
-            run_make::make_default(codes, objects, cells, operands, stage, left, x, d, first, k)
+            run_make::make_default(
+                shared,
+                codes,
+                objects,
+                cells,
+                operands,
+                stage,
+                left,
+                x,
+                d,
+                first,
+                k,
+            )
         }
         Move::Branches(n, label) => {
             let left = height - n;
@@ -75,6 +89,7 @@ fn carry_out(
 fn step_inside(
     s: &[u8],
     rows: &[u16],
+    shared: &[u16],
     codes: &[u16],
     ends: &[u16],
     objects: &mut [u16],
@@ -91,10 +106,11 @@ fn step_inside(
     ensures { λ r.
         let before = words (now (objects .entry)) (now (cells .entry)) (now (locals .entry)) (now (operands .entry)) (now (blocks .entry)) in
         let after = words (now (objects .exit)) (now (cells .exit)) (now (locals .exit)) (now (operands .exit)) (now (blocks .entry)) in
-        ⌜ InsideIs (now (s .entry)) (now (rows .entry)) (now (codes .entry)) (now (ends .entry)) count before after stage results i r ⌝ }
+        ⌜ InsideIs (now (s .entry)) (now (rows .entry)) (bothCodes (now (shared .entry)) (now (codes .entry))) (now (ends .entry)) count before after stage results i r ⌝ }
 {
     let it = run_moves::move_of(
         rows,
+        shared,
         codes,
         objects,
         cells,
@@ -106,6 +122,7 @@ fn step_inside(
     );
     carry_out(
         s,
+        shared,
         codes,
         ends,
         objects,
@@ -124,6 +141,7 @@ fn step_inside(
 pub fn step(
     s: &[u8],
     rows: &[u16],
+    shared: &[u16],
     codes: &[u16],
     ends: &[u16],
     objects: &mut [u16],
@@ -141,7 +159,7 @@ pub fn step(
     ensures { λ r.
         let before = words (now (objects .entry)) (now (cells .entry)) (now (locals .entry)) (now (operands .entry)) (now (blocks .entry)) in
         let after = words (now (objects .exit)) (now (cells .exit)) (now (locals .exit)) (now (operands .exit)) (now (blocks .exit)) in
-        ⌜ StepOf (now (s .entry)) (now (rows .entry)) (now (codes .entry)) (now (ends .entry)) count before after stage results r ⌝ }
+        ⌜ StepOf (now (s .entry)) (now (rows .entry)) (bothCodes (now (shared .entry)) (now (codes .entry))) (now (ends .entry)) count before after stage results r ⌝ }
 {
     match i {
         Instruction::Block(_) => run_blocks::open_block(blocks, stage, next),
@@ -159,6 +177,7 @@ pub fn step(
             step_inside(
                 s,
                 rows,
+                shared,
                 codes,
                 ends,
                 objects,

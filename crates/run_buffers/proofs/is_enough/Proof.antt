@@ -1,6 +1,6 @@
 -- `run_buffers::is_enough` meets its contract.
 use borrow.Author.Needs.{needs}
-use Rattle.run_limits.proofs.Enough.{size-exits}
+use Rattle.lent_limits.proofs.Enough.{size-exits}
 use Rattle.run_buffers.proofs.is_enough.Statement.{statement}
 use Rattle.run_buffers.proofs.is_enough.Tie as tie
 

@@ -12,7 +12,7 @@ stage-of-requires c κs = search (settle-exits, needs)
 
 settle-requires : tie.Need-settle-requires
 settle-requires c κs =
-    may-settle (c .before .before .before .before .before .before .before .before .before .before .before .before .before .before .before .before .before .before .before .before .before .before .before .before .before .before .before .before .before .before .before .before .before .pre) (c .before .before .before .before .before .before .before .before .before .before .before .before .before .before .before .before .before .run-from .ensures) (c .before .before .before .before .before .before .stage-of .ensures)
+    may-settle (c .before .before .before .before .before .before .before .before .before .before .before .before .before .before .before .before .before .before .before .before .before .before .before .before .before .before .before .before .before .before .before .before .before .before .pre) (c .before .before .before .before .before .before .before .before .before .before .before .before .before .before .before .before .before .run-from .ensures) (c .before .before .before .before .before .before .stage-of .ensures)
 
 tell-requires : tie.Need-tell-requires
 tell-requires c κs = search (settle-exits, needs)
@@ -37,7 +37,7 @@ same-length-6 c = search (settle-exits, needs)
 
 returns : tie.Need-returns
 returns c =
-    run-settled (c .before .before .before .before .before .before .before .before .before .before .before .before .before .before .before .before .before .before .before .before .before .before .before .before .before .before .before .before .before .before .before .before .before .before .before .before .before .before .before .before .before .before .before .before .before .before .before .pre) (c .before .before .before .before .before .before .before .before .before .before .before .before .before .before .before .before .before .before .before .before .before .before .before .before .before .before .before .before .before .before .before .run-from .ensures) (c .before .before .before .before .before .before .before .before .before .before .before .before .before .before .before .before .before .before .before .before .stage-of .ensures) (c .before .before .before .before .before .before .before .before .before .before .before .before .before .settle .ensures) (search needs) (search needs) (search needs) (search needs) (search needs) (c .tell .ensures)
+    run-settled (c .before .before .before .before .before .before .before .before .before .before .before .before .before .before .before .before .before .before .before .before .before .before .before .before .before .before .before .before .before .before .before .before .before .before .before .before .before .before .before .before .before .before .before .before .before .before .before .before .pre) (c .before .before .before .before .before .before .before .before .before .before .before .before .before .before .before .before .before .before .before .before .before .before .before .before .before .before .before .before .before .before .before .run-from .ensures) (c .before .before .before .before .before .before .before .before .before .before .before .before .before .before .before .before .before .before .before .before .stage-of .ensures) (c .before .before .before .before .before .before .before .before .before .before .before .before .before .settle .ensures) (search needs) (search needs) (search needs) (search needs) (search needs) (c .tell .ensures)
 
 pub run-started-spec : {M : Type 1} → statement M
 run-started-spec =

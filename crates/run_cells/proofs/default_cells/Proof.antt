@@ -4,24 +4,25 @@ use borrow.Author.Needs.{needs}
 use Rattle.run_cells.proofs.Filling.{DefaultSoFar, default-exits}
 use Rattle.run_cells.proofs.default_cells.Statement.{statement}
 use Rattle.run_cells.proofs.default_cells.Tie as tie
+use Rattle.type_table.specs.View.{bothCodes}
 
 abbrev Inv-loop : tie.InvT-loop
-Inv-loop codes cells₀ first k total i₀ cells i = DefaultSoFar codes cells₀ cells first k total i
+Inv-loop shared codes cells₀ first k total i₀ cells i = DefaultSoFar (bothCodes shared codes) cells₀ cells first k total i
 
 abbrev μ-loop : tie.MeasureT-loop
-μ-loop codes cells₀ first k total i₀ cells i = k - i
+μ-loop shared codes cells₀ first k total i₀ cells i = k - i
 
 loop-holds : tie.Need-loop-holds Inv-loop μ-loop
 loop-holds c = search (default-exits, needs)
 
-cast-word : tie.Need-cast-word Inv-loop μ-loop
-cast-word c = search (default-exits, needs)
+cast-code-word : tie.Need-cast-code-word Inv-loop μ-loop
+cast-code-word c = search (default-exits, needs)
 
-add-word : tie.Need-add-word Inv-loop μ-loop
-add-word c = search (default-exits, needs)
+add-code-word : tie.Need-add-code-word Inv-loop μ-loop
+add-code-word c = search (default-exits, needs)
 
-word-requires : tie.Need-word-requires Inv-loop μ-loop
-word-requires c κs = search (default-exits, needs)
+code-word-requires : tie.Need-code-word-requires Inv-loop μ-loop
+code-word-requires c κs = search (default-exits, needs)
 
 default-kind-requires : tie.Need-default-kind-requires Inv-loop μ-loop
 default-kind-requires c κs = search (default-exits, needs)
@@ -54,9 +55,9 @@ default-cells-spec =
     Inv-loop
     μ-loop
     loop-holds
-    cast-word
-    add-word
-    word-requires
+    cast-code-word
+    add-code-word
+    code-word-requires
     default-kind-requires
     add-put-value
     put-value-requires

@@ -5,13 +5,14 @@ use Rattle.run_state.specs.Machines.{words}
 use Rattle.run_loop.proofs.Looping.{Going, steps-fit, run-exits}
 use Rattle.run_loop.proofs.run_from.Statement.{statement}
 use Rattle.run_loop.proofs.run_from.Tie as tie
+use Rattle.type_table.specs.View.{bothCodes}
 
 abbrev Inv-loop : tie.InvT-loop
-Inv-loop s rows codes ends objects₀ cells₀ locals₀ operands₀ blocks₀ count results first budget stage₀ steps₀ objects cells locals operands blocks stage steps =
-    Going s rows codes ends count (words objects₀ cells₀ locals₀ operands₀ blocks₀) results first budget (words objects cells locals operands blocks) stage steps
+Inv-loop s rows shared codes ends objects₀ cells₀ locals₀ operands₀ blocks₀ count results first budget stage₀ steps₀ objects cells locals operands blocks stage steps =
+    Going s rows (bothCodes shared codes) ends count (words objects₀ cells₀ locals₀ operands₀ blocks₀) results first budget (words objects cells locals operands blocks) stage steps
 
 abbrev μ-loop : tie.MeasureT-loop
-μ-loop s rows codes ends objects₀ cells₀ locals₀ operands₀ blocks₀ count results first budget stage₀ steps₀ objects cells locals operands blocks stage steps =
+μ-loop s rows shared codes ends objects₀ cells₀ locals₀ operands₀ blocks₀ count results first budget stage₀ steps₀ objects cells locals operands blocks stage steps =
     budget - steps
 
 start-requires : tie.Need-start-requires Inv-loop μ-loop

@@ -22,8 +22,8 @@ returns c = search (make-exits, needs)
 room-for-requires : tie.Need-room-for-requires
 room-for-requires c κs = search (make-exits, needs)
 
-cast-t15 : tie.Need-cast-t15
-cast-t15 c = search (make-exits, needs)
+cast-t16 : tie.Need-cast-t16
+cast-t16 c = search (make-exits, needs)
 
 returns-2 : tie.Need-returns-2
 returns-2 c = search (make-exits, needs)
@@ -44,7 +44,7 @@ default-move-spec =
     all-default-requires
     returns
     room-for-requires
-    cast-t15
+    cast-t16
     returns-2
     returns-3
     returns-4)

@@ -25,8 +25,8 @@ returns c = search (make-exits, needs)
 room-for-requires : tie.Need-room-for-requires
 room-for-requires c κs = search (make-exits, needs)
 
-cast-t18 : tie.Need-cast-t18
-cast-t18 c = search (make-exits, needs)
+cast-t19 : tie.Need-cast-t19
+cast-t19 c = search (make-exits, needs)
 
 returns-2 : tie.Need-returns-2
 returns-2 c = search (make-exits, needs)
@@ -48,7 +48,7 @@ given-move-spec =
     add-if1
     returns
     room-for-requires
-    cast-t18
+    cast-t19
     returns-2
     returns-3
     returns-4)

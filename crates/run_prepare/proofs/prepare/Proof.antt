@@ -1,6 +1,6 @@
 -- `run_prepare::prepare` meets its contract: 14 for the scratch or for the state, then the verdict.
 use borrow.Author.Needs.{needs}
-use Rattle.run_prepare.proofs.Ways.{scratch-room, prepare-exits}
+use Rattle.run_prepare.proofs.Ways.{prepare-exits, scratch-room}
 use Rattle.run_prepare.proofs.prepare.Statement.{statement}
 use Rattle.run_prepare.proofs.prepare.Tie as tie
 
@@ -19,11 +19,11 @@ same-length-3 c = search needs
 same-length-4 : tie.Need-same-length-4
 same-length-4 c = search needs
 
-returns : tie.Need-returns
-returns c = search (prepare-exits, needs)
-
 same-length-5 : tie.Need-same-length-5
 same-length-5 c = search needs
+
+returns : tie.Need-returns
+returns c = search (prepare-exits, needs)
 
 same-length-6 : tie.Need-same-length-6
 same-length-6 c = search needs
@@ -34,17 +34,17 @@ same-length-7 c = search needs
 same-length-8 : tie.Need-same-length-8
 same-length-8 c = search needs
 
-returns-2 : tie.Need-returns-2
-returns-2 c = search (prepare-exits, needs)
-
-judge-requires : tie.Need-judge-requires
-judge-requires c κs = scratch-room (c .before .before .before .before .before .before .scratch-enough .ensures) (c .before .before .before .before .before .if1 .left)
-
 same-length-9 : tie.Need-same-length-9
 same-length-9 c = search needs
 
 same-length-10 : tie.Need-same-length-10
 same-length-10 c = search needs
+
+returns-2 : tie.Need-returns-2
+returns-2 c = search (prepare-exits, needs)
+
+judge-requires : tie.Need-judge-requires
+judge-requires c κs = scratch-room (c .before .before .before .before .before .before .before .scratch-enough .ensures) (c .before .before .before .before .before .before .if1 .left)
 
 same-length-11 : tie.Need-same-length-11
 same-length-11 c = search needs
@@ -52,8 +52,39 @@ same-length-11 c = search needs
 same-length-12 : tie.Need-same-length-12
 same-length-12 c = search needs
 
+same-length-13 : tie.Need-same-length-13
+same-length-13 c = search needs
+
+same-length-14 : tie.Need-same-length-14
+same-length-14 c = search needs
+
+same-length-15 : tie.Need-same-length-15
+same-length-15 c = search needs
+
 returns-3 : tie.Need-returns-3
 returns-3 c = search (prepare-exits, needs)
 
 pub prepare-spec : {M : Type 1} → statement M
-prepare-spec = tie.close (tie.spec scratch-enough-requires same-length same-length-2 same-length-3 same-length-4 returns same-length-5 same-length-6 same-length-7 same-length-8 returns-2 judge-requires same-length-9 same-length-10 same-length-11 same-length-12 returns-3)
+prepare-spec =
+    tie.close
+    (tie.spec
+    scratch-enough-requires
+    same-length
+    same-length-2
+    same-length-3
+    same-length-4
+    same-length-5
+    returns
+    same-length-6
+    same-length-7
+    same-length-8
+    same-length-9
+    same-length-10
+    returns-2
+    judge-requires
+    same-length-11
+    same-length-12
+    same-length-13
+    same-length-14
+    same-length-15
+    returns-3)

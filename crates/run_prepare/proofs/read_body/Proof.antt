@@ -47,7 +47,7 @@ same-length-6 : tie.Need-same-length-6
 same-length-6 c = search needs
 
 returns-4 : tie.Need-returns-4
-returns-4 c = body-read (c .before .before .before .before .before .before .before .before .before .before .before .before .before .before .before .before .before .before .pre) (c .before .before .before .before .before .before .before .before .before .before .before .before .start .ensures) (search needs) (c .before .before .before .before .before .before .all-default .ensures) (c .before .before .before .fill-ends .ensures) (search needs)
+returns-4 c = body-read (c .before .before .before .before .before .before .before .before .before .before .before .before .before .before .before .before .before .before .before .pre) (c .before .before .before .before .before .before .before .before .before .before .before .before .start .ensures) (search needs) (c .before .before .before .before .before .before .all-default .ensures) (c .before .before .before .fill-ends .ensures) (search needs)
 
 pub read-body-spec : {M : Type 1} → statement M
 read-body-spec = tie.close (tie.spec start-requires enum-known-started enum-known-started-2 all-default-requires same-length returns fill-ends-requires same-length-2 same-length-3 returns-2 same-length-4 returns-3 same-length-5 same-length-6 returns-4)
