@@ -1,12 +1,13 @@
--- Which calls these are, and what they accept: 1.3.0, as one number. The second number counts the requests that changed what is
--- accepted; the third, those that since then changed only which refusal is told.
+-- Which calls these are, and what they accept: 2.0.0, as one number. The first number counts the shapes of the calls, of which
+-- request 5 of document 02 made the second: each call got a library. The second number counts the requests since then that
+-- changed what is accepted; the third, those that since then changed only which refusal is told.
 use Prim.Native.Nat.{ℕ, _+_, _*_}
 
 abbrev pub major : ℕ
-major = 1
+major = 2
 
 abbrev pub minor : ℕ
-minor = 3
+minor = 0
 
 abbrev pub patch : ℕ
 patch = 0

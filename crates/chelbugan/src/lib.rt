@@ -6,10 +6,10 @@ ghost use Rattle.run_buffers.specs.States.{stateOf, memory};
 ghost use Rattle.chelbugan_told.specs.Told.{SectionTold, TypeTold, BodyTold, RunTold};
 ghost use Rattle.chelbugan.specs.Version.{version};
 
-// 1.3.0: three requests of document 02 changed what is accepted, 4, 1 and then 10
-const MAJOR: u64 = 1;
+// The version, 2.0.0: request 5 of document 02 gave each call a library.
+const MAJOR: u64 = 2;
 
-const MINOR: u64 = 3;
+const MINOR: u64 = 0;
 
 const PATCH: u64 = 0;
 
@@ -21,62 +21,84 @@ pub extern "C" fn chelbugan_version() -> u64
     10000 * MAJOR + 100 * MINOR + PATCH
 }
 
-// Judges a section.
+// Judges a library and an add-on's section.
 #[no_mangle]
 pub extern "C" fn chelbugan_judge_section(
+    library: &[u8],
     section: &[u8],
     rows: &mut [u16],
+    shared: &mut [u16],
     codes: &mut [u16],
     answer: &mut [u64; 4],
 ) -> u64
-    ensures { λ r. let answer′ = now (answer .exit) in
-        ⌜ SectionTold (now (section .entry)) (now (rows .entry)) (now (codes .entry)) (now (rows .exit)) (now (codes .exit)) r answer′ ⌝ }
+    ensures { λ r. ⌜
+        SectionTold (now (library .entry)) (now (section .entry))
+        (now (rows .entry)) (now (shared .entry)) (now (codes .entry))
+        (now (rows .exit)) (now (shared .exit)) (now (codes .exit)) r (now (answer .exit)) ⌝ }
 {
-    chelbugan_section::judge_section(section, rows, codes, answer)
+    chelbugan_section::judge_section(library, section, rows, shared, codes, answer)
 }
 
-// Asks a section for a type by number.
+// Asks a library and an add-on's section for a type by number.
 #[no_mangle]
 pub extern "C" fn chelbugan_ask_type(
+    library: &[u8],
     section: &[u8],
     number: u64,
     rows: &mut [u16],
+    shared: &mut [u16],
     codes: &mut [u16],
     answer: &mut [u64; 4],
 ) -> u64
-    ensures { λ r. let answer′ = now (answer .exit) in
-        ⌜ TypeTold (now (section .entry)) number (now (rows .entry)) (now (codes .entry)) (now (rows .exit)) (now (codes .exit)) r answer′ ⌝ }
+    ensures { λ r. ⌜
+        TypeTold (now (library .entry)) (now (section .entry)) number
+        (now (rows .entry)) (now (shared .entry)) (now (codes .entry))
+        (now (rows .exit)) (now (shared .exit)) (now (codes .exit)) r (now (answer .exit)) ⌝ }
 {
-    chelbugan_section::ask_type(section, number, rows, codes, answer)
+    chelbugan_section::ask_type(library, section, number, rows, shared, codes, answer)
 }
 
-// Judges a body against a function type's number.
+// Judges a body against a function type's number, over a library and an add-on's section.
 #[no_mangle]
 pub extern "C" fn chelbugan_judge_body(
+    library: &[u8],
     section: &[u8],
     body: &[u8],
     number: u64,
     rows: &mut [u16],
+    shared: &mut [u16],
     codes: &mut [u16],
     work: &mut [u32],
     answer: &mut [u64; 4],
 ) -> u64
-    ensures { λ r. let s = now (section .entry) in let b = now (body .entry) in let answer′ = now (answer .exit) in
-        ⌜ BodyTold s b number
-        (now (rows .entry)) (now (codes .entry)) (now (work .entry))
-        (now (rows .exit)) (now (codes .exit)) (now (work .exit)) r answer′ ⌝ }
+    ensures { λ r. ⌜
+        BodyTold (now (library .entry)) (now (section .entry)) (now (body .entry)) number
+        (now (rows .entry)) (now (shared .entry)) (now (codes .entry)) (now (work .entry))
+        (now (rows .exit)) (now (shared .exit)) (now (codes .exit)) (now (work .exit)) r (now (answer .exit)) ⌝ }
 {
-    chelbugan_body::judge_body(section, body, number, rows, codes, work, answer)
+    chelbugan_body::judge_body(
+        library,
+        section,
+        body,
+        number,
+        rows,
+        shared,
+        codes,
+        work,
+        answer,
+    )
 }
 
-// Makes a trial run of a body, of at most so many steps.
+// Makes a trial run of a body, of at most `budget` steps.
 #[no_mangle]
 pub extern "C" fn chelbugan_try_run(
+    library: &[u8],
     section: &[u8],
     body: &[u8],
     number: u64,
     budget: u64,
     rows: &mut [u16],
+    shared: &mut [u16],
     codes: &mut [u16],
     work: &mut [u32],
     ends: &mut [u16],
@@ -88,19 +110,21 @@ pub extern "C" fn chelbugan_try_run(
     blocks: &mut [u16],
     answer: &mut [u64; 4],
 ) -> u64
-    ensures { λ r. let s = now (section .entry) in let b = now (body .entry) in
+    ensures { λ r. let l = now (library .entry) in let s = now (section .entry) in let b = now (body .entry) in
         let state = stateOf (now (counts .entry)) (now (objects .entry)) (now (cells .entry)) (now (locals .entry)) (now (operands .entry)) (now (blocks .entry)) in
         let state′ = stateOf (now (counts .exit)) (now (objects .exit)) (now (cells .exit)) (now (locals .exit)) (now (operands .exit)) (now (blocks .exit)) in
-        let before = memory (now (rows .entry)) (now (codes .entry)) (now (work .entry)) (now (ends .entry)) state in
-        let after = memory (now (rows .exit)) (now (codes .exit)) (now (work .exit)) (now (ends .exit)) state′ in
-        ⌜ RunTold s b number budget before after r (now (answer .exit)) ⌝ }
+        let before = memory (now (rows .entry)) (now (shared .entry)) (now (codes .entry)) (now (work .entry)) (now (ends .entry)) state in
+        let after = memory (now (rows .exit)) (now (shared .exit)) (now (codes .exit)) (now (work .exit)) (now (ends .exit)) state′ in
+        ⌜ RunTold l s b number budget before after r (now (answer .exit)) ⌝ }
 {
     let ran = run_call::try_run(
+        library,
         section,
         body,
         number,
         budget,
         rows,
+        shared,
         codes,
         work,
         ends,

@@ -15,10 +15,13 @@ same-length-2 c = search needs
 same-length-3 : tie.Need-same-length-3
 same-length-3 c = search needs
 
+same-length-4 : tie.Need-same-length-4
+same-length-4 c = search needs
+
 returns : tie.Need-returns
 returns c = search needs
 
 pub chelbugan-judge-body-spec : {M : Type 1} → statement M
 chelbugan-judge-body-spec =
     tie.close
-    (tie.spec judge-body-requires same-length same-length-2 same-length-3 returns)
+    (tie.spec judge-body-requires same-length same-length-2 same-length-3 same-length-4 returns)

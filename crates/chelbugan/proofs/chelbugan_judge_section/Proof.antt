@@ -12,10 +12,13 @@ same-length c = search needs
 same-length-2 : tie.Need-same-length-2
 same-length-2 c = search needs
 
+same-length-3 : tie.Need-same-length-3
+same-length-3 c = search needs
+
 returns : tie.Need-returns
 returns c = search needs
 
 pub chelbugan-judge-section-spec : {M : Type 1} → statement M
 chelbugan-judge-section-spec =
     tie.close
-    (tie.spec judge-section-requires same-length same-length-2 returns)
+    (tie.spec judge-section-requires same-length same-length-2 same-length-3 returns)

@@ -40,8 +40,11 @@ same-length-9 c = search needs
 same-length-10 : tie.Need-same-length-10
 same-length-10 c = search needs
 
+same-length-11 : tie.Need-same-length-11
+same-length-11 c = search needs
+
 returns : tie.Need-returns
-returns c = run-told (c .before .before .before .before .before .before .before .before .before .before .before .before .before .before .before .before .before .before .before .before .before .before .try-run .ensures) (c .tell-ran .ensures)
+returns c = run-told (c .before .before .before .before .before .before .before .before .before .before .before .before .before .before .before .before .before .before .before .before .before .before .before .before .try-run .ensures) (c .tell-ran .ensures)
 
 pub chelbugan-try-run-spec : {M : Type 1} → statement M
 chelbugan-try-run-spec =
@@ -59,4 +62,5 @@ chelbugan-try-run-spec =
     same-length-8
     same-length-9
     same-length-10
+    same-length-11
     returns)

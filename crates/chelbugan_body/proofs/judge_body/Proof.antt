@@ -19,10 +19,13 @@ same-length-2 c = search needs
 same-length-3 : tie.Need-same-length-3
 same-length-3 c = search needs
 
+same-length-4 : tie.Need-same-length-4
+same-length-4 c = search needs
+
 returns : tie.Need-returns
-returns c = body-told (c .before .before .before .before .before .before .before .before .judge-body .ensures) (c .tell-verdict .ensures)
+returns c = body-told (c .before .before .before .before .before .before .before .before .before .before .judge-body .ensures) (c .tell-verdict .ensures)
 
 pub judge-body-spec : {M : Type 1} → statement M
 judge-body-spec =
     tie.close
-    (tie.spec judge-body-requires tell-verdict-requires same-length same-length-2 same-length-3 returns)
+    (tie.spec judge-body-requires tell-verdict-requires same-length same-length-2 same-length-3 same-length-4 returns)

@@ -16,9 +16,12 @@ same-length c = search needs
 same-length-2 : tie.Need-same-length-2
 same-length-2 c = search needs
 
+same-length-3 : tie.Need-same-length-3
+same-length-3 c = search needs
+
 returns : tie.Need-returns
-returns c = search type-told
+returns c = type-told (c .before .before .before .before .before .before .before .before .ask-type .ensures) (c .tell-asked .ensures)
 
 pub ask-type-spec : {M : Type 1} → statement M
 ask-type-spec =
-    tie.close (tie.spec ask-type-requires tell-asked-requires same-length same-length-2 returns)
+    tie.close (tie.spec ask-type-requires tell-asked-requires same-length same-length-2 same-length-3 returns)

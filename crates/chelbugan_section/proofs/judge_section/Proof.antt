@@ -16,10 +16,13 @@ same-length c = search needs
 same-length-2 : tie.Need-same-length-2
 same-length-2 c = search needs
 
+same-length-3 : tie.Need-same-length-3
+same-length-3 c = search needs
+
 returns : tie.Need-returns
-returns c = search section-told
+returns c = section-told (c .before .before .before .before .before .before .before .before .judge-section .ensures) (c .tell-verdict .ensures)
 
 pub judge-section-spec : {M : Type 1} → statement M
 judge-section-spec =
     tie.close
-    (tie.spec judge-section-requires tell-verdict-requires same-length same-length-2 returns)
+    (tie.spec judge-section-requires tell-verdict-requires same-length same-length-2 same-length-3 returns)
