@@ -8,8 +8,9 @@ const MORE_BYTES: usize = scope::sizes::MOST_BYTES + 1;
 
 fn main() {
     let mut text = [0u8; 131072];
+    let mut library = [0u8; MORE_BYTES];
     let mut section = [0u8; MORE_BYTES];
     let mut body = [0u8; MORE_BYTES];
     let count = io::read_full(libc::STDIN_FILENO, &mut text);
-    lines::all(&text[..count], &mut section, &mut body);
+    lines::all(&text[..count], &mut library, &mut section, &mut body);
 }

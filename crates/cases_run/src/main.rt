@@ -10,10 +10,12 @@ const MORE_BYTES: usize = sizes::MOST_BYTES + 1;
 
 fn main() {
     let mut text = [0u8; 131072];
+    let mut library = [0u8; MORE_BYTES];
     let mut section = [0u8; MORE_BYTES];
     let mut body = [0u8; MORE_BYTES];
     let mut sizes = [
         sizes::ROWS as u64,
+        sizes::CODES as u64,
         sizes::CODES as u64,
         sizes::WORK as u64,
         sizes::ENDS as u64,
@@ -25,5 +27,11 @@ fn main() {
         sizes::BLOCKS as u64,
     ];
     let count = io::read_full(libc::STDIN_FILENO, &mut text);
-    lines::all(&text[..count], &mut section, &mut body, &mut sizes);
+    lines::all(
+        &text[..count],
+        &mut library,
+        &mut section,
+        &mut body,
+        &mut sizes,
+    );
 }

@@ -48,25 +48,29 @@ fn size(sizes: &[u64], which: usize, most: usize) -> usize
 // Whether the scratch is zero, as far as it was lent.
 fn scratch_zero(
     rows: &[u16; MORE_ROWS],
+    shared: &[u16; MORE_CODES],
     codes: &[u16; MORE_CODES],
     work: &[u32; MORE_WORK],
     ends: &[u16; MORE_ENDS],
     sizes: &[u64],
 ) -> bool {
     let r = size(sizes, 0, MORE_ROWS);
-    let c = size(sizes, 1, MORE_CODES);
-    let w = size(sizes, 2, MORE_WORK);
-    let e = size(sizes, 3, MORE_ENDS);
+    let h = size(sizes, 1, MORE_CODES);
+    let c = size(sizes, 2, MORE_CODES);
+    let w = size(sizes, 3, MORE_WORK);
+    let e = size(sizes, 4, MORE_ENDS);
     let a = zero(lent16(rows, r));
-    let b = zero(lent16(codes, c));
-    let d = zero32(lent32(work, w));
-    let f = zero(lent16(ends, e));
-    a & b & d & f
+    let b = zero(lent16(shared, h));
+    let d = zero(lent16(codes, c));
+    let f = zero32(lent32(work, w));
+    let g = zero(lent16(ends, e));
+    a & b & d & f & g
 }
 
 // The line behind the name: how the run ended, and the state, as far as it was lent.
 fn tell_lent(
     ran: Ran,
+    told: bool,
     scratch: bool,
     counts: &[u64; MORE_COUNTS],
     objects: &[u16; MORE_OBJECTS],
@@ -76,14 +80,15 @@ fn tell_lent(
     blocks: &[u16; MORE_BLOCKS],
     sizes: &[u64],
 ) {
-    let n = size(sizes, 4, MORE_COUNTS);
-    let o = size(sizes, 5, MORE_OBJECTS);
-    let f = size(sizes, 6, MORE_CELLS);
-    let l = size(sizes, 7, MORE_LOCALS);
-    let s = size(sizes, 8, MORE_OPERANDS);
-    let b = size(sizes, 9, MORE_BLOCKS);
+    let n = size(sizes, 5, MORE_COUNTS);
+    let o = size(sizes, 6, MORE_OBJECTS);
+    let f = size(sizes, 7, MORE_CELLS);
+    let l = size(sizes, 8, MORE_LOCALS);
+    let s = size(sizes, 9, MORE_OPERANDS);
+    let b = size(sizes, 10, MORE_BLOCKS);
     tell(
         ran,
+        told,
         scratch,
         lent64(counts, n),
         lent16(objects, o),
@@ -95,8 +100,18 @@ fn tell_lent(
 }
 
 // Each buffer has room for one element more than its size; so many elements as the sizes say are lent.
-pub fn tried(name: &[u8], section: &[u8], body: &[u8], number: u64, budget: u64, sizes: &[u64]) {
+pub fn tried(
+    name: &[u8],
+    library: &[u8],
+    section: &[u8],
+    body: &[u8],
+    number: u64,
+    budget: u64,
+    told: bool,
+    sizes: &[u64],
+) {
     let mut rows = [42405u16; MORE_ROWS];
+    let mut shared = [42405u16; MORE_CODES];
     let mut codes = [42405u16; MORE_CODES];
     let mut work = [2779096485u32; MORE_WORK];
     let mut ends = [42405u16; MORE_ENDS];
@@ -107,21 +122,24 @@ pub fn tried(name: &[u8], section: &[u8], body: &[u8], number: u64, budget: u64,
     let mut operands = [11936128518282651045u64; MORE_OPERANDS];
     let mut blocks = [42405u16; MORE_BLOCKS];
     let r = size(sizes, 0, MORE_ROWS);
-    let c = size(sizes, 1, MORE_CODES);
-    let w = size(sizes, 2, MORE_WORK);
-    let e = size(sizes, 3, MORE_ENDS);
-    let n = size(sizes, 4, MORE_COUNTS);
-    let o = size(sizes, 5, MORE_OBJECTS);
-    let f = size(sizes, 6, MORE_CELLS);
-    let l = size(sizes, 7, MORE_LOCALS);
-    let s = size(sizes, 8, MORE_OPERANDS);
-    let b = size(sizes, 9, MORE_BLOCKS);
+    let h = size(sizes, 1, MORE_CODES);
+    let c = size(sizes, 2, MORE_CODES);
+    let w = size(sizes, 3, MORE_WORK);
+    let e = size(sizes, 4, MORE_ENDS);
+    let n = size(sizes, 5, MORE_COUNTS);
+    let o = size(sizes, 6, MORE_OBJECTS);
+    let f = size(sizes, 7, MORE_CELLS);
+    let l = size(sizes, 8, MORE_LOCALS);
+    let s = size(sizes, 9, MORE_OPERANDS);
+    let b = size(sizes, 10, MORE_BLOCKS);
     let ran = run_call::try_run(
+        library,
         section,
         body,
         number,
         budget,
         &mut rows[0..r],
+        &mut shared[0..h],
         &mut codes[0..c],
         &mut work[0..w],
         &mut ends[0..e],
@@ -133,9 +151,10 @@ pub fn tried(name: &[u8], section: &[u8], body: &[u8], number: u64, budget: u64,
         &mut blocks[0..b],
     );
     tell_name(name);
-    let scratch = scratch_zero(&rows, &codes, &work, &ends, sizes);
+    let scratch = scratch_zero(&rows, &shared, &codes, &work, &ends, sizes);
     tell_lent(
         ran,
+        told,
         scratch,
         &counts,
         &objects,

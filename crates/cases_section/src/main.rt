@@ -11,8 +11,9 @@ mod telling;
 const MORE_BYTES: usize = scope::sizes::MOST_BYTES + 1;
 
 fn main() {
-    let mut text = [0u8; 32768];
+    let mut text = [0u8; 65536];
+    let mut library = [0u8; MORE_BYTES];
     let mut section = [0u8; MORE_BYTES];
     let count = io::read_full(libc::STDIN_FILENO, &mut text);
-    lines::all(&text[..count], &mut section);
+    lines::all(&text[..count], &mut library, &mut section);
 }

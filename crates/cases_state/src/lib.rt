@@ -2,6 +2,8 @@
 // place; the entries of each buffer that has any, an entry's words with `:` between them, and `1024*` before an entry that
 // stands so often in a row; and `zero` or `not zero`, for the scratch and for what lies beyond the state. A refusal has no
 // place and no entries.
+use cases_text::tell_number;
+use cases_text::tell_refusal;
 use libc::STDOUT_FILENO;
 use scope::Ran;
 use scope::sizes;
@@ -10,12 +12,6 @@ use scope::sizes;
 const MORE_OBJECTS: usize = sizes::OBJECTS + 1;
 
 const MORE_BLOCKS: usize = sizes::BLOCKS + 1;
-
-// A space, and a number.
-fn tell_number(n: u64) {
-    io::write_all(STDOUT_FILENO, b" ");
-    io::print_decimal(STDOUT_FILENO, n);
-}
 
 pub fn tell_name(name: &[u8]) {
     io::write_all(STDOUT_FILENO, name);
@@ -156,7 +152,7 @@ fn tell_entries(what: &[u8], m: &[u64], width: u8, count: u64) -> bool {
 }
 
 // How it ended; how many counts the state has.
-fn tell_ran(ran: Ran) -> usize {
+fn tell_ran(ran: Ran, told: bool) -> usize {
     match ran {
         Ran::Done(steps, results) => {
             io::write_all(STDOUT_FILENO, b" done");
@@ -177,9 +173,7 @@ fn tell_ran(ran: Ran) -> usize {
             6
         }
         Ran::Refused(number, place) => {
-            io::write_all(STDOUT_FILENO, b" no");
-            tell_number(number);
-            tell_number(place);
+            tell_refusal(number, place, told);
             0
         }
     }
@@ -207,9 +201,10 @@ fn tell_state(
     a & b & c & d & e
 }
 
-// The line behind the name. The scratch is known to be zero or not.
+// The line behind the name. The scratch is known to be zero or not, and a refusal tells its input or does not.
 pub fn tell(
     ran: Ran,
+    told: bool,
     scratch: bool,
     counts: &[u64],
     objects: &[u16],
@@ -222,7 +217,7 @@ pub fn tell(
     let mut wide_blocks = [0u64; MORE_BLOCKS];
     widen(objects, &mut wide_objects);
     widen(blocks, &mut wide_blocks);
-    let told = tell_ran(ran);
+    let told = tell_ran(ran, told);
     if 0 < told {
         tell_place(word(counts, 0));
     }

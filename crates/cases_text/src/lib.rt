@@ -1,6 +1,9 @@
 // What the programs with cases in a file share. Bytes that are written as text: words of hexadecimal digits, with a space
 // between two; `512*4100` is 512 times 41 00, and `63*5001++5F00` counts: 50 01 00 5F 00, 50 01 01 5F 00 and so on. Nothing
-// here fails: what does not fit is left out, and a sign that is no digit counts as 0. And whether lent words are zero.
+// here fails: what does not fit is left out, and a sign that is no digit counts as 0. And whether lent words are zero, the
+// line that sets a library, and a refusal as text.
+use libc::STDOUT_FILENO;
+use scope::Place;
 ghost use Prim.Native.Nat.{_≤_};
 
 pub const SPACE: u8 = b' ';
@@ -8,6 +11,11 @@ pub const SPACE: u8 = b' ';
 pub const LINE_END: u8 = b'\n';
 
 pub const REMARK: u8 = b'#';
+
+// the first sign of a line that sets the library, and of its word for none
+pub const LIBRARY: u8 = b'<';
+
+const NONE: u8 = b'n';
 
 const STAR: u8 = b'*';
 
@@ -152,4 +160,54 @@ pub fn zero32(m: &[u32]) -> bool {
         i += 1;
     }
     true
+}
+
+// The library of the cases that follow: how many bytes it has, and whether an answer says in which input its place lies.
+pub struct Library {
+    pub length: usize,
+    pub told: bool,
+}
+
+// A line that begins with `<`: the library's bytes are laid at the start of `out`. `< none` is the library of no types, and
+// its cases are answered as if there were no library.
+pub fn read_library(line: &[u8], out: &mut [u8]) -> Library {
+    if sign(line, 2) == NONE {
+        let length = bytes(out, b"00", 0);
+        return Library {
+            length,
+            told: false,
+        };
+    }
+    let length = bytes(out, line, 1);
+    Library { length, told: true }
+}
+
+// A space, and a number.
+pub fn tell_number(n: u64) {
+    io::write_all(STDOUT_FILENO, b" ");
+    io::print_decimal(STDOUT_FILENO, n);
+}
+
+// The word for an input, where it is told.
+pub fn tell_input(input: &[u8], told: bool) {
+    if told {
+        io::write_all(STDOUT_FILENO, input);
+    }
+}
+
+// A refusal: `no`, its number, its place, and the input that the place is a byte of.
+pub fn tell_refusal(number: u64, place: Place, told: bool) {
+    io::write_all(STDOUT_FILENO, b" no");
+    tell_number(number);
+    match place {
+        Place::Library(at) => {
+            tell_number(at);
+            tell_input(b" library", told);
+        }
+        Place::Addon(at) => {
+            tell_number(at);
+            tell_input(b" addon", told);
+        }
+        Place::Plain(at) => tell_number(at),
+    }
 }

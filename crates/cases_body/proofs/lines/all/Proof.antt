@@ -7,10 +7,10 @@ use Rattle.cases_body.proofs.lines.all.Statement.{statement}
 use Rattle.cases_body.proofs.lines.all.Tie as tie
 
 abbrev Inv-loop : tie.InvT-loop
-Inv-loop text section₀ body₀ setting₀ from₀ section body setting from = (length section ≡ length section₀) × (length body ≡ length body₀)
+Inv-loop text library₀ section₀ body₀ setting₀ from₀ library section body setting from = (length library ≡ length library₀) × (length section ≡ length section₀) × (length body ≡ length body₀)
 
 abbrev μ-loop : tie.MeasureT-loop
-μ-loop text section₀ body₀ setting₀ from₀ section body setting from = length text - from
+μ-loop text library₀ section₀ body₀ setting₀ from₀ library section body setting from = length text - from
 
 loop-holds : tie.Need-loop-holds Inv-loop μ-loop
 loop-holds c = search needs
@@ -30,6 +30,9 @@ same-length c = search needs
 same-length-2 : tie.Need-same-length-2 Inv-loop μ-loop
 same-length-2 c = search needs
 
+same-length-3 : tie.Need-same-length-3 Inv-loop μ-loop
+same-length-3 c = search needs
+
 returns : tie.Need-returns Inv-loop μ-loop
 returns c = search needs
 
@@ -42,11 +45,14 @@ loop-less c = search needs
 loop-again : tie.Need-loop-again Inv-loop μ-loop
 loop-again c = search needs
 
-same-length-3 : tie.Need-same-length-3 Inv-loop μ-loop
-same-length-3 c = search needs
-
 same-length-4 : tie.Need-same-length-4 Inv-loop μ-loop
 same-length-4 c = search needs
+
+same-length-5 : tie.Need-same-length-5 Inv-loop μ-loop
+same-length-5 c = search needs
+
+same-length-6 : tie.Need-same-length-6 Inv-loop μ-loop
+same-length-6 c = search needs
 
 returns-2 : tie.Need-returns-2 Inv-loop μ-loop
 returns-2 c = search needs
@@ -63,10 +69,12 @@ all-spec =
     read-requires
     same-length
     same-length-2
+    same-length-3
     returns
     add-from
     loop-less
     loop-again
-    same-length-3
     same-length-4
+    same-length-5
+    same-length-6
     returns-2)

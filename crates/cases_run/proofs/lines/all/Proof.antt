@@ -7,10 +7,10 @@ use Rattle.cases_run.proofs.lines.all.Statement.{statement}
 use Rattle.cases_run.proofs.lines.all.Tie as tie
 
 abbrev Inv-loop : tie.InvT-loop
-Inv-loop text section₀ body₀ sizes₀ setting₀ from₀ section body sizes setting from = (length section ≡ length section₀) × (length body ≡ length body₀) × (length sizes ≡ length sizes₀)
+Inv-loop text library₀ section₀ body₀ sizes₀ setting₀ from₀ library section body sizes setting from = (length library ≡ length library₀) × (length section ≡ length section₀) × (length body ≡ length body₀) × (length sizes ≡ length sizes₀)
 
 abbrev μ-loop : tie.MeasureT-loop
-μ-loop text section₀ body₀ sizes₀ setting₀ from₀ section body sizes setting from = length text - from
+μ-loop text library₀ section₀ body₀ sizes₀ setting₀ from₀ library section body sizes setting from = length text - from
 
 loop-holds : tie.Need-loop-holds Inv-loop μ-loop
 loop-holds c = search needs
@@ -33,6 +33,9 @@ same-length-2 c = search needs
 same-length-3 : tie.Need-same-length-3 Inv-loop μ-loop
 same-length-3 c = search needs
 
+same-length-4 : tie.Need-same-length-4 Inv-loop μ-loop
+same-length-4 c = search needs
+
 returns : tie.Need-returns Inv-loop μ-loop
 returns c = search needs
 
@@ -45,14 +48,17 @@ loop-less c = search needs
 loop-again : tie.Need-loop-again Inv-loop μ-loop
 loop-again c = search needs
 
-same-length-4 : tie.Need-same-length-4 Inv-loop μ-loop
-same-length-4 c = search needs
-
 same-length-5 : tie.Need-same-length-5 Inv-loop μ-loop
 same-length-5 c = search needs
 
 same-length-6 : tie.Need-same-length-6 Inv-loop μ-loop
 same-length-6 c = search needs
+
+same-length-7 : tie.Need-same-length-7 Inv-loop μ-loop
+same-length-7 c = search needs
+
+same-length-8 : tie.Need-same-length-8 Inv-loop μ-loop
+same-length-8 c = search needs
 
 returns-2 : tie.Need-returns-2 Inv-loop μ-loop
 returns-2 c = search needs
@@ -70,11 +76,13 @@ all-spec =
     same-length
     same-length-2
     same-length-3
+    same-length-4
     returns
     add-from
     loop-less
     loop-again
-    same-length-4
     same-length-5
     same-length-6
+    same-length-7
+    same-length-8
     returns-2)

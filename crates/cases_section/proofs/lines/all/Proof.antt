@@ -1,4 +1,4 @@
--- `cases_section::lines::all` is safe and ends: a line keeps the length, and each turn ends past the line that it found.
+-- `cases_section::lines::all` is safe and ends: a line keeps the lengths, and each turn ends past the line that it found.
 use borrow.Author.Needs.{needs}
 use mathlib.Core.Path.{_≡_}
 use Prim.Native.Nat.{_-_}
@@ -7,10 +7,10 @@ use Rattle.cases_section.proofs.lines.all.Statement.{statement}
 use Rattle.cases_section.proofs.lines.all.Tie as tie
 
 abbrev Inv-loop : tie.InvT-loop
-Inv-loop text section₀ lent₀ from₀ section lent from = length section ≡ length section₀
+Inv-loop text library₀ section₀ setting₀ from₀ library section setting from = (length library ≡ length library₀) × (length section ≡ length section₀)
 
 abbrev μ-loop : tie.MeasureT-loop
-μ-loop text section₀ lent₀ from₀ section lent from = length text - from
+μ-loop text library₀ section₀ setting₀ from₀ library section setting from = length text - from
 
 loop-holds : tie.Need-loop-holds Inv-loop μ-loop
 loop-holds c = search needs
@@ -27,6 +27,9 @@ read-requires c κs = search needs
 same-length : tie.Need-same-length Inv-loop μ-loop
 same-length c = search needs
 
+same-length-2 : tie.Need-same-length-2 Inv-loop μ-loop
+same-length-2 c = search needs
+
 returns : tie.Need-returns Inv-loop μ-loop
 returns c = search needs
 
@@ -39,8 +42,11 @@ loop-less c = search needs
 loop-again : tie.Need-loop-again Inv-loop μ-loop
 loop-again c = search needs
 
-same-length-2 : tie.Need-same-length-2 Inv-loop μ-loop
-same-length-2 c = search needs
+same-length-3 : tie.Need-same-length-3 Inv-loop μ-loop
+same-length-3 c = search needs
+
+same-length-4 : tie.Need-same-length-4 Inv-loop μ-loop
+same-length-4 c = search needs
 
 returns-2 : tie.Need-returns-2 Inv-loop μ-loop
 returns-2 c = search needs
@@ -56,9 +62,11 @@ all-spec =
     part-requires
     read-requires
     same-length
+    same-length-2
     returns
     add-from
     loop-less
     loop-again
-    same-length-2
+    same-length-3
+    same-length-4
     returns-2)
