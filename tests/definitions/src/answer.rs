@@ -1,24 +1,47 @@
 //! The words of an answer as an answer line. The layout of the words is docs/LAYOUT.md's.
 
-use crate::request::Request;
+use crate::request::{Asked, Request};
 
 pub fn line(request: &Request, words: &[u64]) -> String {
     if words.first() == Some(&0) {
-        return format!("no {} {}", words[1], words[2]);
+        return format!("no {} {}{}", words[1], words[2], input(request, words[3]));
     }
     let answer = &words[1..];
-    match request {
-        Request::Section { .. } => section(answer),
-        Request::Type { .. } => format!("yes {}", answer.iter().map(|b| format!("{b:02x}")).collect::<String>()),
-        Request::Body { .. } => format!("yes {}", answer[0]),
-        Request::Run { .. } => run(answer),
+    match request.asked {
+        Asked::Section => section(request, answer),
+        Asked::Type { .. } => format!("yes {}{}", hex(&answer[1..]), input(request, answer[0])),
+        Asked::Body { .. } => format!("yes {}", answer[0]),
+        Asked::Run { .. } => run(answer),
     }
 }
 
-const ROW: usize = 12;
+const LIBRARY: u64 = 1;
+const ADDON: u64 = 2;
 
-fn section(words: &[u64]) -> String {
+/// The word for the input that something lies in. It is said only where the request has a library, and of no input there is
+/// none to say.
+fn input(request: &Request, input: u64) -> &'static str {
+    match (&request.library, input) {
+        (None, 0..=ADDON) | (Some(_), 0) => "",
+        (Some(_), LIBRARY) => " library",
+        (Some(_), ADDON) => " addon",
+        _ => " of no such input",
+    }
+}
+
+fn hex(bytes: &[u64]) -> String {
+    bytes.iter().map(|b| format!("{b:02x}")).collect()
+}
+
+/// Words of a row; which one says where its codes begin; and from where on they are the library's.
+const ROW: usize = 16;
+const FIRST_CODE: usize = 10;
+const SHARED: u64 = 32_768;
+
+fn section(request: &Request, words: &[u64]) -> String {
     let count = words[0] as usize;
+    let holder = |row: &[u64]| if row[FIRST_CODE] < SHARED { ADDON } else { LIBRARY };
+    let row = |words: &[u64]| row(words) + input(request, holder(words));
     let rows: Vec<String> = words[1..].chunks(ROW).take(count).map(row).collect();
     match count {
         0 => "yes 0".to_string(),

@@ -1,7 +1,7 @@
 //! A crate of questions beside the definitions: each request is a type that holds the packed answer, with a hole for its
 //! proof, and the checker prints what the type computes to.
 
-use crate::request::Request;
+use crate::request::{Asked, Request};
 use crate::words;
 use std::fmt::Write as _;
 use std::path::{Path, PathBuf};
@@ -61,10 +61,7 @@ impl Checker {
             let _ = write!(text, "\nq{i} : Shows (packed 1 ({}))\nunfolding computes packed\nq{i} = ?q{i}\n", call(request));
         }
         let file = self.folder.join("crates/asked/proofs/Asked.antt");
-        let said = match std::fs::write(file, text).and_then(|()| self.rt(&["dev", "asked", "--allow-holes"])) {
-            Ok(said) => said,
-            Err(_) => String::new(),
-        };
+        let said = std::fs::write(file, text).and_then(|()| self.rt(&["dev", "asked", "--allow-holes"])).unwrap_or_default();
         (0..requests.len()).map(|i| shown(&said, i)).collect()
     }
 }
@@ -91,13 +88,12 @@ fn copy_folder(from: &Path, to: &Path) -> std::io::Result<()> {
 
 /// The definition that answers the request, applied to it.
 fn call(request: &Request) -> String {
-    match request {
-        Request::Section { section } => format!("sectionWords {}", list(section)),
-        Request::Type { section, number } => format!("typeWords {} {number}", list(section)),
-        Request::Body { section, number, body } => format!("bodyWords {} {number} {}", list(section), list(body)),
-        Request::Run { section, number, body, budget } => {
-            format!("runWords {} {number} {} {budget}", list(section), list(body))
-        }
+    let sections = format!("{} {}", list(request.library()), list(&request.section));
+    match &request.asked {
+        Asked::Section => format!("sectionWords {sections}"),
+        Asked::Type { number } => format!("typeWords {sections} {number}"),
+        Asked::Body { number, body } => format!("bodyWords {sections} {number} {}", list(body)),
+        Asked::Run { number, body, budget } => format!("runWords {sections} {number} {} {budget}", list(body)),
     }
 }
 

@@ -20,6 +20,7 @@ use crate::syntax::{
 
 /// An accepted body, ready to be run.
 pub struct Body {
+    /// The library's and then the add-on's.
     pub types: Vec<Type>,
     pub parameters: Vec<ValueType>,
     pub results: Vec<ValueType>,
@@ -35,9 +36,14 @@ pub struct Checker<'a> {
     pub set: Vec<bool>,
 }
 
-/// Section, body size, 27, locals, instructions, and last what is left over.
-pub fn judge_body(section: &[u8], number: u32, body: &[u8]) -> Result<Body, Refusal> {
-    let types = judge_section(section)?;
+/// Sections, body size, 27, locals, instructions, and last what is left over.
+pub fn judge_body(
+    library: &[u8],
+    section: &[u8],
+    number: u32,
+    body: &[u8],
+) -> Result<Body, Refusal> {
+    let types = judge_section(library, section)?;
     within_input_size(body)?;
     let (parameters, results) = function_of(&types, number)?;
     let mut reader = Reader::new(body);
@@ -52,12 +58,13 @@ pub fn judge_body(section: &[u8], number: u32, body: &[u8]) -> Result<Body, Refu
 /// The operands of the innermost frame before the instruction at a place, bottom first, and whether the frame is
 /// unreachable. None where no instruction begins there, or an earlier one is refused.
 pub fn operands_before(
+    library: &[u8],
     section: &[u8],
     number: u32,
     body: &[u8],
     place: usize,
 ) -> Option<(Vec<Operand>, bool)> {
-    let types = judge_section(section).ok()?;
+    let types = judge_section(library, section).ok()?;
     let (parameters, results) = function_of(&types, number).ok()?;
     let mut reader = Reader::new(body);
     let locals = read_locals(&mut reader, &types, &parameters).ok()?;

@@ -43,8 +43,14 @@ struct Machine<'a> {
 }
 
 /// The body's refusals, then budget, then parameters; then the run.
-pub fn trial_run(section: &[u8], number: u32, body: &[u8], budget: u64) -> Result<Run, Refusal> {
-    let body = judge_body(section, number, body)?;
+pub fn trial_run(
+    library: &[u8],
+    section: &[u8],
+    number: u32,
+    body: &[u8],
+    budget: u64,
+) -> Result<Run, Refusal> {
+    let body = judge_body(library, section, number, body)?;
     if budget > sizes::BUDGET {
         return refuse(SIZE_EXCEEDED, 0);
     }

@@ -1,11 +1,28 @@
-//! Refusals: a number of the paper's table and a place.
+//! Refusals: a number of the paper's table, a place, and in which input the place lies.
 //!
 //! A place is a byte offset, or a type's number for the rules of a section.
+
+/// The two sections that types come from. The library's types have the first numbers.
+#[derive(Clone, Copy, Debug, PartialEq, Eq, PartialOrd, Ord)]
+pub enum Input {
+    Library,
+    Addon,
+}
 
 #[derive(Clone, Copy, Debug, PartialEq, Eq)]
 pub struct Refusal {
     pub number: u32,
     pub place: usize,
+    /// Of a byte of one of the two sections. None for a type's number, a place in a body
+    /// and the 0 of what is asked for.
+    pub input: Option<Input>,
+}
+
+impl Refusal {
+    /// The same, at a byte of this section.
+    pub fn of(self, input: Input) -> Refusal {
+        Refusal { input: Some(input), ..self }
+    }
 }
 
 /// A refusal of an instruction before its place is put on it.
@@ -37,5 +54,5 @@ pub const ONLY_NULL: Number = 31;
 pub const NUMBER_PADDED: Number = 32;
 
 pub fn refuse<T>(number: Number, place: usize) -> Result<T, Refusal> {
-    Err(Refusal { number, place })
+    Err(Refusal { number, place, input: None })
 }

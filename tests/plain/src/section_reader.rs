@@ -1,10 +1,11 @@
 //! The bytes of a section: groups, definitions, value types and heap types.
 //!
+//! The types read come after those that are there already: numbers run on.
 //! Faults 1 to 5 and 32 are given here, in reading order; the rules come later.
 
 use crate::number::Reader;
 use crate::order::abstract_of_code;
-use crate::refusal::{refuse, Refusal, NOT_LISTED, SIZE_EXCEEDED};
+use crate::refusal::{refuse, Input, Refusal, NOT_LISTED, SIZE_EXCEEDED};
 use crate::sizes;
 use crate::syntax::{Definition, Field, Form, Heap, Reference, Type, ValueType};
 
@@ -25,31 +26,29 @@ pub const REF_NULL: u8 = 0x63;
 pub const REF: u8 = 0x64;
 pub const EXACT: u8 = 0x62;
 
-pub fn read_section(bytes: &[u8]) -> Result<Vec<Type>, Refusal> {
+pub fn read_section(types: &mut Vec<Type>, input: Input, bytes: &[u8]) -> Result<(), Refusal> {
     let mut reader = Reader::new(bytes);
-    let mut types = Vec::new();
     let groups = reader.u32()?;
     for _ in 0..groups {
-        read_group(&mut reader, &mut types)?;
+        read_group(&mut reader, input, types)?;
     }
-    reader.finish()?;
-    Ok(types)
+    reader.finish()
 }
 
-fn read_group(reader: &mut Reader, types: &mut Vec<Type>) -> Result<(), Refusal> {
+pub fn read_group(reader: &mut Reader, input: Input, types: &mut Vec<Type>) -> Result<(), Refusal> {
     let first = types.len();
     if reader.takes(GROUP) {
         let count = reader.u32()?;
         for _ in 0..count {
             room_for_type(reader, types)?;
-            types.push(read_type(reader)?);
+            types.push(read_type(reader, input)?);
         }
     } else {
         // A missing byte is said before the size is: nothing says what starts here.
         if reader.peek().is_some() {
             room_for_type(reader, types)?;
         }
-        types.push(read_type(reader)?);
+        types.push(read_type(reader, input)?);
     }
     let reach = types.len();
     types[first..].iter_mut().for_each(|member| member.reach = reach);
@@ -63,12 +62,12 @@ fn room_for_type(reader: &Reader, types: &[Type]) -> Result<(), Refusal> {
     Ok(())
 }
 
-fn read_type(reader: &mut Reader) -> Result<Type, Refusal> {
+fn read_type(reader: &mut Reader, input: Input) -> Result<Type, Refusal> {
     let start = reader.place();
     let definition = read_definition(reader)?;
     let end = reader.place();
     // The reach is known when the group has been read.
-    Ok(Type { definition, start, end, reach: 0 })
+    Ok(Type { definition, input, start, end, reach: 0 })
 }
 
 fn read_definition(reader: &mut Reader) -> Result<Definition, Refusal> {

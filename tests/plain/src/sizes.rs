@@ -1,7 +1,9 @@
-//! The sizes of document 01, each named once.
+//! The sizes of document 01, as document 02 amends them, each named once.
 
+/// Of the library, the add-on's section and a body, each.
 pub const INPUT_BYTES: usize = 32_768;
-pub const TYPES: usize = 256;
+/// In the library and the add-on's section together.
+pub const TYPES: usize = 1_024;
 /// Fields of a struct, parameters or results of a function, each.
 pub const ENTRIES: usize = 64;
 pub const CHAIN_STEPS: usize = 63;

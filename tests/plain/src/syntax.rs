@@ -2,6 +2,8 @@
 //!
 //! Names are document 01's. Nothing here has been judged.
 
+use crate::refusal::Input;
+
 /// The ten abstract heap types.
 #[derive(Clone, Copy, Debug, PartialEq, Eq)]
 pub enum Abstract {
@@ -64,9 +66,11 @@ pub struct Definition {
 #[derive(Clone, Debug, PartialEq, Eq)]
 pub struct Type {
     pub definition: Definition,
+    /// The section that holds it; the places count in that one.
+    pub input: Input,
     pub start: usize,
     pub end: usize,
-    /// The count of types up to the end of its own group.
+    /// The count of types up to the end of its own group, the library's counted.
     pub reach: usize,
 }
 

@@ -1,7 +1,8 @@
 //! Type rules 1 to 5 of a section, asked type by type in two passes.
 //!
 //! First 6, 7 and the chain's 4 of every type; then 8 to 13 of every type.
-//! Each rule answers whether a type keeps it; the place is the type's number.
+//! Each rule answers whether a type keeps it; the place is the type's number, which is that
+//! of the joined list.
 
 use crate::order::{value_fit, Fit};
 use crate::refusal::{
@@ -28,13 +29,15 @@ const SECOND_PASS: [(Number, Rule); 6] = [
     (RULE_5, described_follows_supertype),
 ];
 
-pub fn judge_types(types: &[Type]) -> Result<(), Refusal> {
-    pass(types, &FIRST_PASS)?;
-    pass(types, &SECOND_PASS)
+/// The types from `first` on. Those before it are a judged library: they name none of
+/// these, so nothing about them is new.
+pub fn judge_types(types: &[Type], first: usize) -> Result<(), Refusal> {
+    pass(types, first, &FIRST_PASS)?;
+    pass(types, first, &SECOND_PASS)
 }
 
-fn pass(types: &[Type], rules: &[(Number, Rule)]) -> Result<(), Refusal> {
-    for number in 0..types.len() {
+fn pass(types: &[Type], first: usize, rules: &[(Number, Rule)]) -> Result<(), Refusal> {
+    for number in first..types.len() {
         if let Some((refusal, _)) = rules.iter().find(|(_, rule)| !rule(types, number)) {
             return refuse(*refusal, number);
         }

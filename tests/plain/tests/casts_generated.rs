@@ -4,7 +4,7 @@
 
 use plain::generate::requests;
 use plain::instruction_reader::{read_instruction, read_locals_entry};
-use plain::lines::{answer, read_bytes};
+use plain::lines::{answer_request, read_request, Request};
 use plain::machine::trial_run;
 use plain::number::Reader;
 use plain::order::{heap_below, row_of, top_of};
@@ -25,28 +25,22 @@ fn form(cast: &BranchingCast) -> &'static str {
 
 /// A request for a body whose section is accepted.
 struct Asked {
-    section: Vec<u8>,
+    request: Request,
     types: Vec<Type>,
-    number: u32,
-    body: Vec<u8>,
     code: Vec<Placed>,
     answer: String,
 }
 
 impl Asked {
     fn of(request: &str) -> Option<Asked> {
-        let parts: Vec<&str> = request.split(' ').collect();
-        let (["B", section, number, body] | ["R", section, number, body, _]) = parts[..] else {
-            return None;
-        };
-        let section = read_bytes(section).ok()?;
-        let types = judge_section(&section).ok()?;
-        let body = read_bytes(body).ok()?;
+        let request = read_request(request).ok()?;
+        let (_, body) = request.body()?;
+        let types = judge_section(request.library(), &request.section).ok()?;
         let mut code = Vec::new();
         // What cannot be read ends the list.
-        let _ = read_code(&body, &mut code);
-        let (number, answer) = (number.parse().ok()?, answer(request));
-        Some(Asked { section, types, number, body, code, answer })
+        let _ = read_code(body, &mut code);
+        let answer = answer_request(&request);
+        Some(Asked { request, types, code, answer })
     }
 
     fn refused(&self) -> bool {
@@ -85,8 +79,10 @@ impl Asked {
     /// Whether the cast was seen to branch, and to fall through, within so many steps.
     fn ways(&self, place: usize) -> (bool, bool) {
         let after = self.code.iter().map(|placed| placed.place).find(|&other| other > place);
+        let (library, section) = (self.request.library(), &self.request.section);
+        let (number, body) = self.request.body().expect("it has one");
         let places: Vec<usize> = (0..24)
-            .map_while(|budget| trial_run(&self.section, self.number, &self.body, budget).ok())
+            .map_while(|budget| trial_run(library, section, number, body, budget).ok())
             .map(|run| run.place)
             .collect();
         let mut ways = (false, false);

@@ -81,12 +81,13 @@ fn a_loop_without_end() {
 
 #[test]
 fn types_at_their_size() {
-    let most = format!("80 02 {}", times(256, "5F 00"));
-    assert_eq!(count_only(&section(&most)), "yes 256");
-    let one_more = format!("81 02 {}", times(257, "5F 00"));
-    assert_eq!(section(&one_more), "no 4 514");
-    let in_one_group = format!("01 4E 81 02 {}", times(257, "5F 00"));
-    assert_eq!(section(&in_one_group), "no 4 516");
+    // 256 of the paper are 1,024 after request 5 of document 02.
+    let most = format!("80 08 {}", times(1_024, "5F 00"));
+    assert_eq!(count_only(&section(&most)), "yes 1024");
+    let one_more = format!("81 08 {}", times(1_025, "5F 00"));
+    assert_eq!(section(&one_more), "no 4 2050");
+    let in_one_group = format!("01 4E 81 08 {}", times(1_025, "5F 00"));
+    assert_eq!(section(&in_one_group), "no 4 2052");
 }
 
 #[test]

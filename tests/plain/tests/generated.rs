@@ -2,10 +2,10 @@
 //! answer often, and a third of the bodies accepted and run with objects.
 
 use plain::generate::requests;
-use plain::lines::answer;
+use plain::lines::{answer, answer_request, read_request, Asked};
 use plain::tally::tally;
 
-const COUNT: usize = 10_000;
+const COUNT: usize = 12_000;
 
 fn answered(seed: u64, small: bool) -> Vec<(String, String)> {
     let answer_to = |request: String| {
@@ -57,14 +57,15 @@ fn a_third_of_the_runs_allocate() {
 /// does not depend on the budget, and a body is accepted whatever is asked of it.
 #[test]
 fn runs_and_judgements_agree() {
-    for (request, ended) in answered(3, true) {
-        let parts: Vec<&str> = request.split(' ').collect();
-        let ["R", section, number, body, _] = parts[..] else {
+    for (line, ended) in answered(3, true) {
+        let mut request = read_request(&line).expect("the generator writes requests");
+        let Asked::Run(number, body, _) = request.asked else {
             continue;
         };
-        let judged = answer(&format!("B {section} {number} {body}"));
+        request.asked = Asked::Body(number, body);
+        let judged = answer_request(&request);
         let refused_later = ended == "no 4 0" || ended == "no 29 0";
-        assert!(judged.starts_with("yes") != ended.starts_with("no") || refused_later, "{request}");
+        assert!(judged.starts_with("yes") != ended.starts_with("no") || refused_later, "{line}");
     }
 }
 

@@ -5,7 +5,7 @@ use plain::body::{judge_body, operands_before};
 use plain::frames::Operand;
 use plain::generate::requests;
 use plain::instruction_reader::read_instruction;
-use plain::lines::read_bytes;
+use plain::lines::read_request;
 use plain::number::Reader;
 use plain::refusal::{ONLY_NULL, OPERAND, VALUES_LEFT};
 use plain::syntax::{Instruction, ValueType};
@@ -44,14 +44,6 @@ fn name(instruction: Instruction) -> Option<&'static str> {
     })
 }
 
-fn parts(request: &str) -> Option<(Vec<u8>, u32, Vec<u8>)> {
-    let parts: Vec<&str> = request.split(' ').collect();
-    let (["B", section, number, body] | ["R", section, number, body, _]) = parts[..] else {
-        return None;
-    };
-    Some((read_bytes(section).ok()?, number.parse().ok()?, read_bytes(body).ok()?))
-}
-
 fn instruction_at(body: &[u8], place: usize) -> Option<Instruction> {
     let mut reader = Reader::new(&body[place..]);
     read_instruction(&mut reader).ok().map(|placed| placed.instruction)
@@ -63,14 +55,16 @@ fn null_on_top(own: &[Operand]) -> bool {
 }
 
 fn count(counts: &mut Counts, request: &str) -> Option<()> {
-    let (section, number, body) = parts(request)?;
-    let refusal = judge_body(&section, number, &body).err()?;
+    let request = read_request(request).ok()?;
+    let (library, section) = (request.library(), &request.section);
+    let (number, body) = request.body()?;
+    let refusal = judge_body(library, section, number, body).err()?;
     if ![OPERAND, ONLY_NULL, VALUES_LEFT].contains(&refusal.number) {
         return None;
     }
-    let (own, unreachable) = operands_before(&section, number, &body, refusal.place)?;
+    let (own, unreachable) = operands_before(library, section, number, body, refusal.place)?;
     let mut add = |shape: String| *counts.entry(shape).or_insert(0) += 1;
-    add(format!("{} at {}", refusal.number, name(instruction_at(&body, refusal.place)?)?));
+    add(format!("{} at {}", refusal.number, name(instruction_at(body, refusal.place)?)?));
     if unreachable {
         add(format!("{} in unreachable code", refusal.number));
     }

@@ -4,7 +4,7 @@
 use plain::body::judge_body;
 use plain::generate::requests;
 use plain::instruction_reader::{read_instruction, read_locals_entry};
-use plain::lines::{answer, read_bytes};
+use plain::lines::{answer, read_request, Asked};
 use plain::machine::{trial_run, Outcome, NUMERIC_NOT_DONE};
 use plain::number::Reader;
 use plain::numeric::{row_of_code, TABLE};
@@ -28,29 +28,25 @@ fn at_least(counts: &Counts, shape: &str, least: usize) {
     assert!(found >= least, "{shape} only {found} times");
 }
 
-/// The section, number and body of a request that has them.
-fn parts(request: &str) -> Option<(Vec<u8>, u32, Vec<u8>)> {
-    let parts: Vec<&str> = request.split(' ').collect();
-    let (["B", section, number, body] | ["R", section, number, body, _]) = parts[..] else {
-        return None;
-    };
-    Some((read_bytes(section).ok()?, number.parse().ok()?, read_bytes(body).ok()?))
-}
-
 /// The codes that stand in accepted bodies, and those of them in unreachable code.
 #[test]
 fn every_code_is_accepted_and_refused() {
     let mut counts = Counts::new();
     for request in requests(24, COUNT, true).chain(requests(25, COUNT / 3, false)) {
-        let Some((section, number, bytes)) = parts(&request) else {
+        let request = read_request(&request).expect("the generator writes requests");
+        let Some((number, bytes)) = request.body() else {
             continue;
         };
-        match judge_body(&section, number, &bytes) {
+        match judge_body(request.library(), &request.section, number, bytes) {
             Ok(body) => count_accepted(
                 &mut counts,
                 &body.code.iter().map(|p| p.instruction).collect::<Vec<_>>(),
             ),
-            Err(refusal) => count_refused(&mut counts, &bytes, refusal),
+            Err(Refusal { input: None, number, place }) => {
+                count_refused(&mut counts, bytes, number, place);
+            }
+            // In a section.
+            Err(_) => {}
         }
     }
     for row in &TABLE {
@@ -89,27 +85,15 @@ fn count_accepted(counts: &mut Counts, code: &[Instruction]) {
 }
 
 /// What stands where a body is refused.
-fn count_refused(counts: &mut Counts, bytes: &[u8], refusal: Refusal) {
+fn count_refused(counts: &mut Counts, bytes: &[u8], number: u32, place: usize) {
     let byte = |place: usize| bytes.get(place).copied().unwrap_or(0);
-    match refusal {
-        Refusal { number: 20, place } if row_of_code(byte(place)).is_some() => {
-            count(counts, "20 at a numeric code");
-        }
-        Refusal { number: 3, place } if byte(place) > 0xC4 && begins_instruction(bytes, place) => {
-            count(counts, "3 after C4");
-        }
-        Refusal { number: 1, place }
-            if place > 0
-                && [0x43, 0x44].contains(&byte(place - 1))
-                && begins_instruction(bytes, place - 1) =>
-        {
-            count(counts, "1 in a float");
-        }
-        Refusal { number: 2, place }
-            if place > 0 && byte(place - 1) == 0x42 && begins_instruction(bytes, place - 1) =>
-        {
-            count(counts, "2 in an i64");
-        }
+    let begins = |place: usize| begins_instruction(bytes, place);
+    let item_of = |codes: &[u8]| place > 0 && codes.contains(&byte(place - 1)) && begins(place - 1);
+    match number {
+        20 if row_of_code(byte(place)).is_some() => count(counts, "20 at a numeric code"),
+        3 if byte(place) > 0xC4 && begins(place) => count(counts, "3 after C4"),
+        1 if item_of(&[0x43, 0x44]) => count(counts, "1 in a float"),
+        2 if item_of(&[0x42]) => count(counts, "2 in an i64"),
         _ => {}
     }
 }
@@ -133,12 +117,14 @@ fn begins_instruction(bytes: &[u8], place: usize) -> bool {
 fn every_operation_is_run() {
     let mut counts = Counts::new();
     for request in requests(23, COUNT, true) {
-        let Some((section, number, bytes)) = parts(&request).filter(|_| request.starts_with('R'))
-        else {
+        let request = read_request(&request).expect("the generator writes requests");
+        let Asked::Run(number, bytes, _) = &request.asked else {
             continue;
         };
+        let run =
+            |budget: u64| trial_run(request.library(), &request.section, *number, bytes, budget);
         for budget in 0..36 {
-            let Ok(run) = trial_run(&section, number, &bytes, budget) else {
+            let Ok(run) = run(budget) else {
                 break;
             };
             let next = run.code.get(run.state.next).map(|placed| placed.instruction);
@@ -198,7 +184,8 @@ fn every_other_code_traps() {
             continue;
         };
         let place: usize = place.split(' ').next().and_then(|p| p.parse().ok()).expect("a place");
-        let (_, _, bytes) = parts(&request).expect("a run has its parts");
+        let request = read_request(&request).expect("the generator writes requests");
+        let (_, bytes) = request.body().expect("a run has a body");
         count(&mut counts, row_of_code(bytes[place]).expect("a numeric code").name);
     }
     assert_eq!(counts.len(), 128 - 48);

@@ -6,9 +6,9 @@ use plain::generate::random::Random;
 use plain::generate::requests;
 use plain::generate::thin_padded::{Pair, Written};
 use plain::generate::written::{Number, What, IN_BODIES, IN_SECTIONS};
-use plain::lines::{answer, hex, read_bytes};
-use plain::refusal::{Refusal, NUMBER_PADDED, NUMBER_TOO_LONG};
-use plain::section::judge_section;
+use plain::lines::{answer, hex, judge_request, read_request};
+use plain::refusal::{Input, Refusal, NUMBER_PADDED, NUMBER_TOO_LONG};
+use plain::section::{judge_section, EMPTY_LIBRARY};
 use std::collections::BTreeMap;
 
 const PAIRS: usize = 1_000;
@@ -31,25 +31,28 @@ fn at_least(counts: &Counts, shape: String, least: usize) {
 fn refused_in_each_length(
     number: &Number,
     bytes: &[u8],
+    input: Option<Input>,
     judge: impl Fn(&[u8]) -> Result<(), Refusal>,
 ) {
     let place = number.first;
     for length in number.length + 1..=number.greatest {
         let refusal = judge(&number.padded(bytes, length)).err();
-        assert_eq!(refusal, Some(Refusal { number: NUMBER_PADDED, place }), "{number:?} {length}");
+        let there = Refusal { number: NUMBER_PADDED, place, input };
+        assert_eq!(refusal, Some(there), "{number:?} {length}");
     }
     let refusal = judge(&number.padded(bytes, number.greatest + 1)).err();
-    assert_eq!(refusal, Some(Refusal { number: NUMBER_TOO_LONG, place }), "{number:?}");
+    assert_eq!(refusal, Some(Refusal { number: NUMBER_TOO_LONG, place, input }), "{number:?}");
 }
 
 fn each_number(
     counts: &mut Counts,
     place: &str,
     written: &Written,
+    input: Option<Input>,
     judge: impl Fn(&[u8]) -> Result<(), Refusal>,
 ) {
     for number in &written.numbers {
-        refused_in_each_length(number, &written.bytes, &judge);
+        refused_in_each_length(number, &written.bytes, input, &judge);
         count(counts, format!("{:?} in a {place}", number.what));
         if number.what == What::Constant64 {
             count(counts, format!("i64.const of {} bytes", number.length));
@@ -68,22 +71,33 @@ fn what_is_accepted_is_refused_with_any_number_padded() {
     for index in 0..PAIRS {
         let pair = Pair::make(&mut random, index % 2 == 0);
         let (section, body) = (&pair.section, &pair.body);
-        if judge_body(&section.bytes, pair.function, &body.bytes).is_err() {
+        let (library, addon) = (Some(Input::Library), Some(Input::Addon));
+        let judge_of = |library: &[u8], section: &[u8], body: &[u8]| {
+            judge_body(library, section, pair.function, body).map(|_| ())
+        };
+        if judge_of(EMPTY_LIBRARY, &section.bytes, &body.bytes).is_err() {
             continue;
         }
         count(&mut counts, "accepted".to_string());
-        each_number(&mut counts, "section", section, |bytes| judge_section(bytes).map(|_| ()));
-        each_number(&mut counts, "section of a body", section, |bytes| {
-            judge_body(bytes, pair.function, &body.bytes).map(|_| ())
+        each_number(&mut counts, "section", section, addon, |bytes| {
+            judge_section(EMPTY_LIBRARY, bytes).map(|_| ())
         });
-        each_number(&mut counts, "body", body, |bytes| {
-            judge_body(&section.bytes, pair.function, bytes).map(|_| ())
+        // The same types in a library; the add-on has none.
+        each_number(&mut counts, "library", section, library, |bytes| {
+            judge_section(bytes, EMPTY_LIBRARY).map(|_| ())
+        });
+        each_number(&mut counts, "section of a body", section, addon, |bytes| {
+            judge_of(EMPTY_LIBRARY, bytes, &body.bytes)
+        });
+        each_number(&mut counts, "body", body, None, |bytes| {
+            judge_of(EMPTY_LIBRARY, &section.bytes, bytes)
         });
     }
     let accepted = counts["accepted"];
     assert!(accepted * 10 >= PAIRS * 9, "{accepted} of {PAIRS} accepted");
     for what in IN_SECTIONS {
         at_least(&counts, format!("{what:?} in a section"), LEAST);
+        at_least(&counts, format!("{what:?} in a library"), LEAST);
         at_least(&counts, format!("{what:?} in a section of a body"), LEAST);
     }
     IN_BODIES.iter().for_each(|what| at_least(&counts, format!("{what:?} in a body"), LEAST));
@@ -104,7 +118,8 @@ fn what_is_refused_is_refused_no_later() {
             0 => pair.body.bytes[..cut].to_vec(),
             _ => [&pair.body.bytes[..cut], &[0x05], &pair.body.bytes[cut + 1..]].concat(),
         };
-        let judge = |body: &[u8]| judge_body(&pair.section.bytes, pair.function, body);
+        let judge =
+            |body: &[u8]| judge_body(EMPTY_LIBRARY, &pair.section.bytes, pair.function, body);
         let Err(before) = judge(&spoilt) else {
             continue;
         };
@@ -114,16 +129,11 @@ fn what_is_refused_is_refused_no_later() {
                 continue;
             }
             let padded = judge(&number.padded(&spoilt, number.length + 1)).err();
-            let there = Refusal { number: NUMBER_PADDED, place: number.first };
+            let there = Refusal { number: NUMBER_PADDED, place: number.first, input: None };
             let padded = padded.expect("refused");
             assert!(padded == there || padded == before && before.place < number.first);
         }
     }
-}
-
-/// Which input a refusal's place lies in is told by judging the section alone.
-fn in_section(section: &str) -> bool {
-    answer(&format!("S {section}")).starts_with("no 32 ")
 }
 
 /// How many bytes the number at the place has.
@@ -135,27 +145,30 @@ fn length_at(bytes: &[u8], place: usize) -> usize {
 fn generated_requests_have_padded_numbers_of_each_length() {
     for small in [false, true] {
         let mut counts = Counts::new();
-        for request in requests(34, 20_000, small) {
-            let answer = answer(&request);
-            let Some(place) = answer.strip_prefix("no 32 ") else {
+        for line in requests(34, 20_000, small) {
+            let request = read_request(&line).expect("the generator writes requests");
+            let Err(Refusal { number: NUMBER_PADDED, place, input }) = judge_request(&request)
+            else {
                 continue;
             };
-            let parts: Vec<&str> = request.split(' ').collect();
-            let (place, section) = (place.parse().expect("a place"), in_section(parts[1]));
-            let bytes = read_bytes(if section { parts[1] } else { parts[3] }).expect("hex");
-            let input = if section { "section" } else { "body" };
-            count(&mut counts, format!("{} and 32 in its {input}", parts[0]));
-            count(&mut counts, format!("{} bytes in a {input}", length_at(&bytes, place)));
+            let (name, bytes) = match input {
+                Some(Input::Library) => ("library", request.library()),
+                Some(Input::Addon) => ("section", &request.section[..]),
+                None => ("body", request.body().expect("it has one").1),
+            };
+            count(&mut counts, format!("{} and 32 in its {name}", &line[..1]));
+            count(&mut counts, format!("{} bytes in a {name}", length_at(bytes, place)));
         }
-        for shape in ["S and 32 in its section", "T and 32 in its section"] {
-            at_least(&counts, shape.to_string(), LEAST);
+        for letter in ["S", "T", "B", "R"] {
+            at_least(&counts, format!("{letter} and 32 in its section"), LEAST);
+            at_least(&counts, format!("{letter} and 32 in its library"), SEVERAL);
         }
         for letter in ["B", "R"] {
-            at_least(&counts, format!("{letter} and 32 in its section"), LEAST);
             at_least(&counts, format!("{letter} and 32 in its body"), LEAST);
         }
         for length in 2..=5 {
             at_least(&counts, format!("{length} bytes in a section"), LEAST);
+            at_least(&counts, format!("{length} bytes in a library"), SEVERAL);
             at_least(&counts, format!("{length} bytes in a body"), LEAST);
         }
     }

@@ -44,12 +44,12 @@ fn reading_5_large_count() {
 fn reading_6_sizes_before_bytes() {
     let fields = format!("01 5F 41 {}", times(64, "7F 00"));
     assert_eq!(section(&fields), "no 4 131");
-    let full = format!("81 02 {}", times(256, "5F 00"));
-    assert_eq!(section(&full), "no 1 514");
-    assert_eq!(section(&format!("{full} 00")), "no 4 514");
-    assert_eq!(count_only(&section(&format!("{full} 4E 00"))), "yes 256");
-    assert_eq!(section(&format!("{full} 4E")), "no 1 515");
-    assert_eq!(section(&format!("{full} 4E 01")), "no 4 516");
+    let full = format!("81 08 {}", times(1_024, "5F 00"));
+    assert_eq!(section(&full), "no 1 2050");
+    assert_eq!(section(&format!("{full} 00")), "no 4 2050");
+    assert_eq!(count_only(&section(&format!("{full} 4E 00"))), "yes 1024");
+    assert_eq!(section(&format!("{full} 4E")), "no 1 2051");
+    assert_eq!(section(&format!("{full} 4E 01")), "no 4 2052");
 }
 
 #[test]

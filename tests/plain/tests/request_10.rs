@@ -60,11 +60,11 @@ fn before_what_the_number_says() {
     assert_eq!(section("01 5F C1 80 00"), "no 32 2");
     assert_eq!(section("81 00"), "no 32 0");
     assert_eq!(section("01"), "no 1 1");
-    // After 256 types: the count of a group comes before the types that are too many.
-    let full = format!("81 02 {}", times(256, "5F 00"));
-    assert_eq!(section(&format!("{full} 4E 81 00")), "no 32 515");
-    assert_eq!(section(&format!("{full} 4E 80 00")), "no 32 515");
-    assert_eq!(section(&format!("{full} 4E 01")), "no 4 516");
+    // After 1,024 types: the count of a group comes before the types that are too many.
+    let full = format!("81 08 {}", times(1_024, "5F 00"));
+    assert_eq!(section(&format!("{full} 4E 81 00")), "no 32 2051");
+    assert_eq!(section(&format!("{full} 4E 80 00")), "no 32 2051");
+    assert_eq!(section(&format!("{full} 4E 01")), "no 4 2052");
 }
 
 #[test]

@@ -149,6 +149,8 @@ fn shortest_numbers_of_more_bytes() {
     assert_eq!(groups("80 01", 128), "yes 128");
     assert_eq!(groups("FF 01", 255), "yes 255");
     assert_eq!(groups("80 02", 256), "yes 256");
+    assert_eq!(groups("FF 07", 1_023), "yes 1023");
+    assert_eq!(groups("80 08", 1_024), "yes 1024");
     assert_eq!(groups("FF 00", 127), "no 32");
     assert_eq!(groups("80 81 00", 128), "no 32");
     // 16,384 empty groups would be two bytes too long; three bytes and the end.

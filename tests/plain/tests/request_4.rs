@@ -6,7 +6,7 @@ mod common;
 use common::*;
 use plain::lines::read_bytes;
 use plain::order::{reference_fit, share_supertype, Fit, TABLE};
-use plain::section::judge_section;
+use plain::section::{judge_section, EMPTY_LIBRARY};
 use plain::syntax::{Heap, Reference};
 
 const FORMS: [&str; 4] = ["18", "19", "25", "26"];
@@ -217,7 +217,7 @@ fn a_supertype_in_common_is_one_hierarchy() {
     let section =
         "05 50 00 5F 00 50 01 00 5F 00 4E 02 4D 03 5F 00 4C 02 5F 00 60 00 00 60 00 01 7F";
     let bytes = read_bytes(&section.replace(' ', "")).expect("hex");
-    let types = judge_section(&bytes).ok().expect("accepted");
+    let types = judge_section(EMPTY_LIBRARY, &bytes).expect("accepted");
     let numbers = 0..types.len() as u32;
     let heaps: Vec<Heap> = TABLE
         .iter()

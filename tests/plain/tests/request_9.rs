@@ -6,7 +6,7 @@ mod common;
 use common::{body, described, run, section, V};
 use plain::lines::read_bytes;
 use plain::order::{reference_fit, value_fit, Fit, TABLE};
-use plain::section::judge_section;
+use plain::section::{judge_section, EMPTY_LIBRARY};
 use plain::syntax::{Heap, Reference, Type, ValueType};
 
 /// A struct, and a function that gives a (ref 0).
@@ -148,7 +148,7 @@ fn runs_too() {
 fn some_types() -> Vec<Type> {
     let section = "04 50 00 5F 00 50 01 00 5F 00 4E 02 4D 03 5F 00 4C 02 5F 00 60 00 00";
     let bytes = read_bytes(&section.replace(' ', "")).expect("hex");
-    judge_section(&bytes).ok().expect("accepted")
+    judge_section(EMPTY_LIBRARY, &bytes).expect("accepted")
 }
 
 /// By the order alone: one of three for every pair, 31's exactly where the same type made

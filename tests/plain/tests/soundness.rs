@@ -3,7 +3,7 @@
 
 use plain::body::{judge_body, Body};
 use plain::generate::requests;
-use plain::lines::read_bytes;
+use plain::lines::{read_request, Asked, Request};
 use plain::machine::{trial_run, Outcome, Run};
 use plain::state::{Object, Value};
 use plain::syntax::{Instruction, ValueType};
@@ -48,27 +48,37 @@ fn run_fits(run: &Run, body: &Body) -> bool {
     locals_fit && heap_fits && results_fit
 }
 
-/// The section, type number and body of a request for a run.
-fn run_parts(request: &str) -> Option<(Vec<u8>, u32, Vec<u8>)> {
-    let parts: Vec<&str> = request.split(' ').collect();
-    let ["R", section, number, body, _] = parts[..] else {
-        return None;
-    };
-    Some((read_bytes(section).ok()?, number.parse().ok()?, read_bytes(body).ok()?))
+/// A request for a run whose body is accepted.
+struct Accepted {
+    request: Request,
+    body: Body,
+}
+
+impl Accepted {
+    fn of(line: &str) -> Option<Accepted> {
+        let request = read_request(line).ok()?;
+        let Asked::Run(number, bytes, _) = &request.asked else {
+            return None;
+        };
+        let body = judge_body(request.library(), &request.section, *number, bytes).ok()?;
+        Some(Accepted { request, body })
+    }
+
+    fn run(&self, budget: u64) -> Option<Run> {
+        let (number, bytes) = self.request.body()?;
+        trial_run(self.request.library(), &self.request.section, number, bytes, budget).ok()
+    }
 }
 
 #[test]
 fn states_keep_to_their_types() {
     for request in requests(11, 6000, true).chain(requests(12, 2000, false)) {
-        let Some((section, number, bytes)) = run_parts(&request) else {
-            continue;
-        };
-        let Ok(body) = judge_body(&section, number, &bytes) else {
+        let Some(accepted) = Accepted::of(&request) else {
             continue;
         };
         for budget in (0..12).chain([50, 999]) {
-            if let Ok(run) = trial_run(&section, number, &bytes, budget) {
-                assert!(run_fits(&run, &body), "{request} with {budget}");
+            if let Some(run) = accepted.run(budget) {
+                assert!(run_fits(&run, &accepted.body), "{request} with {budget}");
             }
         }
     }
@@ -78,16 +88,13 @@ fn states_keep_to_their_types() {
 #[test]
 fn bodies_without_loop_stop() {
     for request in requests(13, 4000, true) {
-        let Some((section, number, bytes)) = run_parts(&request) else {
+        let Some(accepted) = Accepted::of(&request) else {
             continue;
         };
-        let Ok(body) = judge_body(&section, number, &bytes) else {
-            continue;
-        };
-        let has_loop =
-            body.code.iter().any(|placed| matches!(placed.instruction, Instruction::Loop(_)));
-        if let (false, Ok(run)) = (has_loop, trial_run(&section, number, &bytes, 1_000_000)) {
-            assert!(run.outcome != Outcome::Spent && run.steps <= body.code.len() as u64);
+        let code = &accepted.body.code;
+        let has_loop = code.iter().any(|placed| matches!(placed.instruction, Instruction::Loop(_)));
+        if let (false, Some(run)) = (has_loop, accepted.run(1_000_000)) {
+            assert!(run.outcome != Outcome::Spent && run.steps <= code.len() as u64);
         }
     }
 }
@@ -97,10 +104,7 @@ fn bodies_without_loop_stop() {
 fn every_instruction_is_accepted_somewhere() {
     let mut kinds = BTreeSet::new();
     for request in requests(14, 3000, true) {
-        let Some((section, number, bytes)) = run_parts(&request) else {
-            continue;
-        };
-        let Ok(body) = judge_body(&section, number, &bytes) else {
+        let Some(Accepted { body, .. }) = Accepted::of(&request) else {
             continue;
         };
         let kind_of = |instruction: Instruction| match instruction {

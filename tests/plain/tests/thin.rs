@@ -147,6 +147,39 @@ fn numbers_near_200_and_255() {
 }
 
 #[test]
+fn numbers_near_1023() {
+    let after = |groups: &str, count: usize, last: &str| {
+        format!("{groups} {} {last}", times(count, "50 00 5F 00"))
+    };
+    let last = |last: &str| count_only(&section(&after("80 08", 1_023, last)));
+    assert_eq!(last("60 01 63 FF 07 00"), "yes 1024");
+    assert_eq!(last("60 00 01 63 62 FF 07"), "yes 1024");
+    assert_eq!(last("50 01 FE 07 5F 00"), "yes 1024");
+    assert_eq!(section(&after("80 08", 1_023, "60 01 63 80 08 00")), "no 6 1023");
+    assert_eq!(section(&after("80 08", 1_023, "5F 01 63 62 80 08 00")), "no 6 1023");
+    assert_eq!(section(&after("80 08", 1_023, "4D 80 08 5F 00")), "no 6 1023");
+    assert_eq!(section(&after("80 08", 1_023, "50 01 FF 07 5F 00")), "no 7 1023");
+    // Type 1,022 names 1,023: in a group with it, and before it.
+    let pair = after("FF 07", 1_022, "4E 02 4D FF 07 5F 00 4C FE 07 5F 00");
+    assert_eq!(count_only(&section(&pair)), "yes 1024");
+    assert_eq!(section(&after("80 08", 1_022, "5F 01 63 FF 07 00 5F 00")), "no 6 1022");
+}
+
+#[test]
+fn bodies_that_name_types_near_1023() {
+    let types = format!("80 08 {} 60 00 00", times(1_023, "5F 00"));
+    assert_eq!(body(&types, 1_023, "00 D0 FF 07 1A 0B"), "yes 3");
+    assert_eq!(body(&types, 1_023, "00 D0 80 08 1A 0B"), "no 6 1");
+    assert_eq!(body(&types, 1_023, "01 01 63 62 FF 07 0B"), "yes 1");
+    assert_eq!(body(&types, 1_023, "01 01 63 80 08 0B"), "no 6 1");
+    assert_eq!(outcome(&run(&types, 1_023, "00 FB 01 FE 07 1A 0B", 3)), "done 3 []");
+    assert_eq!(body(&types, 1_023, "00 FB 01 FF 07 1A 0B"), "no 23 1");
+    assert_eq!(body(&types, 1_023, "00 FB 01 80 08 1A 0B"), "no 6 1");
+    assert_eq!(body(&types, 1_022, "00 0B"), "no 27 0");
+    assert_eq!(body(&types, 1_024, "00 0B"), "no 27 0");
+}
+
+#[test]
 fn bodies_that_name_types_near_255() {
     let types = format!("80 02 {} 60 00 00", times(255, "5F 00"));
     assert_eq!(body(&types, 255, "00 D0 FF 01 1A 0B"), "yes 3");

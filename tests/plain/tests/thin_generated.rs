@@ -3,18 +3,19 @@
 
 use plain::generate::requests;
 use plain::instruction_reader::{read_instruction, read_locals_entry};
-use plain::lines::{answer, read_bytes};
+use plain::lines::{answer_request, read_request};
 use plain::number::Reader;
-use plain::refusal::Refusal;
+use plain::refusal::{Input, Refusal};
 use plain::section_reader::read_section;
 use plain::sizes;
 use plain::syntax::{Form, Instruction, Type};
 
-const COUNT: usize = 20_000;
+const COUNT: usize = 30_000;
 const LEAST: usize = 10;
 
-/// A request whose section can be read, with its answer.
+/// A request whose sections can be read, with its answer.
 struct Asked {
+    /// The library's and then the add-on's.
     types: Vec<Type>,
     code: Vec<Instruction>,
     answer: String,
@@ -22,13 +23,16 @@ struct Asked {
 
 impl Asked {
     fn of(request: &str) -> Option<Asked> {
-        let parts: Vec<&str> = request.split(' ').collect();
-        let types = read_section(&read_bytes(parts[1]).ok()?).ok()?;
-        let body = parts.get(3).map_or(Ok(Vec::new()), |body| read_bytes(body)).ok()?;
+        let request = read_request(request).ok()?;
+        let mut types = Vec::new();
+        read_section(&mut types, Input::Library, request.library()).ok()?;
+        read_section(&mut types, Input::Addon, &request.section).ok()?;
         let mut code = Vec::new();
-        // What cannot be read ends the list.
-        let _ = read_code(&body, &mut code);
-        Some(Asked { types, code, answer: answer(request) })
+        if let Some((_, body)) = request.body() {
+            // What cannot be read ends the list.
+            let _ = read_code(body, &mut code);
+        }
+        Some(Asked { types, code, answer: answer_request(&request) })
     }
 
     fn refused(&self) -> bool {
@@ -172,12 +176,14 @@ const SMALL: [Shape; 5] = [
     ("rule 4 through two supertypes", rule_4_through_two),
 ];
 
-const LARGE: [Shape; 5] = [
+const LARGE: [Shape; 7] = [
     ("an end above 16,383", ends_high),
     ("a type near 200", |asked| names_near(asked, 195..=203)),
     ("a type near 255", |asked| names_near(asked, 250..=256)),
     ("a body and a type near 200", |asked| body_names_near(asked, 195..=203)),
     ("a body and a type near 255", |asked| body_names_near(asked, 250..=256)),
+    ("a type near 1,023", |asked| names_near(asked, 1_018..=1_024)),
+    ("a body and a type near 1,023", |asked| body_names_near(asked, 1_018..=1_024)),
 ];
 
 const REFUSED: [Shape; 2] =

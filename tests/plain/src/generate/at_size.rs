@@ -4,7 +4,7 @@ use super::random::Random;
 use crate::lines::hex;
 use crate::sizes;
 
-fn leb(number: usize) -> Vec<u8> {
+pub fn leb(number: usize) -> Vec<u8> {
     let mut bytes = Vec::new();
     let mut rest = number;
     while rest >= 0x80 {
@@ -16,12 +16,12 @@ fn leb(number: usize) -> Vec<u8> {
 }
 
 /// Pieces of bytes one after the other.
-fn bytes(pieces: &[&[u8]]) -> Vec<u8> {
+pub fn bytes(pieces: &[&[u8]]) -> Vec<u8> {
     pieces.concat()
 }
 
 /// At the size or one beyond it.
-fn near(random: &mut Random, size: usize) -> usize {
+pub fn near(random: &mut Random, size: usize) -> usize {
     size + random.below(2)
 }
 

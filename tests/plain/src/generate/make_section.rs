@@ -7,6 +7,7 @@
 use super::encode::Group;
 use super::random::Random;
 use super::value_types::{narrower, random_value_type, wider};
+use crate::refusal::Input;
 use crate::syntax::{Definition, Field, Form, Type, ValueType};
 
 /// A struct, its descriptor, the descriptor's descriptor and so on.
@@ -23,7 +24,7 @@ pub struct Draft {
 }
 
 impl Draft {
-    /// The types as the order wants them; places and reach are of no use here.
+    /// The types as the order wants them; section, places and reach are of no use here.
     pub fn types(&self) -> Vec<Type> {
         let definitions = self.groups.iter().flat_map(|group| group.definitions.iter());
         definitions.map(|definition| as_type(definition.clone())).collect()
@@ -31,7 +32,7 @@ impl Draft {
 }
 
 fn as_type(definition: Definition) -> Type {
-    Type { definition, start: 0, end: 0, reach: 0 }
+    Type { definition, input: Input::Addon, start: 0, end: 0, reach: 0 }
 }
 
 struct Maker<'a> {

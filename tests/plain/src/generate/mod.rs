@@ -1,11 +1,13 @@
 //! Requests for comparing two loaders: valid ones by construction, near misses of
-//! them, sizes on both sides, shapes that chance hardly makes, and plain noise. The
-//! same seed gives the same lines.
+//! them, sizes on both sides, shapes that chance hardly makes, and plain noise; with a
+//! library and without. The same seed gives the same lines.
 
 pub mod at_size;
 pub mod dead_code;
 pub mod encode;
 pub mod float_pairs;
+pub mod library;
+pub mod library_at_size;
 pub mod make_body;
 pub mod make_section;
 pub mod numbers;
@@ -19,6 +21,8 @@ pub mod spoil_section;
 pub mod thin;
 pub mod thin_casts;
 pub mod thin_high;
+pub mod thin_library;
+pub mod thin_library_bodies;
 pub mod thin_lists;
 pub mod thin_nulls;
 pub mod thin_numbers;
@@ -27,7 +31,7 @@ pub mod thin_rules;
 pub mod value_types;
 pub mod written;
 
-use crate::lines::hex;
+use crate::lines::{hex, read_request, Request};
 use crate::sizes;
 use crate::syntax::Instruction;
 use encode::{Group, Writer};
@@ -46,24 +50,51 @@ struct Made {
     body: Vec<u8>,
 }
 
+/// About half of them with a library.
 pub fn requests(seed: u64, count: usize, small: bool) -> impl Iterator<Item = String> {
     let mut random = Random::new(seed);
     (0..count).map(move |_| request(&mut random, small))
 }
 
+/// Of the same kinds, but none with a library.
+pub fn requests_without_library(
+    seed: u64,
+    count: usize,
+    small: bool,
+) -> impl Iterator<Item = String> {
+    let mut random = Random::new(seed);
+    (0..count).map(move |_| about_one_section(&mut random, small))
+}
+
 fn request(random: &mut Random, small: bool) -> String {
     match random.below(1000) {
-        0..=189 => section_request(random, small),
-        190..=219 => thin_padded::padded(random, small),
-        220..=289 => type_request(random, small),
-        290..=509 => body_request(random, small),
-        510..=519 => at_size::room_request(random, small),
-        520..=529 => at_size::small_size_request(random),
-        530..=569 if !small => at_size::size_request(random),
-        570..=609 => thin::thin_request(random, small),
-        610..=689 => thin_casts::branching_casts(random),
-        690..=779 => thin_numbers::numbers(random),
-        780..=809 => thin_nulls::nulls(random),
+        0..=19 => thin_library::across(random).to_string(),
+        20..=29 => thin_library_bodies::body_of_library(random).to_string(),
+        30..=44 if !small => library_at_size::size_request(random).to_string(),
+        30..=499 => about_two_sections(random, small).to_string(),
+        _ => about_one_section(random, small),
+    }
+}
+
+fn about_two_sections(random: &mut Random, small: bool) -> Request {
+    let line = about_one_section(random, small);
+    let request = read_request(&line).expect("the generator writes requests");
+    library::with_library(random, request, small)
+}
+
+fn about_one_section(random: &mut Random, small: bool) -> String {
+    match random.below(1000) {
+        0..=169 => section_request(random, small),
+        170..=199 => thin_padded::padded(random, small),
+        200..=259 => type_request(random, small),
+        260..=479 => body_request(random, small),
+        480..=489 => at_size::room_request(random, small),
+        490..=499 => at_size::small_size_request(random),
+        500..=539 if !small => at_size::size_request(random),
+        540..=589 => thin::thin_request(random, small),
+        590..=669 => thin_casts::branching_casts(random),
+        670..=759 => thin_numbers::numbers(random),
+        760..=789 => thin_nulls::nulls(random),
         _ => run_request(random, small),
     }
 }
@@ -134,7 +165,7 @@ fn type_request(random: &mut Random, small: bool) -> String {
     let count = draft.types().len();
     let number = match random.below(8) {
         0 => count as u32,
-        1 => random.pick(&[255, 256, u32::MAX, count as u32 + 1]),
+        1 => random.pick(&[255, 256, 1_023, 1_024, u32::MAX, count as u32 + 1]),
         _ => random.below(count) as u32,
     };
     format!("T {} {number}", hex(&write_section(random, &draft.groups)))
@@ -149,17 +180,17 @@ fn made(random: &mut Random, small: bool) -> Made {
         |body| allocates(body) && write_body(&mut Random::new(0), body).len() < room,
     );
     let way = random.below(100);
-    if (68..87).contains(&way) {
+    if (76..90).contains(&way) {
         let types = draft.types().len();
         spoil_body::spoil_body(random, &mut body, types);
     }
-    if (60..68).contains(&way) {
+    if (70..76).contains(&way) {
         spoil_section::spoil_section(random, &mut draft.groups);
     }
     let section = write_section(random, &draft.groups);
     let function = function_number(random, draft.function);
     let mut body = write_body(random, &body);
-    if (87..97).contains(&way) {
+    if (90..97).contains(&way) {
         spoil_bytes::spoil_bytes(random, &mut body);
     }
     if way >= 97 {

@@ -94,7 +94,7 @@ fn near_number(random: &mut Random, number: u32, count: usize) -> u32 {
         0 | 1 => number.wrapping_add(1),
         2 | 3 => number.saturating_sub(1),
         4 => count as u32,
-        5 => random.pick(&[127, 128, 255, 256, u32::MAX, 0x7FFF_FFFF]),
+        5 => random.pick(&[127, 128, 255, 256, 1_023, 1_024, u32::MAX, 0x7FFF_FFFF]),
         _ => random.below(count + 1) as u32,
     }
 }

@@ -9,15 +9,15 @@ use super::thin_rules::{counts_of_a_supertype, rule_4_through_two, rule_5_before
 use crate::lines::hex;
 use crate::syntax::{Definition, Form, Instruction, ValueType};
 
-/// The last two shapes are never small.
+/// The last six of these are never small.
 pub fn thin_request(random: &mut Random, small: bool) -> String {
-    match random.below(if small { 5 } else { 8 }) {
-        0 => counts_of_a_supertype(random),
-        1 => rule_5_before_rule_4(random),
-        2 => rule_4_through_two(random),
-        3 => parameters_and_results(random, small),
-        4 => last_field(random, small),
-        5 | 6 => high_numbers(random),
+    match random.below(if small { 6 } else { 12 }) {
+        0 | 1 => counts_of_a_supertype(random),
+        2 => rule_5_before_rule_4(random),
+        3 => rule_4_through_two(random),
+        4 => parameters_and_results(random, small),
+        5 => last_field(random, small),
+        6..=9 => high_numbers(random),
         _ => high_places(random),
     }
 }

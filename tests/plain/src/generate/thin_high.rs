@@ -1,4 +1,4 @@
-//! Shapes that lie high: type numbers near 200 and 255, places above 16,383.
+//! Shapes that lie high: type numbers near 200, 255 and 1,023, places above 16,383.
 
 use super::encode::{Group, Writer};
 use super::random::Random;
@@ -19,10 +19,13 @@ fn one_field(value: ValueType) -> Form {
     Form::Struct(vec![Field { value, mutable: false }])
 }
 
-/// Structs alone, then a group that ends near type 200 or 255 and whose numbers are
+/// Structs alone, then a group that ends near type 200, 255 or 1,023 and whose numbers are
 /// named in it or in a body: the last in reach, or the first that is not.
 pub fn high_numbers(random: &mut Random) -> String {
-    let end = random.pick(&[199, 200, 201, 202, 203, 254, 255, 256, 256, 256]);
+    let near_200 = random.between(199, 203);
+    let near_255 = random.pick(&[254, 255, 256, 256, 256, 257]);
+    let near_most = sizes::TYPES - random.below(3);
+    let end = random.pick(&[near_200, near_255, near_most]);
     let size = random.between(3, 6);
     let start = end - size;
     let named = random.pick(&[start - 1, start, end - 1, end, end]);

@@ -70,7 +70,7 @@ fn code_of(random: &mut Random, types: &[Type], held: [Reference; 2]) -> Vec<Ins
 fn any_use(random: &mut Random, types: &[Type], held: [Reference; 2]) -> Use {
     let [first, second] = held.map(ValueType::Ref);
     let both = vec![first, second];
-    let (takes, instruction) = match random.below(12) {
+    let (takes, instruction) = match random.below(13) {
         0 => (both, Instruction::End),
         1 => (both, Instruction::Br(0)),
         2 => (both, Instruction::Return),
@@ -78,7 +78,7 @@ fn any_use(random: &mut Random, types: &[Type], held: [Reference; 2]) -> Use {
         5 => (vec![first], Instruction::LocalSet(0)),
         6 => (vec![second], Instruction::LocalTee(1)),
         7 => (both, Instruction::StructNew(HOLDER)),
-        8 => {
+        8 | 12 => {
             let object = ValueType::nullable(Heap::Defined(HOLDER));
             (vec![object, second], Instruction::StructSet(HOLDER, 1))
         }

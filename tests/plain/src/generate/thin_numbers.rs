@@ -11,15 +11,15 @@ use crate::numeric::{Row, TABLE};
 use crate::syntax::{Definition, Field, Form, Instruction, ValueType};
 
 pub fn numbers(random: &mut Random) -> String {
-    match random.below(16) {
+    match random.below(17) {
         0 => done_on_edges(random),
         1..=4 => done_in_a_row(random),
         5 => done_on_held(random),
         6..=8 => not_done(random),
         9 => of_wrong_kinds(random),
-        10..=12 => in_unreachable_code(random),
-        13 => cut_float(random),
-        14 => long_integer(random),
+        10..=13 => in_unreachable_code(random),
+        14 => cut_float(random),
+        15 => long_integer(random),
         _ => not_numeric(random),
     }
 }

@@ -41,6 +41,23 @@ pub fn run(section: &str, number: u32, body: &str, budget: u64) -> String {
     answer(&format!("R {} {number} {} {budget}", bytes(section), bytes(body)))
 }
 
+/// The same four with a library before the section.
+pub fn sections(library: &str, section: &str) -> String {
+    answer(&format!("S {} {}", bytes(library), bytes(section)))
+}
+
+pub fn type_of(library: &str, section: &str, number: u32) -> String {
+    answer(&format!("T {} {} {number}", bytes(library), bytes(section)))
+}
+
+pub fn body_over(library: &str, section: &str, number: u32, body: &str) -> String {
+    answer(&format!("B {} {} {number} {}", bytes(library), bytes(section), bytes(body)))
+}
+
+pub fn run_over(library: &str, section: &str, number: u32, body: &str, budget: u64) -> String {
+    answer(&format!("R {} {} {number} {} {budget}", bytes(library), bytes(section), bytes(body)))
+}
+
 /// A piece of bytes so many times over, with spaces between.
 pub fn times(count: usize, piece: &str) -> String {
     vec![piece; count].join(" ")
