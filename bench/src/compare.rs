@@ -42,7 +42,7 @@ pub fn compared(programs: [&str; 2], text: &[&str], inputs: &[Input]) -> io::Res
     });
     for _ in 0..ROUNDS {
         for (program, archive) in programs.iter().zip(&mut archives) {
-            archive.rounds.push(asked(program, &[&["library"], text].concat(), inputs)?);
+            archive.rounds.push(asked(program, &[&["loader"], text].concat(), inputs)?);
         }
     }
     let (machine, table) = (machine::kind(), table(inputs, &archives));

@@ -1,9 +1,10 @@
-//! Times the proved library and the plain checker on the same inputs, side by side. Writes docs/BENCH.md and
+//! Times the proved loader and the plain checker on the same inputs, side by side. Writes docs/BENCH.md and
 //! its plots.
 //!
-//! `bench library` times the library alone and writes no file: a line for each input with the least time of many and their
+//! `bench loader` times the loader alone and writes no file: a line for each input with the least time of many and their
 //! median. `bench once` calls it once on each input, for bench/count-instructions. `bench compare` asks two programs, each
-//! linked with another archive, for both, for bench/compare-archives. TEXT takes the inputs that have it in their names.
+//! linked with another archive, for both, for bench/compare-archives. TEXT takes the inputs that have it in their names. With
+//! CHELBUGAN_BENCH_WITHOUT_LIBRARIES set, inputs that have a library are left out: archives of version 1 know of none.
 
 mod compare;
 mod inputs;
@@ -21,8 +22,8 @@ fn main() -> io::Result<()> {
     let arguments: Vec<String> = std::env::args().skip(1).collect();
     match &arguments.iter().map(String::as_str).collect::<Vec<_>>()[..] {
         [] => write_the_page(),
-        ["library", text @ ..] if text.len() <= 1 => {
-            named(text).for_each(|input| println!("{}", measure::library_alone(&input)));
+        ["loader", text @ ..] if text.len() <= 1 => {
+            named(text).for_each(|input| println!("{}", measure::loader_alone(&input)));
             Ok(())
         }
         ["once", text @ ..] if text.len() <= 1 => {
@@ -39,24 +40,27 @@ fn main() -> io::Result<()> {
 }
 
 const USE: &str =
-    "use: bench, bench library [TEXT], bench once [TEXT], or bench compare BEFORE AFTER [TEXT]";
+    "use: bench, bench loader [TEXT], bench once [TEXT], or bench compare BEFORE AFTER [TEXT]";
 
 /// With this text in their names; all inputs where there is none.
 fn named(text: &[&str]) -> impl Iterator<Item = Input> {
     let text = text.concat();
+    let with_libraries = std::env::var_os("CHELBUGAN_BENCH_WITHOUT_LIBRARIES").is_none();
     let bodies = inputs::of_bodies().into_iter();
-    let all = inputs::of_sections().into_iter().chain(bodies);
+    let all = inputs::of_sections().into_iter().chain(inputs::of_libraries()).chain(bodies);
     let all = all.chain(inputs::of_numbers()).chain(inputs::of_runs());
-    all.filter(move |input| input.to_string().contains(&text))
+    all.filter(move |input| with_libraries || input.library.is_none())
+        .filter(move |input| input.to_string().contains(&text))
 }
 
 fn write_the_page() -> io::Result<()> {
     let docs = Path::new(env!("CARGO_MANIFEST_DIR")).join("../docs");
     let sections = measured(inputs::of_sections());
+    let libraries = measured(inputs::of_libraries());
     let bodies = measured(inputs::of_bodies());
     let numbers = measured(inputs::of_numbers());
     let runs = measured(inputs::of_runs());
-    let page = page::page(&machine::kind(), &sections, &bodies, &numbers, &runs);
+    let page = page::page(&machine::kind(), &sections, &libraries, &bodies, &numbers, &runs);
     std::fs::write(docs.join("BENCH.md"), &page)?;
     let plots = [
         ("bench-sections.svg", plot::plot(&plot::SECTIONS, &inputs::sections::KINDS, &sections)),
@@ -66,7 +70,8 @@ fn write_the_page() -> io::Result<()> {
     for (name, plot) in plots {
         std::fs::write(docs.join(name), plot)?;
     }
-    println!("{}\n{}", page::table("Section", &sections), page::table("Body", &bodies));
+    println!("{}\n{}", page::table("Section", &sections), page::table("Input", &libraries));
+    println!("{}", page::table("Body", &bodies));
     print!("{}\n{}", page::number_table(&numbers), page::run_table(&runs));
     Ok(())
 }

@@ -1,4 +1,4 @@
-//! The least of many samples, the library's and the plain checker's in turn: other work on the machine only adds to a time.
+//! The least of many samples, the loader's and the plain checker's in turn: other work on the machine only adds to a time.
 
 use crate::inputs::{Input, Numbers, Size};
 use chelbugan::calls::{self, Ended};
@@ -19,7 +19,7 @@ pub struct Row {
     pub size: Size,
     pub amount: usize,
     pub numbers: Option<Numbers>,
-    pub library: f64,
+    pub loader: f64,
     pub plain: f64,
 }
 
@@ -35,18 +35,19 @@ impl Row {
     }
 
     pub fn ratio(&self) -> f64 {
-        self.library / self.plain
+        self.loader / self.plain
     }
 
     /// Of two rounds.
     pub fn least(self, other: Row) -> Row {
-        Row { library: self.library.min(other.library), plain: self.plain.min(other.plain), ..self }
+        Row { loader: self.loader.min(other.loader), plain: self.plain.min(other.plain), ..self }
     }
 }
 
-/// The buffers that the library is lent, cleared before the first call and by the library itself in each.
+/// The buffers that the loader is lent, cleared before the first call and by the loader itself in each.
 struct Lent {
     rows: Vec<u16>,
+    shared: Vec<u16>,
     codes: Vec<u16>,
     work: Vec<u32>,
     ends: Vec<u16>,
@@ -62,6 +63,7 @@ impl Lent {
     fn new() -> Lent {
         Lent {
             rows: vec![0; calls::ROWS],
+            shared: vec![0; calls::SHARED],
             codes: vec![0; calls::CODES],
             work: vec![0; calls::WORK],
             ends: vec![0; calls::ENDS],
@@ -77,6 +79,7 @@ impl Lent {
     fn run_memory(&mut self) -> calls::RunMemory<'_> {
         calls::RunMemory {
             rows: &mut self.rows,
+            shared: &mut self.shared,
             codes: &mut self.codes,
             work: &mut self.work,
             ends: &mut self.ends,
@@ -91,17 +94,17 @@ impl Lent {
 
     /// The count of types or of instructions, or the steps.
     fn judge(&mut self, input: &Input) -> Result<u64, calls::Refusal> {
+        let (library, section) = (input.library(), &input.section[..]);
+        let Lent { rows, shared, codes, work, .. } = self;
         let Some((number, body)) = &input.body else {
-            return calls::judge_section(&input.section, &mut self.rows, &mut self.codes);
+            return calls::judge_section(library, section, rows, shared, codes);
         };
-        let (section, number) = (&input.section, u64::from(*number));
+        let number = u64::from(*number);
         match input.budget {
-            None => {
-                let Lent { rows, codes, work, .. } = self;
-                calls::judge_body(section, body, number, rows, codes, work)
-            }
+            None => calls::judge_body(library, section, body, number, rows, shared, codes, work),
             Some(budget) => {
-                calls::try_run(section, body, number, budget, &mut self.run_memory()).map(steps)
+                let memory = &mut self.run_memory();
+                calls::try_run(library, section, body, number, budget, memory).map(steps)
             }
         }
     }
@@ -115,13 +118,17 @@ fn steps(ended: Ended) -> u64 {
 
 /// The same by the plain checker.
 fn judge_plainly(input: &Input) -> Result<usize, Refusal> {
+    let (library, section) = (input.library(), &input.section[..]);
     let Some((number, body)) = &input.body else {
-        return plain::section::judge_section(&input.section).map(|types| types.len());
+        return plain::section::judge_section(library, section).map(|types| types.len());
     };
     match input.budget {
-        None => plain::body::judge_body(&input.section, *number, body).map(|body| body.code.len()),
+        None => {
+            let judged = plain::body::judge_body(library, section, *number, body);
+            judged.map(|body| body.code.len())
+        }
         Some(budget) => {
-            let run = plain::machine::trial_run(&input.section, *number, body, budget);
+            let run = plain::machine::trial_run(library, section, *number, body, budget);
             run.map(|run| run.steps as usize)
         }
     }
@@ -130,16 +137,16 @@ fn judge_plainly(input: &Input) -> Result<usize, Refusal> {
 pub fn measure(input: &Input) -> Row {
     let mut lent = Lent::new();
     same_answer(input, &mut lent);
-    let mut library = || {
+    let mut loader = || {
         let _ = black_box(lent.judge(black_box(input)));
     };
     let mut plain = || {
         let _ = black_box(judge_plainly(black_box(input)));
     };
-    let calls = (calls_for(&mut library), calls_for(&mut plain));
+    let calls = (calls_for(&mut loader), calls_for(&mut plain));
     let mut samples = (Vec::new(), Vec::new());
     for _ in 0..SAMPLES {
-        samples.0.push(sample(&mut library, calls.0));
+        samples.0.push(sample(&mut loader, calls.0));
         samples.1.push(sample(&mut plain, calls.1));
     }
     Row {
@@ -148,21 +155,21 @@ pub fn measure(input: &Input) -> Row {
         size: input.size,
         amount: input.amount(),
         numbers: input.numbers,
-        library: least(samples.0),
+        loader: least(samples.0),
         plain: least(samples.1),
     }
 }
 
-/// `input<tab>microseconds<tab>microseconds`, of the library alone: the least of the samples, which other work disturbs least,
+/// `input<tab>microseconds<tab>microseconds`, of the loader alone: the least of the samples, which other work disturbs least,
 /// and their median.
-pub fn library_alone(input: &Input) -> String {
+pub fn loader_alone(input: &Input) -> String {
     let mut lent = Lent::new();
     same_answer(input, &mut lent);
-    let mut library = || {
+    let mut loader = || {
         let _ = black_box(lent.judge(black_box(input)));
     };
-    let calls = calls_for(&mut library);
-    let samples: Vec<f64> = (0..SAMPLES).map(|_| sample(&mut library, calls) / 1000.0).collect();
+    let calls = calls_for(&mut loader);
+    let samples: Vec<f64> = (0..SAMPLES).map(|_| sample(&mut loader, calls) / 1000.0).collect();
     format!("{input}\t{:.2}\t{:.2}", least(samples.clone()), median(samples))
 }
 
@@ -181,11 +188,11 @@ extern "Rust" fn chelbugan_bench_one_call(lent: &mut Lent, input: &Input) {
 
 /// What is timed is the right answer, the same from both.
 fn same_answer(input: &Input, lent: &mut Lent) {
-    let library = lent.judge(input).map(|count| count as usize);
-    let library = library.map_err(|no| (no.number as usize, no.place as usize));
+    let loader = lent.judge(input).map(|count| count as usize);
+    let loader = loader.map_err(|no| (no.number as usize, no.place as usize));
     let plain = judge_plainly(input).map_err(|no| (no.number as usize, no.place));
     let wanted = input.answer.map_err(|no| (no.number as usize, no.place));
-    assert_eq!(library, wanted, "the library on: {input}");
+    assert_eq!(loader, wanted, "the loader on: {input}");
     assert_eq!(plain, wanted, "the plain checker on: {input}");
 }
 

@@ -5,6 +5,7 @@ use crate::measure::Row;
 pub fn page(
     machine: &str,
     sections: &[Row],
+    libraries: &[Row],
     bodies: &[Row],
     numbers: &[Row],
     runs: &[Row],
@@ -16,7 +17,7 @@ For whoever asks what the proofs cost in speed. `make bench` measures anew and w
 
 Machine: {machine}.
 
-The proved library and the plain checker of `tests/plain` judge the same inputs, one after the other in turn. A time is the least of 45 samples of 3 ms each (of one call where that takes longer), in three rounds: other work on the machine only adds to it. Buffers are cleared first. The library clears what it is lent in each call, and that is in its time: 71,680 bytes at the start for a section, 88,064 at the start and again at the end for a body; a run's ten buffers are 240,042 bytes. The plain checker allocates its tree and its lists, which is in its time. A ratio below 1 means that the library is the faster one. In the tables lower is better but for steps a second.
+The proved loader and the plain checker of `tests/plain` judge the same inputs, one after the other in turn. A time is the least of 45 samples of 3 ms each (of one call where that takes longer), in three rounds: other work on the machine only adds to it. Buffers are cleared first. The loader clears what it is lent in each call, and that is in its time: 163,840 bytes at the start for a section, 180,224 at the start and again at the end for a body; a run's eleven buffers are 332,202 bytes. The plain checker allocates its tree and its lists, which is in its time. A ratio below 1 means that the loader is the faster one. In the tables lower is better but for steps a second.
 
 ## Sections
 
@@ -26,6 +27,16 @@ The proved library and the plain checker of `tests/plain` judge the same inputs,
 
 {}
 ![Nanoseconds for each byte of a section](bench-sections.svg)
+
+## With a library
+
+A library and a section after it; the bytes are those of both, and of a body the body's alone. All are accepted.
+
+- *ordinary pair*: half of the bytes are a library as the ordinary section above; the other half are kinds below the library's, their descriptors, and functions over them.
+- *hostile pair*: a library as the hostile section above, and after it functions that walk the library's chain.
+- *small*: a library of five types and a section of two, and a body of theirs. Clearing the lent memory is most of the time.
+
+{}
 
 ## Bodies
 
@@ -76,6 +87,7 @@ Each is a loop that goes on until its budget is spent, but for the last, which e
 
 {}",
         table("Section", sections),
+        table("Input", libraries),
         table("Body", bodies),
         number_table(numbers),
         include_str!("../numbers.md"),
@@ -85,7 +97,7 @@ Each is a loop that goes on until its budget is spent, but for the last, which e
 }
 
 pub fn table(what: &str, rows: &[Row]) -> String {
-    let mut text = format!("| {what} | Bytes | Library, µs | Plain, µs | Library, ns a byte | Plain, ns a byte | Ratio |\n");
+    let mut text = format!("| {what} | Bytes | Loader, µs | Plain, µs | Loader, ns a byte | Plain, ns a byte | Ratio |\n");
     text += "|---|---|---|---|---|---|---|\n";
     for row in rows {
         text += &format!(
@@ -93,9 +105,9 @@ pub fn table(what: &str, rows: &[Row]) -> String {
             row.kind,
             row.size,
             row.amount,
-            row.library / 1000.0,
+            row.loader / 1000.0,
             row.plain / 1000.0,
-            row.for_each(row.library),
+            row.for_each(row.loader),
             row.for_each(row.plain),
             row.ratio()
         );
@@ -104,7 +116,7 @@ pub fn table(what: &str, rows: &[Row]) -> String {
 }
 
 pub fn number_table(rows: &[Row]) -> String {
-    let mut text = String::from("| Input | Bytes | Numbers | Of one byte | Library, µs | Plain, µs | Library, ns a byte | Plain, ns a byte | Library, ns a number | Plain, ns a number | Ratio |\n");
+    let mut text = String::from("| Input | Bytes | Numbers | Of one byte | Loader, µs | Plain, µs | Loader, ns a byte | Plain, ns a byte | Loader, ns a number | Plain, ns a number | Ratio |\n");
     text += "|---|---|---|---|---|---|---|---|---|---|---|\n";
     for row in rows {
         let numbers = row.numbers.unwrap_or_default();
@@ -115,11 +127,11 @@ pub fn number_table(rows: &[Row]) -> String {
             row.amount,
             numbers.all,
             numbers.of_one_byte,
-            row.library / 1000.0,
+            row.loader / 1000.0,
             row.plain / 1000.0,
-            row.for_each(row.library),
+            row.for_each(row.loader),
             row.for_each(row.plain),
-            row.library / numbers.all as f64,
+            row.loader / numbers.all as f64,
             row.plain / numbers.all as f64,
             row.ratio()
         );
@@ -128,16 +140,16 @@ pub fn number_table(rows: &[Row]) -> String {
 }
 
 pub fn run_table(rows: &[Row]) -> String {
-    let mut text = String::from("| Run | Library, µs | Plain, µs | Library, million steps a second | Plain, million steps a second | Ratio |\n");
+    let mut text = String::from("| Run | Loader, µs | Plain, µs | Loader, million steps a second | Plain, million steps a second | Ratio |\n");
     text += "|---|---|---|---|---|---|\n";
     for row in rows {
         text += &format!(
             "| {}, {} | {:.1} | {:.1} | {:.1} | {:.1} | {:.2} |\n",
             row.kind,
             row.size,
-            row.library / 1000.0,
+            row.loader / 1000.0,
             row.plain / 1000.0,
-            row.speed(row.library),
+            row.speed(row.loader),
             row.speed(row.plain),
             row.ratio()
         );

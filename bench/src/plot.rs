@@ -24,7 +24,7 @@ const GROUPS: usize = 3;
 /// Panels beside one another.
 const ACROSS: usize = 3;
 
-const LIBRARY: &str = "#1b6ca8";
+const LOADER: &str = "#1b6ca8";
 const PLAIN: &str = "#c9a227";
 const LINE: &str = "#dddddd";
 const AXIS: &str = "#333333";
@@ -94,8 +94,8 @@ fn heading(measure: &Measure) -> String {
     let first = EDGE + LEFT;
     [
         text((first, 24.0), "start", "font-size=\"15\" font-weight=\"bold\"", measure.title),
-        rectangle((first, 38.0), (12.0, 12.0), LIBRARY),
-        text((first + 18.0, 48.0), "start", "", "proved library"),
+        rectangle((first, 38.0), (12.0, 12.0), LOADER),
+        text((first + 18.0, 48.0), "start", "", "proved loader"),
         rectangle((first + 126.0, 38.0), (12.0, 12.0), PLAIN),
         text((first + 144.0, 48.0), "start", "", "plain checker, not proved"),
         text((first + 318.0, 48.0), "start", "font-weight=\"bold\"", measure.better),
@@ -106,7 +106,7 @@ fn heading(measure: &Measure) -> String {
 
 fn panel(measure: &Measure, kind: &str, rows: &[&Row], (left, bottom): (f64, f64)) -> String {
     let both =
-        rows.iter().flat_map(|row| [row.library, row.plain].map(|time| (measure.value)(row, time)));
+        rows.iter().flat_map(|row| [row.loader, row.plain].map(|time| (measure.value)(row, time)));
     // Above the greatest bar there is room for its number.
     let (step, steps) = scale(both.fold(0.0, f64::max) * 1.08);
     let most = step * steps as f64;
@@ -130,7 +130,7 @@ fn panel(measure: &Measure, kind: &str, rows: &[&Row], (left, bottom): (f64, f64
     for (number, row) in rows.iter().enumerate() {
         let x = left + group * number as f64 + (group - 2.0 * BAR - BETWEEN) / 2.0;
         let value = |time| (measure.value)(row, time);
-        svg += &bar((x, bottom), value(row.library), most, LIBRARY);
+        svg += &bar((x, bottom), value(row.loader), most, LOADER);
         svg += &bar((x + BAR + BETWEEN, bottom), value(row.plain), most, PLAIN);
         let size = size_label(row.size);
         svg += &text((x + BAR + BETWEEN / 2.0, bottom + 16.0), "middle", "font-size=\"10\"", &size);

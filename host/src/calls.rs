@@ -1,17 +1,25 @@
-//! The library's calls on slices. A slice keeps by itself what include/chelbugan.h asks of a caller: its pointer is aligned
+//! The loader's calls on slices. A slice keeps by itself what include/chelbugan.h asks of a caller: its pointer is aligned
 //! and not null, its length is true, and what is lent for writing overlaps with nothing.
 //!
-//! Every call takes the section, then the body, the number and the budget as far as it has them, then the memory. An answer
-//! that is not known is a no: [`Refusal::UNKNOWN`].
+//! Every call takes the library and the section, then the body, the number and the budget as far as it has them, then the
+//! memory. The library is a type section too, and comes first: the section's own types are numbered on from its count. An
+//! answer that is not known is a no: [`Refusal::UNKNOWN`].
 
+use crate::answer::{bytes, ended, known, told, ANSWER};
+pub use crate::answer::{Bytes, Ended};
+use crate::archive;
 use crate::limits;
-pub use crate::refusal::Refusal;
-use crate::refusal::Trap;
+pub use crate::refusal::{Input, Refusal};
 use std::fmt;
 
+/// The library of no types, its count alone: with it a section is judged as if there were no library.
+pub const EMPTY_LIBRARY: &[u8] = &[0];
+
 /// Elements of `rows`, at least. A shorter buffer is refusal 14; of a longer one the rest is zeroed.
-pub const ROWS: usize = 3_072;
-/// Elements of `codes`, at least.
+pub const ROWS: usize = 16_384;
+/// Elements of `shared`, at least: the codes of the library's types.
+pub const SHARED: usize = 32_768;
+/// Elements of `codes`, at least: the codes of the section's own types.
 pub const CODES: usize = 32_768;
 /// Elements of `work`, at least.
 pub const WORK: usize = 4_096;
@@ -30,75 +38,16 @@ pub const OPERANDS: usize = 1_024;
 /// Elements of `blocks`, at least.
 pub const BLOCKS: usize = 189;
 
-/// The words of an answer.
-const ANSWER: usize = 4;
-
-/// What a call returns: a refusal, the one yes of a judgement, or how a run ended.
-const NO: u64 = 0;
-const YES: u64 = 1;
-const DONE: u64 = 1;
-const TRAP: u64 = 2;
-const SPENT: u64 = 3;
-
-/// The library's version that this wrapper is written for, as [`version`] tells it. The first number is that of the calls'
+/// The archive's version that this wrapper is written for, as [`version`] tells it. The first number is that of the calls'
 /// shape.
-pub const VERSION: u64 = 10_300;
-
-/// Where the bytes of a definition begin in the section, and the place after them.
-#[derive(Clone, Copy, Debug, PartialEq, Eq)]
-pub struct Bytes {
-    /// The place of the first byte.
-    pub from: u64,
-    /// The place after the last byte.
-    pub to: u64,
-}
-
-/// How a trial run ended, with its steps.
-#[derive(Clone, Copy, Debug, PartialEq, Eq)]
-pub enum Ended {
-    /// It came to its end.
-    Done {
-        /// How many instructions were done.
-        steps: u64,
-        /// How many results there are; they are all of the operands.
-        results: u64,
-    },
-    /// Stopped by an instruction.
-    Trap {
-        /// The trap's number in document 01 or 02; [`Trap::of_number`] names it.
-        number: u64,
-        /// Of the instruction in the body.
-        place: u64,
-        /// How many instructions were done, the trapping one among them.
-        steps: u64,
-    },
-    /// The budget was used up.
-    Spent {
-        /// The budget.
-        steps: u64,
-    },
-}
-
-impl fmt::Display for Ended {
-    fn fmt(&self, to: &mut fmt::Formatter) -> fmt::Result {
-        match *self {
-            Ended::Done { steps, results } => {
-                write!(to, "done after {steps} steps, results: {results}")
-            }
-            Ended::Trap { number, place, steps } => {
-                let words =
-                    Trap::of_number(number).map_or(String::new(), |trap| format!(", {trap}"));
-                write!(to, "trap {number} at {place}{words}, after {steps} steps")
-            }
-            Ended::Spent { steps } => write!(to, "spent after {steps} steps"),
-        }
-    }
-}
+pub const VERSION: u64 = 20_000;
 
 /// What a trial run is lent: scratch, then the state that it leaves.
 pub struct RunMemory<'a> {
     /// Scratch, [`ROWS`] elements.
     pub rows: &'a mut [u16],
+    /// Scratch, [`SHARED`] elements.
+    pub shared: &'a mut [u16],
     /// Scratch, [`CODES`] elements.
     pub codes: &'a mut [u16],
     /// Scratch, [`WORK`] elements.
@@ -124,6 +73,7 @@ impl fmt::Debug for RunMemory<'_> {
     fn fmt(&self, to: &mut fmt::Formatter) -> fmt::Result {
         to.debug_struct("RunMemory")
             .field("rows", &self.rows.len())
+            .field("shared", &self.shared.len())
             .field("codes", &self.codes.len())
             .field("work", &self.work.len())
             .field("ends", &self.ends.len())
@@ -137,82 +87,10 @@ impl fmt::Debug for RunMemory<'_> {
     }
 }
 
-mod library {
-    extern "C" {
-        pub fn chelbugan_version() -> u64;
-
-        pub fn chelbugan_judge_section(
-            section: *const u8,
-            section_len: usize,
-            rows: *mut u16,
-            rows_len: usize,
-            codes: *mut u16,
-            codes_len: usize,
-            answer: *mut u64,
-        ) -> u64;
-
-        pub fn chelbugan_ask_type(
-            section: *const u8,
-            section_len: usize,
-            number: u64,
-            rows: *mut u16,
-            rows_len: usize,
-            codes: *mut u16,
-            codes_len: usize,
-            answer: *mut u64,
-        ) -> u64;
-
-        pub fn chelbugan_judge_body(
-            section: *const u8,
-            section_len: usize,
-            body: *const u8,
-            body_len: usize,
-            number: u64,
-            rows: *mut u16,
-            rows_len: usize,
-            codes: *mut u16,
-            codes_len: usize,
-            work: *mut u32,
-            work_len: usize,
-            answer: *mut u64,
-        ) -> u64;
-
-        pub fn chelbugan_try_run(
-            section: *const u8,
-            section_len: usize,
-            body: *const u8,
-            body_len: usize,
-            number: u64,
-            budget: u64,
-            rows: *mut u16,
-            rows_len: usize,
-            codes: *mut u16,
-            codes_len: usize,
-            work: *mut u32,
-            work_len: usize,
-            ends: *mut u16,
-            ends_len: usize,
-            counts: *mut u64,
-            counts_len: usize,
-            objects: *mut u16,
-            objects_len: usize,
-            cells: *mut u64,
-            cells_len: usize,
-            locals: *mut u64,
-            locals_len: usize,
-            operands: *mut u64,
-            operands_len: usize,
-            blocks: *mut u16,
-            blocks_len: usize,
-            answer: *mut u64,
-        ) -> u64;
-    }
-}
-
-/// The version of the library that is linked: 10,000 times the first number, 100 times the second, and the third.
+/// The version of the archive that is linked: 10,000 times the first number, 100 times the second, and the third.
 pub fn version() -> u64 {
     // SAFETY: it takes nothing and answers a number.
-    unsafe { library::chelbugan_version() }
+    unsafe { archive::chelbugan_version() }
 }
 
 /// An archive of other calls is not called at all: it might write more words than it is lent.
@@ -223,17 +101,28 @@ fn shape_is_known() -> Result<(), Refusal> {
     }
 }
 
-/// Judges a section: its count of types, with the table in `rows` and `codes`; or the refusal, and both are zero.
-pub fn judge_section(section: &[u8], rows: &mut [u16], codes: &mut [u16]) -> Result<u64, Refusal> {
+/// Judges a library and a section: the count of all types, with the table in `rows`, `shared` and `codes`; or the refusal,
+/// and all three are zero.
+pub fn judge_section(
+    library: &[u8],
+    section: &[u8],
+    rows: &mut [u16],
+    shared: &mut [u16],
+    codes: &mut [u16],
+) -> Result<u64, Refusal> {
     shape_is_known()?;
     let mut answer = [0; ANSWER];
-    // SAFETY: each pointer and length is one slice's; the library keeps none of them.
+    // SAFETY: each pointer and length is one slice's; the archive keeps none of them.
     let kind = unsafe {
-        library::chelbugan_judge_section(
+        archive::chelbugan_judge_section(
+            library.as_ptr(),
+            library.len(),
             section.as_ptr(),
             section.len(),
             rows.as_mut_ptr(),
             rows.len(),
+            shared.as_mut_ptr(),
+            shared.len(),
             codes.as_mut_ptr(),
             codes.len(),
             answer.as_mut_ptr(),
@@ -244,40 +133,47 @@ pub fn judge_section(section: &[u8], rows: &mut [u16], codes: &mut [u16]) -> Res
     Ok(count)
 }
 
-/// Asks a section for a type: where its bytes lie, with the table as after the section alone; or the refusal.
+/// Asks a library and a section for a type: where its bytes lie, with the table as after judging alone; or the refusal.
 pub fn ask_type(
+    library: &[u8],
     section: &[u8],
     number: u64,
     rows: &mut [u16],
+    shared: &mut [u16],
     codes: &mut [u16],
 ) -> Result<Bytes, Refusal> {
     shape_is_known()?;
     let mut answer = [0; ANSWER];
     // SAFETY: as above.
     let kind = unsafe {
-        library::chelbugan_ask_type(
+        archive::chelbugan_ask_type(
+            library.as_ptr(),
+            library.len(),
             section.as_ptr(),
             section.len(),
             number,
             rows.as_mut_ptr(),
             rows.len(),
+            shared.as_mut_ptr(),
+            shared.len(),
             codes.as_mut_ptr(),
             codes.len(),
             answer.as_mut_ptr(),
         )
     };
-    let [from, to, ..] = told(kind, answer)?;
-    known(from <= to && to <= section.len() as u64, kind)?;
-    Ok(Bytes { from, to })
+    bytes(kind, told(kind, answer)?, library, section)
 }
 
 /// Judges a body against a function type's number: its count of instructions; or the refusal. All that is lent is scratch,
 /// and zero afterwards.
+#[allow(clippy::too_many_arguments)] // Each is a buffer of its own, as the header has them.
 pub fn judge_body(
+    library: &[u8],
     section: &[u8],
     body: &[u8],
     number: u64,
     rows: &mut [u16],
+    shared: &mut [u16],
     codes: &mut [u16],
     work: &mut [u32],
 ) -> Result<u64, Refusal> {
@@ -285,7 +181,9 @@ pub fn judge_body(
     let mut answer = [0; ANSWER];
     // SAFETY: as above.
     let kind = unsafe {
-        library::chelbugan_judge_body(
+        archive::chelbugan_judge_body(
+            library.as_ptr(),
+            library.len(),
             section.as_ptr(),
             section.len(),
             body.as_ptr(),
@@ -293,6 +191,8 @@ pub fn judge_body(
             number,
             rows.as_mut_ptr(),
             rows.len(),
+            shared.as_mut_ptr(),
+            shared.len(),
             codes.as_mut_ptr(),
             codes.len(),
             work.as_mut_ptr(),
@@ -304,8 +204,9 @@ pub fn judge_body(
 }
 
 /// Makes a trial run of a body, of at most `budget` steps: how it ended, with the state after exactly its steps in the last
-/// six buffers; or the refusal, and all ten are zero.
+/// six buffers; or the refusal, and all eleven are zero.
 pub fn try_run(
+    library: &[u8],
     section: &[u8],
     body: &[u8],
     number: u64,
@@ -316,7 +217,9 @@ pub fn try_run(
     let mut answer = [0; ANSWER];
     // SAFETY: as above.
     let kind = unsafe {
-        library::chelbugan_try_run(
+        archive::chelbugan_try_run(
+            library.as_ptr(),
+            library.len(),
             section.as_ptr(),
             section.len(),
             body.as_ptr(),
@@ -325,6 +228,8 @@ pub fn try_run(
             budget,
             memory.rows.as_mut_ptr(),
             memory.rows.len(),
+            memory.shared.as_mut_ptr(),
+            memory.shared.len(),
             memory.codes.as_mut_ptr(),
             memory.codes.len(),
             memory.work.as_mut_ptr(),
@@ -349,57 +254,12 @@ pub fn try_run(
     ended(kind, answer)
 }
 
-fn ended(kind: u64, answer: [u64; ANSWER]) -> Result<Ended, Refusal> {
-    let [first, second, third, _] = answer;
-    match kind {
-        NO => Err(Refusal { number: first, place: second }),
-        DONE => Ok(Ended::Done { steps: first, results: second }),
-        TRAP => {
-            known(Trap::of_number(first).is_some(), kind)?;
-            Ok(Ended::Trap { number: first, place: second, steps: third })
-        }
-        SPENT => Ok(Ended::Spent { steps: first }),
-        _ => Err(Refusal::unknown(kind)),
-    }
-}
-
-/// The words of a yes. What is neither a yes nor a no is a no.
-fn told(kind: u64, answer: [u64; ANSWER]) -> Result<[u64; ANSWER], Refusal> {
-    let [number, place, ..] = answer;
-    match kind {
-        YES => Ok(answer),
-        NO => Err(Refusal { number, place }),
-        _ => Err(Refusal::unknown(kind)),
-    }
-}
-
-fn known(holds: bool, kind: u64) -> Result<(), Refusal> {
-    match holds {
-        true => Ok(()),
-        false => Err(Refusal::unknown(kind)),
-    }
-}
-
 #[cfg(test)]
 mod tests {
     use super::*;
 
     #[test]
-    fn an_answer_that_is_not_known_is_a_no() {
-        let words = [1, 0, 0, 0];
-        for kind in [2, 3, 4, u64::MAX] {
-            assert_eq!(told(kind, words), Err(Refusal::unknown(kind)));
-        }
-        for kind in [4, 5, u64::MAX] {
-            assert_eq!(ended(kind, words), Err(Refusal::unknown(kind)));
-        }
-        for number in [0, 40, 47, u64::MAX] {
-            assert_eq!(ended(TRAP, [number, 0, 0, 0]), Err(Refusal::unknown(TRAP)));
-        }
-    }
-
-    #[test]
-    fn the_library_is_of_this_version() {
+    fn the_archive_is_of_this_version() {
         assert_eq!(version(), VERSION);
         assert_eq!(shape_is_known(), Ok(()));
     }

@@ -1,14 +1,15 @@
 //! The loader with memory of its own.
 
-use crate::calls::{self, Bytes, Ended, Refusal, RunMemory};
+use crate::calls::{self, Bytes, Ended, Input, Refusal, RunMemory};
 use crate::state::State;
 use crate::table::Table;
 use std::fmt;
 
-/// Lends the same buffers, 240,042 bytes, to each call; they are zero, or hold the last accepted section's table or the
+/// Lends the same buffers, 332,202 bytes, to each call; they are zero, or hold the last accepted sections' table or the
 /// last run's state.
 pub struct Loader {
     rows: Box<[u16]>,
+    shared: Box<[u16]>,
     codes: Box<[u16]>,
     work: Box<[u32]>,
     ends: Box<[u16]>,
@@ -34,6 +35,7 @@ impl Loader {
     pub fn new() -> Loader {
         Loader {
             rows: zeros(calls::ROWS),
+            shared: zeros(calls::SHARED),
             codes: zeros(calls::CODES),
             work: zeros(calls::WORK),
             ends: zeros(calls::ENDS),
@@ -46,33 +48,54 @@ impl Loader {
         }
     }
 
-    /// A section's types.
-    pub fn judge_section(&mut self, section: &[u8]) -> Result<Table<'_>, Refusal> {
-        let count = calls::judge_section(section, &mut self.rows, &mut self.codes)?;
-        Ok(Table::new(count as usize, &self.rows, &self.codes))
+    /// The types of a library and of a section after it. Without a library it is [`calls::EMPTY_LIBRARY`].
+    pub fn judge_section(&mut self, library: &[u8], section: &[u8]) -> Result<Table<'_>, Refusal> {
+        let Loader { rows, shared, codes, .. } = self;
+        let count = calls::judge_section(library, section, rows, shared, codes)?;
+        Ok(Table::new(count as usize, rows, shared, codes))
     }
 
-    /// The very bytes of a definition, a part of the section.
-    pub fn type_bytes<'s>(&mut self, section: &'s [u8], number: u64) -> Result<&'s [u8], Refusal> {
-        let Bytes { from, to } = calls::ask_type(section, number, &mut self.rows, &mut self.codes)?;
-        section.get(from as usize..to as usize).ok_or(Refusal::unknown(to))
+    /// The very bytes of a definition, a part of the library or of the section, and of which.
+    pub fn type_bytes<'s>(
+        &mut self,
+        library: &'s [u8],
+        section: &'s [u8],
+        number: u64,
+    ) -> Result<(&'s [u8], Input), Refusal> {
+        let Loader { rows, shared, codes, .. } = self;
+        let Bytes { from, to, input } =
+            calls::ask_type(library, section, number, rows, shared, codes)?;
+        let holder = match input {
+            Input::Library => library,
+            Input::Addon => section,
+        };
+        let definition = holder.get(from as usize..to as usize).ok_or(Refusal::unknown(to))?;
+        Ok((definition, input))
     }
 
     /// A body's count of instructions, against the function type of a number.
-    pub fn judge_body(&mut self, section: &[u8], body: &[u8], number: u64) -> Result<u64, Refusal> {
-        let Loader { rows, codes, work, .. } = self;
-        calls::judge_body(section, body, number, rows, codes, work)
+    pub fn judge_body(
+        &mut self,
+        library: &[u8],
+        section: &[u8],
+        body: &[u8],
+        number: u64,
+    ) -> Result<u64, Refusal> {
+        let Loader { rows, shared, codes, work, .. } = self;
+        calls::judge_body(library, section, body, number, rows, shared, codes, work)
     }
 
     /// A trial run of a body, of at most so many steps.
     pub fn try_run(
         &mut self,
+        library: &[u8],
         section: &[u8],
         body: &[u8],
         number: u64,
         budget: u64,
     ) -> Result<Run<'_>, Refusal> {
-        let ended = calls::try_run(section, body, number, budget, &mut self.run_memory())?;
+        let memory = &mut self.run_memory();
+        let ended = calls::try_run(library, section, body, number, budget, memory)?;
         let state = self.state();
         match state.is_known() {
             true => Ok(Run { ended, state }),
@@ -83,6 +106,7 @@ impl Loader {
     fn run_memory(&mut self) -> RunMemory<'_> {
         RunMemory {
             rows: &mut self.rows,
+            shared: &mut self.shared,
             codes: &mut self.codes,
             work: &mut self.work,
             ends: &mut self.ends,

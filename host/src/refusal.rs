@@ -8,17 +8,50 @@ use std::fmt;
 pub struct Refusal {
     /// The number in document 01 or 02, which [`Refusal::reason`] names.
     pub number: u64,
-    /// A byte's offset in the section or the body, or a type's number: [`Reason`] says which.
+    /// A byte's offset in an input, or a type's number: [`Reason`] says which.
     pub place: u64,
+    /// The section of which the place is a byte. None for a type's number, for a place in a body, and for the 0 of 14, of 27
+    /// and of a run's own refusals.
+    pub input: Option<Input>,
+}
+
+/// One of the two type sections that a call is handed.
+#[derive(Clone, Copy, Debug, PartialEq, Eq, Hash)]
+pub enum Input {
+    /// The library, whose types come first.
+    Library,
+    /// The add-on's own section.
+    Addon,
+}
+
+impl Input {
+    /// The input of a number in an answer; None for 0, which stands for no section, and for a number that is not known.
+    pub(crate) fn of_number(number: u64) -> Option<Input> {
+        match number {
+            1 => Some(Input::Library),
+            2 => Some(Input::Addon),
+            _ => None,
+        }
+    }
+}
+
+/// As the lines of docs/LAYOUT.md write it.
+impl fmt::Display for Input {
+    fn fmt(&self, to: &mut fmt::Formatter) -> fmt::Result {
+        to.pad(match self {
+            Input::Library => "library",
+            Input::Addon => "addon",
+        })
+    }
 }
 
 impl Refusal {
-    /// No number of the documents: the library gave an answer that this wrapper does not know, and that is no yes. The place
-    /// is what the library returned.
+    /// No number of the documents: the archive gave an answer that this wrapper does not know, and that is no yes. The place
+    /// is what its call returned.
     pub const UNKNOWN: u64 = 0;
 
     pub(crate) fn unknown(returned: u64) -> Refusal {
-        Refusal { number: Refusal::UNKNOWN, place: returned }
+        Refusal { number: Refusal::UNKNOWN, place: returned, input: None }
     }
 
     /// What the number stands for; None for a number that documents 01 and 02 do not have.
@@ -29,13 +62,18 @@ impl Refusal {
 
 impl fmt::Display for Refusal {
     fn fmt(&self, to: &mut fmt::Formatter) -> fmt::Result {
-        let Refusal { number, place } = self;
+        let Refusal { number, place, input } = self;
+        let of = match input {
+            Some(Input::Library) => " of the library",
+            Some(Input::Addon) => " of the add-on's section",
+            None => "",
+        };
         match self.reason() {
-            Some(reason) => write!(to, "refusal {number} at {place}: {reason}"),
+            Some(reason) => write!(to, "refusal {number} at {place}{of}: {reason}"),
             None if *number == Refusal::UNKNOWN => {
                 write!(to, "an answer that is not known ({place}), taken as a no")
             }
-            None => write!(to, "refusal {number} at {place}, a number that is not known"),
+            None => write!(to, "refusal {number} at {place}{of}, a number that is not known"),
         }
     }
 }
@@ -81,12 +119,12 @@ numbered! {
     BadNumber = 2, "a number is too long or out of range";
     /// At the byte, or at an FB number's or a type number's first byte.
     NotListed = 3, "a byte that is not listed";
-    /// At a byte: the first of the entry or the instruction that goes beyond; 0 for a whole input or a budget. Of a section
-    /// it can be a type's number too, where its chain of supertypes is too long: the types' bytes are all read by then.
+    /// At a byte: the first of the entry or the instruction that goes beyond; 0 for a whole input or a budget. It can be a
+    /// type's number too, where its chain of supertypes is too long; then the refusal has no input.
     Oversize = 4, "a size is exceeded";
     /// At the first byte left over.
     LeftOver = 5, "bytes are left over";
-    /// Of a section at the type's number, and for a type that is asked for at the number asked; of a body at the
+    /// Of a section at the type's number, with no input, and for a type that is asked for at the number asked; of a body at the
     /// instruction or at the first byte of the entry of locals.
     OutOfReach = 6, "a type number is out of reach";
     /// At the type's number.
@@ -162,25 +200,39 @@ mod tests {
 
     #[test]
     fn a_refusal_says_itself_in_words() {
-        let refusal = Refusal { number: 11, place: 1 };
+        let refusal = Refusal { number: 11, place: 1, input: None };
         assert_eq!(refusal.reason(), Some(Reason::ClausesDisagree));
         let error: Box<dyn Error> = refusal.into();
         assert_eq!(error.to_string(), "refusal 11 at 1: clauses disagree");
-        let only_null = Refusal { number: 31, place: 3 };
+        let only_null = Refusal { number: 31, place: 3, input: None };
         assert_eq!(only_null.reason(), Some(Reason::OnlyNull));
         assert_eq!(
             only_null.to_string(),
             "refusal 31 at 3: an operand would fit if it could not be null"
         );
-        let padded = Refusal { number: 32, place: 2 };
+        let padded = Refusal { number: 32, place: 2, input: None };
         assert_eq!(padded.reason(), Some(Reason::Padded));
         assert_eq!(padded.to_string(), "refusal 32 at 2: a number has more bytes than it needs");
-        let absent = Refusal { number: 26, place: 7 };
+        let absent = Refusal { number: 26, place: 7, input: None };
         assert_eq!(absent.reason(), None);
         assert_eq!(absent.to_string(), "refusal 26 at 7, a number that is not known");
         assert_eq!(
             Refusal::unknown(9).to_string(),
             "an answer that is not known (9), taken as a no"
+        );
+    }
+
+    #[test]
+    fn a_refusal_says_in_which_section_its_byte_lies() {
+        let at = |input| Refusal { number: 3, place: 1, input }.to_string();
+        assert_eq!(at(None), "refusal 3 at 1: a byte that is not listed");
+        assert_eq!(
+            at(Some(Input::Library)),
+            "refusal 3 at 1 of the library: a byte that is not listed"
+        );
+        assert_eq!(
+            at(Some(Input::Addon)),
+            "refusal 3 at 1 of the add-on's section: a byte that is not listed"
         );
     }
 

@@ -1,8 +1,12 @@
-//! The table that an accepted section leaves, read as docs/LAYOUT.md draws it.
+//! The table that an accepted library and section leave, read as docs/LAYOUT.md draws it.
 
+use crate::calls;
+use crate::refusal::Input;
+use crate::value_types::{field_of, value_of};
+pub use crate::value_types::{Abstract, Field, Heap, Number, ValueType};
 use std::fmt;
 
-const ROW_WORDS: usize = 12;
+const ROW_WORDS: usize = 16;
 
 const FORM: usize = 0;
 const FIELDS: usize = 1;
@@ -17,90 +21,8 @@ const CODE: usize = 10;
 
 const STRUCT: u16 = 1;
 
-/// An abstract heap type.
-#[derive(Clone, Copy, Debug, PartialEq, Eq, Hash)]
-pub enum Abstract {
-    /// Byte 73.
-    NoFunc,
-    /// Byte 72.
-    NoExtern,
-    /// Byte 71.
-    None,
-    /// Byte 70.
-    Func,
-    /// Byte 6F.
-    Extern,
-    /// Byte 6E.
-    Any,
-    /// Byte 6D.
-    Eq,
-    /// Byte 6C.
-    I31,
-    /// Byte 6B.
-    Struct,
-    /// Byte 6A.
-    Array,
-}
-
-impl Abstract {
-    /// By their codes, 0 to 9.
-    pub const ALL: [Abstract; 10] = [
-        Abstract::NoFunc,
-        Abstract::NoExtern,
-        Abstract::None,
-        Abstract::Func,
-        Abstract::Extern,
-        Abstract::Any,
-        Abstract::Eq,
-        Abstract::I31,
-        Abstract::Struct,
-        Abstract::Array,
-    ];
-
-    /// As document 01 writes it.
-    pub const fn name(self) -> &'static str {
-        match self {
-            Abstract::NoFunc => "nofunc",
-            Abstract::NoExtern => "noextern",
-            Abstract::None => "none",
-            Abstract::Func => "func",
-            Abstract::Extern => "extern",
-            Abstract::Any => "any",
-            Abstract::Eq => "eq",
-            Abstract::I31 => "i31",
-            Abstract::Struct => "struct",
-            Abstract::Array => "array",
-        }
-    }
-}
-
-/// A number type.
-#[derive(Clone, Copy, Debug, PartialEq, Eq, Hash)]
-pub enum Number {
-    /// Byte 7F.
-    I32,
-    /// Byte 7E.
-    I64,
-    /// Byte 7D.
-    F32,
-    /// Byte 7C.
-    F64,
-}
-
-impl Number {
-    /// By their codes, 0 to 3.
-    pub const ALL: [Number; 4] = [Number::I32, Number::I64, Number::F32, Number::F64];
-
-    /// As document 01 writes it.
-    pub const fn name(self) -> &'static str {
-        match self {
-            Number::I32 => "i32",
-            Number::I64 => "i64",
-            Number::F32 => "f32",
-            Number::F64 => "f64",
-        }
-    }
-}
+/// From this first code on, a row's codes lie in `shared`, at this much less: the places of `codes` end before it.
+const IN_SHARED: usize = calls::CODES;
 
 /// What a definition defines.
 #[derive(Clone, Copy, Debug, PartialEq, Eq, Hash)]
@@ -111,63 +33,29 @@ pub enum Form {
     Function,
 }
 
-/// The types of an accepted section.
+/// The types of an accepted library, then those of the section after it.
 pub struct Table<'a> {
     count: usize,
     rows: &'a [u16],
+    shared: &'a [u16],
     codes: &'a [u16],
 }
 
 /// A type: what a row of the table says.
 pub struct Row<'a> {
     words: &'a [u16],
+    shared: &'a [u16],
     codes: &'a [u16],
 }
 
-/// A heap type.
-#[derive(Clone, Copy, Debug, PartialEq, Eq, Hash)]
-pub enum Heap {
-    /// One of the ten.
-    Abstract(Abstract),
-    /// The type of a number, or one below it.
-    Defined(u32),
-    /// The type of a number and no other.
-    Exact(u32),
-}
-
-/// A value type.
-#[derive(Clone, Copy, Debug, PartialEq, Eq, Hash)]
-pub enum ValueType {
-    /// A number.
-    Number(Number),
-    /// A reference.
-    Reference {
-        /// It may be null.
-        nullable: bool,
-        /// What it leads to.
-        heap: Heap,
-    },
-}
-
-impl ValueType {
-    /// Zero or null; a reference that is not null has none.
-    pub fn has_default(&self) -> bool {
-        !matches!(self, ValueType::Reference { nullable: false, .. })
-    }
-}
-
-/// A field of a struct.
-#[derive(Clone, Copy, Debug, PartialEq, Eq, Hash)]
-pub struct Field {
-    /// It may be set; else it is fixed.
-    pub mutable: bool,
-    /// The type of its values.
-    pub value: ValueType,
-}
-
 impl<'a> Table<'a> {
-    pub(crate) fn new(count: usize, rows: &'a [u16], codes: &'a [u16]) -> Table<'a> {
-        Table { count, rows, codes }
+    pub(crate) fn new(
+        count: usize,
+        rows: &'a [u16],
+        shared: &'a [u16],
+        codes: &'a [u16],
+    ) -> Table<'a> {
+        Table { count, rows, shared, codes }
     }
 
     /// How many types there are.
@@ -178,7 +66,7 @@ impl<'a> Table<'a> {
     /// By number.
     pub fn rows(&self) -> impl Iterator<Item = Row<'a>> + '_ {
         let rows = self.rows.chunks(ROW_WORDS).take(self.count);
-        rows.map(|words| Row { words, codes: self.codes })
+        rows.map(|words| Row { words, shared: self.shared, codes: self.codes })
     }
 
     /// The type of a number, if there is one.
@@ -222,7 +110,15 @@ impl Row<'_> {
         self.number(DESCRIPTOR)
     }
 
-    /// Where the definition's bytes lie in the section.
+    /// Which of the two sections holds it.
+    pub fn input(&self) -> Input {
+        match self.words[CODE] as usize >= IN_SHARED {
+            true => Input::Library,
+            false => Input::Addon,
+        }
+    }
+
+    /// Where the definition's bytes lie in the section that holds it.
     pub fn bytes(&self) -> std::ops::Range<usize> {
         self.words[FROM] as usize..self.words[TO] as usize
     }
@@ -247,32 +143,17 @@ impl Row<'_> {
     }
 
     fn codes_from(&self, skipped: usize, count: usize) -> &[u16] {
-        let first = self.words[CODE] as usize + skipped;
-        &self.codes[first..first + count]
+        let (codes, begin) = match self.input() {
+            Input::Library => (self.shared, self.words[CODE] as usize - IN_SHARED),
+            Input::Addon => (self.codes, self.words[CODE] as usize),
+        };
+        let first = begin + skipped;
+        &codes[first..first + count]
     }
 
     /// 0 is none, else one more than the number.
     fn number(&self, word: usize) -> Option<u16> {
         self.words[word].checked_sub(1)
-    }
-}
-
-fn field_of(code: u16) -> Field {
-    Field { mutable: code % 2 == 1, value: value_of(code / 2) }
-}
-
-fn value_of(code: u16) -> ValueType {
-    match Number::ALL.get(usize::from(code)) {
-        Some(&number) => ValueType::Number(number),
-        None => ValueType::Reference { nullable: code % 2 == 1, heap: heap_of((code - 4) / 2) },
-    }
-}
-
-fn heap_of(code: u16) -> Heap {
-    match Abstract::ALL.get(usize::from(code)) {
-        Some(&heap) => Heap::Abstract(heap),
-        None if code.is_multiple_of(2) => Heap::Defined(u32::from(code - 10) / 2),
-        None => Heap::Exact(u32::from(code - 11) / 2),
     }
 }
 
@@ -296,47 +177,7 @@ impl fmt::Debug for Row<'_> {
             .field("describes", &self.describes())
             .field("descriptor", &self.descriptor())
             .field("bytes", &self.bytes())
+            .field("input", &self.input())
             .finish()
-    }
-}
-
-impl fmt::Display for Abstract {
-    fn fmt(&self, to: &mut fmt::Formatter) -> fmt::Result {
-        to.pad(self.name())
-    }
-}
-
-impl fmt::Display for Number {
-    fn fmt(&self, to: &mut fmt::Formatter) -> fmt::Result {
-        to.pad(self.name())
-    }
-}
-
-impl fmt::Display for Heap {
-    fn fmt(&self, to: &mut fmt::Formatter) -> fmt::Result {
-        match self {
-            Heap::Abstract(heap) => write!(to, "{heap}"),
-            Heap::Defined(number) => write!(to, "{number}"),
-            Heap::Exact(number) => write!(to, "(exact {number})"),
-        }
-    }
-}
-
-impl fmt::Display for ValueType {
-    fn fmt(&self, to: &mut fmt::Formatter) -> fmt::Result {
-        match self {
-            ValueType::Number(number) => write!(to, "{number}"),
-            ValueType::Reference { nullable: true, heap } => write!(to, "(ref null {heap})"),
-            ValueType::Reference { nullable: false, heap } => write!(to, "(ref {heap})"),
-        }
-    }
-}
-
-impl fmt::Display for Field {
-    fn fmt(&self, to: &mut fmt::Formatter) -> fmt::Result {
-        match self.mutable {
-            true => write!(to, "(mut {})", self.value),
-            false => write!(to, "{}", self.value),
-        }
     }
 }

@@ -20,7 +20,7 @@ pub fn input(kind: &'static str, kilobytes: usize) -> Input {
     let (body, answer) = of_size(kind, kilobytes, |room| body(kind, room));
     let size = Size::Kilobytes(kilobytes);
     let body = Some((function, body));
-    Input { kind, size, section, body, budget: None, answer, numbers: None }
+    Input { kind, size, library: None, section, body, budget: None, answer, numbers: None }
 }
 
 /// The section, and the number of the function type.

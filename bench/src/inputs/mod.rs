@@ -1,11 +1,13 @@
-//! The inputs: sections and bodies of 1, 5, 20 and 32 KB, ordinary ones and hostile ones; some of 32 KB that differ in how
-//! their LEB numbers are written; and runs of up to 1,000,000 steps.
+//! The inputs: sections and bodies of 1, 5, 20 and 32 KB, ordinary ones and hostile ones; some with a library before the
+//! section; some of 32 KB that differ in how their LEB numbers are written; and runs of up to 1,000,000 steps.
 
 pub mod bodies;
+pub mod libraries;
 pub mod numbers;
 pub mod runs;
 pub mod sections;
 
+use chelbugan::EMPTY_LIBRARY;
 use plain::refusal::Refusal;
 use std::fmt;
 
@@ -13,6 +15,8 @@ use std::fmt;
 pub struct Input {
     pub kind: &'static str,
     pub size: Size,
+    /// None where the section has none before it.
+    pub library: Option<Vec<u8>>,
     pub section: Vec<u8>,
     /// A function type's number, and a body of it; none where the section is judged alone.
     pub body: Option<(u32, Vec<u8>)>,
@@ -35,6 +39,7 @@ pub struct Numbers {
 #[derive(Clone, Copy)]
 pub enum Size {
     Kilobytes(usize),
+    Bytes(usize),
     Steps(usize),
 }
 
@@ -47,11 +52,15 @@ impl Input {
         }
     }
 
+    pub fn library(&self) -> &[u8] {
+        self.library.as_deref().unwrap_or(EMPTY_LIBRARY)
+    }
+
     /// The bytes or steps that a time is divided by.
     pub fn amount(&self) -> usize {
         match (self.size, &self.body) {
             (Size::Steps(steps), _) => steps,
-            (_, None) => self.section.len(),
+            (_, None) => self.library.as_ref().map_or(0, Vec::len) + self.section.len(),
             (_, Some((_, body))) => body.len(),
         }
     }
@@ -68,6 +77,7 @@ impl fmt::Display for Size {
     fn fmt(&self, to: &mut fmt::Formatter) -> fmt::Result {
         match self {
             Size::Kilobytes(count) => write!(to, "{count} KB"),
+            Size::Bytes(count) => write!(to, "{count} bytes"),
             Size::Steps(count) => write!(to, "{} steps", grouped(*count)),
         }
     }
@@ -88,6 +98,10 @@ const MOST_BYTES: usize = 32_768;
 
 pub fn of_sections() -> Vec<Input> {
     of_kinds(&sections::KINDS, sections::input)
+}
+
+pub fn of_libraries() -> Vec<Input> {
+    libraries::inputs()
 }
 
 pub fn of_bodies() -> Vec<Input> {

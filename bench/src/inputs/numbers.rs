@@ -41,7 +41,7 @@ fn of_section(kind: &'static str, way: Way) -> Input {
     let (Part { bytes: section, numbers }, types) = section(way, MOST_BYTES);
     assert_filled(kind, section.len(), MOST_BYTES);
     let (answer, numbers) = (Ok(types), Some(numbers));
-    Input { kind, size: SIZE, section, body: None, budget: None, answer, numbers }
+    Input { kind, size: SIZE, library: None, section, body: None, budget: None, answer, numbers }
 }
 
 /// The section's own numbers are not counted.
@@ -51,7 +51,7 @@ fn of_body(kind: &'static str, way: Way) -> Input {
     let (section, function) = structs_and_function();
     let (answer, numbers) = (Ok(instructions), Some(numbers));
     let body = Some((function, body));
-    Input { kind, size: SIZE, section, body, budget: None, answer, numbers }
+    Input { kind, size: SIZE, library: None, section, body, budget: None, answer, numbers }
 }
 
 impl Way {

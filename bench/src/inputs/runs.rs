@@ -37,6 +37,7 @@ pub fn input(kind: &'static str, steps: usize) -> Input {
     Input {
         kind,
         size: Size::Steps(steps),
+        library: None,
         section,
         body: Some((function, body(kind))),
         budget: Some(budget(kind, steps)),

@@ -1,7 +1,7 @@
 //! Sections: ordinary, refused at their end, and as slow as a section can be.
 
 use super::{heap, leb, of_size, Input, Judged, Size};
-use plain::refusal::Refusal;
+use plain::refusal::{self, Refusal};
 
 pub const KINDS: [&str; 3] = ["ordinary", "refused late", "hostile"];
 
@@ -12,51 +12,49 @@ pub fn input(kind: &'static str, kilobytes: usize) -> Input {
         _ => hostile(room),
     });
     let size = Size::Kilobytes(kilobytes);
-    Input { kind, size, section, body: None, budget: None, answer, numbers: None }
+    Input { kind, size, library: None, section, body: None, budget: None, answer, numbers: None }
 }
 
+/// As many types as a section could have before version 2.0.0: the inputs stay those of before.
+const TYPES: usize = 256;
+
 /// Types of a kind that follow one another, as many as fit.
-struct Section {
+pub struct Section {
     groups: usize,
-    types: usize,
+    pub types: usize,
     bytes: Vec<u8>,
 }
 
 impl Section {
-    fn new() -> Section {
+    pub fn new() -> Section {
         Section { groups: 0, types: 0, bytes: Vec::new() }
     }
 
-    fn push(&mut self, types: usize, group: Vec<u8>) {
+    pub fn push(&mut self, types: usize, group: Vec<u8>) {
         self.groups += 1;
         self.types += types;
         self.bytes.extend(group);
     }
 
     /// The count of groups takes two bytes at most.
-    fn has_room(&self, types: usize, bytes: usize, room: usize) -> bool {
-        self.types + types <= 256 && self.bytes.len() + bytes + 2 <= room
+    pub fn has_room(&self, types: usize, bytes: usize, room: usize) -> bool {
+        self.types + types <= TYPES && self.bytes.len() + bytes + 2 <= room
     }
 
-    fn finish(self) -> (Vec<u8>, usize) {
+    pub fn finish(self) -> (Vec<u8>, usize) {
         ([leb(self.groups), self.bytes].concat(), self.types)
     }
 }
 
 /// Families as the paper's incident has them: a short and a long kind, a descriptor for each, a function over them. Larger
-/// sections have more fields, since there are at most 256 types.
-fn ordinary(room: usize) -> Judged {
-    let (fields, entries) = match room / 1024 {
-        0..=1 => (6, 3),
-        2..=5 => (10, 3),
-        6..=20 => (44, 12),
-        _ => (60, 60),
-    };
+/// sections have more fields, so that [`TYPES`] are enough.
+pub fn ordinary(room: usize) -> Judged {
+    let (fields, entries) = widths(room);
     let mut section = Section::new();
     loop {
         let first = section.types;
         let (family, function) = (family(first, fields), function(first, entries));
-        if !section.has_room(5, family.len() + function.len(), room) {
+        if !section.has_room(FAMILY, family.len() + function.len(), room) {
             let (bytes, types) = section.finish();
             return (bytes, Ok(types));
         }
@@ -64,6 +62,19 @@ fn ordinary(room: usize) -> Judged {
         section.push(1, function);
     }
 }
+
+/// The fields of a short kind, and the parameters and the results of a function.
+pub fn widths(room: usize) -> (usize, usize) {
+    match room / 1024 {
+        0..=1 => (6, 3),
+        2..=5 => (10, 3),
+        6..=20 => (44, 12),
+        _ => (60, 60),
+    }
+}
+
+/// Types of a family and of the function over it.
+pub const FAMILY: usize = 5;
 
 /// Short, its descriptor, long, its descriptor.
 fn family(first: usize, fields: usize) -> Vec<u8> {
@@ -79,12 +90,12 @@ fn family(first: usize, fields: usize) -> Vec<u8> {
     .concat()
 }
 
-fn list(count: usize, entry: impl Fn(usize) -> Vec<u8>) -> Vec<u8> {
+pub fn list(count: usize, entry: impl Fn(usize) -> Vec<u8>) -> Vec<u8> {
     [leb(count), (0..count).flat_map(entry).collect()].concat()
 }
 
 /// Numbers and references in turn; some may be written.
-fn field(first: usize, index: usize) -> Vec<u8> {
+pub fn field(first: usize, index: usize) -> Vec<u8> {
     let mutable = index.is_multiple_of(3) as u8;
     [value(first, index), vec![mutable]].concat()
 }
@@ -98,7 +109,7 @@ fn value(first: usize, index: usize) -> Vec<u8> {
     }
 }
 
-fn function(first: usize, entries: usize) -> Vec<u8> {
+pub fn function(first: usize, entries: usize) -> Vec<u8> {
     let values = list(entries, |index| value(first, index));
     [vec![0x60], values.clone(), values].concat()
 }
@@ -108,28 +119,38 @@ fn refused_late(room: usize) -> Judged {
     let (mut section, _) = ordinary(room - 1);
     section.push(0x00);
     let place = section.len() - 1;
-    (section, Err(Refusal { number: 5, place }))
+    (section, Err(Refusal { number: 5, place, input: Some(refusal::Input::Addon) }))
 }
 
 /// The steps of the longest chain.
 pub const CHAIN: usize = 63;
 
 /// A chain of 63 steps, then functions whose parameters and results each walk all of it (docs/ARCHITECTURE.md).
-fn hostile(room: usize) -> Judged {
+pub fn hostile(room: usize) -> Judged {
     let mut section = Section::new();
     section.push(1, vec![0x50, 0x00, 0x5F, 0x00]);
     for supertype in 0..CHAIN {
         section.push(1, [vec![0x50, 0x01], leb(supertype), vec![0x5F, 0x00]].concat());
     }
-    let (top, bottom) = (0, CHAIN);
-    let above = section.types;
-    section.push(1, [vec![0x50, 0x00], walker(bottom, top)].concat());
-    let below = [vec![0x4F, 0x01], leb(above), walker(top, bottom)].concat();
+    assert_eq!(section.types, ABOVE);
+    section.push(1, [vec![0x50, 0x00], walker(BOTTOM, TOP)].concat());
+    let (bytes, types) = walking(section, room).finish();
+    (bytes, Ok(types))
+}
+
+/// The first and the last of the chain.
+const TOP: usize = 0;
+const BOTTOM: usize = CHAIN;
+/// The function that all others are below.
+const ABOVE: usize = CHAIN + 1;
+
+/// As many functions as fit, each with every parameter and result as far from that above as the chain is long.
+pub fn walking(mut section: Section, room: usize) -> Section {
+    let below = [vec![0x4F, 0x01], leb(ABOVE), walker(TOP, BOTTOM)].concat();
     while section.has_room(1, below.len(), room) {
         section.push(1, below.clone());
     }
-    let (bytes, types) = section.finish();
-    (bytes, Ok(types))
+    section
 }
 
 /// As many parameters and results as there may be, all of one type each.

@@ -1,14 +1,15 @@
-//! One request to the library and to the plain checker: the answers and every lent word must be the same.
+//! One request to the loader and to the plain checker: the answers and every lent word must be the same.
 
 use crate::expected;
 use crate::memory::{Lengths, Memory, SIZES};
-use crate::requests::Request;
+use crate::requests::{Asked, Request};
 use crate::tally::Tally;
 use chelbugan::calls::{self, Ended, RunMemory};
+use chelbugan::Input;
 use plain::body::judge_body;
 use plain::generate::random::Random;
 use plain::machine::{trial_run, Outcome, Run};
-use plain::refusal::Refusal;
+use plain::refusal::{self, Refusal};
 use plain::section::judge_section;
 use plain::syntax::Type;
 
@@ -16,14 +17,31 @@ use plain::syntax::Type;
 #[derive(Clone, Debug, PartialEq, Eq)]
 pub enum Answer {
     Count(u64),
-    Bytes(u64, u64),
+    /// The first byte's place, the place after the last, and the section that holds them.
+    Bytes(u64, u64, Input),
     /// Steps, and count of results.
     Done(u64, u64),
     /// Number, place, steps.
     Trap(u64, u64, u64),
     /// Steps.
     Spent(u64),
-    No(u64, u64),
+    /// Number and place; where the place is a byte of a section, of which.
+    No(u64, u64, Option<Input>),
+}
+
+/// Refused at a place that is no section's byte.
+pub fn no(number: u64, place: u64) -> Answer {
+    Answer::No(number, place, None)
+}
+
+/// Refused at a byte of the add-on's section.
+pub fn no_addon(number: u64, place: u64) -> Answer {
+    Answer::No(number, place, Some(Input::Addon))
+}
+
+/// Refused at a byte of the library.
+pub fn no_library(number: u64, place: u64) -> Answer {
+    Answer::No(number, place, Some(Input::Library))
 }
 
 /// An answer with the memory that it left.
@@ -33,26 +51,32 @@ pub struct Left {
     pub memory: Memory,
 }
 
-/// What the library answers with these lent buffers.
-pub fn ask_library(request: &Request, lent: &mut RunMemory) -> Answer {
-    let answered = match request {
-        Request::Section(section) => {
-            calls::judge_section(section, lent.rows, lent.codes).map(Answer::Count)
+/// What the loader answers with these lent buffers.
+pub fn ask_loader(request: &Request, lent: &mut RunMemory) -> Answer {
+    ask_with(request.library(), &request.section, &request.asked, lent)
+}
+
+/// The same with the sections where the caller has put them.
+pub fn ask_with(library: &[u8], section: &[u8], asked: &Asked, lent: &mut RunMemory) -> Answer {
+    let RunMemory { rows, shared, codes, work, .. } = lent;
+    let answered = match asked {
+        Asked::Section => {
+            calls::judge_section(library, section, rows, shared, codes).map(Answer::Count)
         }
-        Request::Type(section, number) => {
-            let found = calls::ask_type(section, u64::from(*number), lent.rows, lent.codes);
-            found.map(|bytes| Answer::Bytes(bytes.from, bytes.to))
+        Asked::Type(number) => {
+            let found = calls::ask_type(library, section, *number, rows, shared, codes);
+            found.map(|bytes| Answer::Bytes(bytes.from, bytes.to, bytes.input))
         }
-        Request::Body(section, number, body) => {
+        Asked::Body(number, body) => {
             let judged =
-                calls::judge_body(section, body, *number, lent.rows, lent.codes, lent.work);
+                calls::judge_body(library, section, body, *number, rows, shared, codes, work);
             judged.map(Answer::Count)
         }
-        Request::Run(section, number, body, budget) => {
-            calls::try_run(section, body, *number, *budget, lent).map(run_answer)
+        Asked::Run(number, body, budget) => {
+            calls::try_run(library, section, body, *number, *budget, lent).map(run_answer)
         }
     };
-    answered.unwrap_or_else(|refusal| Answer::No(refusal.number, refusal.place))
+    answered.unwrap_or_else(|no| Answer::No(no.number, no.place, no.input))
 }
 
 fn run_answer(ended: Ended) -> Answer {
@@ -63,28 +87,37 @@ fn run_answer(ended: Ended) -> Answer {
     }
 }
 
-/// What document 01 asks for with buffers of these lengths, by the plain checker.
+/// What documents 01 and 02 ask for with buffers of these lengths, by the plain checker.
 pub fn ask_plain(request: &Request, lengths: Lengths) -> Left {
     let lengths = lent_to(request, lengths);
     if is_short(request, lengths) {
-        return zeroed(Answer::No(14, 0), lengths);
+        return zeroed(no(14, 0), lengths);
     }
-    let judged = match request {
-        Request::Section(section) => judge_section(section).map(|types| table(&types, lengths)),
-        Request::Type(section, number) => {
-            judge_section(section).and_then(|types| type_of(&types, *number, lengths))
+    let (library, section) = (request.library(), &request.section[..]);
+    let judged = match &request.asked {
+        Asked::Section => judge_section(library, section).map(|types| table(&types, lengths)),
+        Asked::Type(number) => {
+            judge_section(library, section).and_then(|types| type_of(&types, *number, lengths))
         }
-        Request::Body(section, number, body) => {
-            let judged = judge_body(section, nearest(*number), body);
+        Asked::Body(number, body) => {
+            let judged = judge_body(library, section, nearest(*number), body);
             judged.map(|body| zeroed(Answer::Count(body.code.len() as u64), lengths))
         }
-        Request::Run(section, number, body, budget) => {
-            trial_run(section, nearest(*number), body, *budget).map(|run| state(&run, lengths))
+        Asked::Run(number, body, budget) => {
+            let run = trial_run(library, section, nearest(*number), body, *budget);
+            run.map(|run| state(&run, lengths))
         }
     };
-    judged.unwrap_or_else(|Refusal { number, place }| {
-        zeroed(Answer::No(u64::from(number), place as u64), lengths)
+    judged.unwrap_or_else(|Refusal { number, place, input }| {
+        zeroed(Answer::No(number.into(), place as u64, input.map(input_of)), lengths)
     })
+}
+
+fn input_of(input: refusal::Input) -> Input {
+    match input {
+        refusal::Input::Library => Input::Library,
+        refusal::Input::Addon => Input::Addon,
+    }
 }
 
 /// Without the buffers that this call is not lent.
@@ -106,17 +139,19 @@ fn nearest(number: u64) -> u32 {
 
 fn table(types: &[Type], lengths: Lengths) -> Left {
     let mut left = zeroed(Answer::Count(types.len() as u64), lengths);
-    let (rows, codes) = expected::table(types);
-    put(&mut left.memory.rows, &rows);
-    put(&mut left.memory.codes, &codes);
+    let words = expected::table(types);
+    put(&mut left.memory.rows, &words.rows);
+    put(&mut left.memory.shared, &words.shared);
+    put(&mut left.memory.codes, &words.codes);
     left
 }
 
-/// The table as after the section alone; an absent number is refusal 6 with that number as place.
-fn type_of(types: &[Type], number: u32, lengths: Lengths) -> Result<Left, Refusal> {
-    let found = types.get(number as usize);
-    let found = found.ok_or(Refusal { number: 6, place: number as usize })?;
-    let answer = Answer::Bytes(found.start as u64, found.end as u64);
+/// The table as after the sections alone; an absent number is refusal 6 with that number as place.
+fn type_of(types: &[Type], number: u64, lengths: Lengths) -> Result<Left, Refusal> {
+    let number = number as usize;
+    let found = types.get(number).ok_or(Refusal { number: 6, place: number, input: None })?;
+    let (from, to) = (found.start as u64, found.end as u64);
+    let answer = Answer::Bytes(from, to, input_of(found.input));
     Ok(Left { answer, ..table(types, lengths) })
 }
 
@@ -147,11 +182,11 @@ fn zeroed(answer: Answer, lengths: Lengths) -> Left {
 }
 
 /// Where the two differ, in words.
-pub fn difference(library: &Left, plain: &Left) -> Option<String> {
-    if library.answer != plain.answer {
-        return Some(format!("library: {:?}\nplain:   {:?}", library.answer, plain.answer));
+pub fn difference(loader: &Left, plain: &Left) -> Option<String> {
+    if loader.answer != plain.answer {
+        return Some(format!("loader: {:?}\nplain:  {:?}", loader.answer, plain.answer));
     }
-    library.memory.difference(&plain.memory)
+    loader.memory.difference(&plain.memory)
 }
 
 /// Asks on and on, with buffers full of rubbish before each request, and counts the answers.
@@ -172,7 +207,7 @@ impl Comparison {
         // A word's worth of chance, repeated: cheap, and never all zero.
         let rubbish = self.random.draw() | 0x0001_0001_0001_0001;
         let mut memory = Memory::filled(lengths, rubbish);
-        let answer = ask_library(request, &mut memory.lent());
+        let answer = ask_loader(request, &mut memory.lent());
         self.tally.count(request, &answer);
         match difference(&Left { answer, memory }, &ask_plain(request, lengths)) {
             None => Ok(()),

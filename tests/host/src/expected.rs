@@ -1,11 +1,13 @@
 //! What docs/LAYOUT.md says of the lent words, put together from the plain checker's tree and from the state of its run.
 
 use plain::machine::Run;
+use plain::refusal::Input;
 use plain::state::{BlockKind, Object, OpenBlock, Value};
 use plain::syntax::{Abstract, Definition, Field, Form, Heap, Reference, Type, ValueType};
 
 /// The sizes of docs/LAYOUT.md, in elements.
-pub const ROWS: usize = 3_072;
+pub const ROWS: usize = 16_384;
+pub const SHARED: usize = 32_768;
 pub const CODES: usize = 32_768;
 pub const WORK: usize = 4_096;
 pub const ENDS: usize = 32_768;
@@ -16,17 +18,32 @@ pub const LOCALS: usize = 512;
 pub const OPERANDS: usize = 1_024;
 pub const BLOCKS: usize = 189;
 
-/// The rows and codes of an accepted section's table, without what is zero beyond.
-pub fn table(types: &[Type]) -> (Vec<u16>, Vec<u16>) {
-    let (mut rows, mut codes) = (Vec::new(), Vec::new());
-    for found in types {
-        rows.extend(row(found, codes.len()));
-        codes.extend(codes_of(&found.definition.form));
-    }
-    (rows, codes)
+/// The words of an accepted table, without what is zero beyond.
+#[derive(Default)]
+pub struct TableWords {
+    pub rows: Vec<u16>,
+    pub shared: Vec<u16>,
+    pub codes: Vec<u16>,
 }
 
-fn row(found: &Type, first_code: usize) -> [u16; 12] {
+/// A first code from here on is a place in `shared`, so much more.
+const IN_SHARED: usize = 32_768;
+
+/// The library's types first, with their codes in `shared`; then the add-on's.
+pub fn table(types: &[Type]) -> TableWords {
+    let mut words = TableWords::default();
+    for found in types {
+        let (codes, more) = match found.input {
+            Input::Library => (&mut words.shared, IN_SHARED),
+            Input::Addon => (&mut words.codes, 0),
+        };
+        words.rows.extend(row(found, more + codes.len()));
+        codes.extend(codes_of(&found.definition.form));
+    }
+    words
+}
+
+fn row(found: &Type, first_code: usize) -> [u16; 16] {
     let Definition { open, supertypes, describes, descriptor, form } = &found.definition;
     let (kind, fields, results) = match form {
         Form::Struct(fields) => (1, fields.len(), 0),
@@ -44,6 +61,10 @@ fn row(found: &Type, first_code: usize) -> [u16; 12] {
         found.end as u16,
         found.reach as u16,
         first_code as u16,
+        0,
+        0,
+        0,
+        0,
         0,
     ]
 }

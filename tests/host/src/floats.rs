@@ -1,8 +1,8 @@
-//! The library's float operations against the processor's own: bodies of many operations on constants, whose results lie on
+//! The loader's float operations against the processor's own: bodies of many operations on constants, whose results lie on
 //! the operand stack where the body traps. A NaN of add, sub, mul and div is held to the canonical pattern.
 
 use chelbugan::state::Value;
-use chelbugan::{Ended, Loader};
+use chelbugan::{Ended, Loader, EMPTY_LIBRARY};
 use plain::float::{Format, DOUBLE, SINGLE};
 use plain::generate::float_pairs::pairs;
 use std::fmt;
@@ -90,20 +90,23 @@ fn double(result: f64) -> Value {
     Value::F64(if result.is_nan() { 0x7FF8_0000_0000_0000 } else { result.to_bits() })
 }
 
-/// The operands, what the library gives and what the processor gives.
+/// The operands, what the loader gives and what the processor gives.
 pub struct Difference {
     operation: &'static str,
     operands: (u64, u64),
-    library: Option<Value>,
+    loader: Option<Value>,
     processor: Value,
 }
 
 impl fmt::Display for Difference {
     fn fmt(&self, to: &mut fmt::Formatter) -> fmt::Result {
         let (left, right) = self.operands;
-        let library = self.library.map_or("nothing".to_string(), |value| value.to_string());
+        let loader = self.loader.map_or("nothing".to_string(), |value| value.to_string());
         let (operation, processor) = (self.operation, self.processor);
-        write!(to, "{operation} of {left:x} and {right:x}: the library {library}, the processor {processor}")
+        write!(
+            to,
+            "{operation} of {left:x} and {right:x}: the loader {loader}, the processor {processor}"
+        )
     }
 }
 
@@ -128,9 +131,9 @@ pub fn compare(operation: &Operation, seed: u64, count: usize) -> Result<(), Dif
         let results = results(&mut loader, operation, &some);
         for (index, &operands) in some.iter().enumerate() {
             let processor = (operation.by_processor)(operands.0, operands.1);
-            let library = results.get(index).copied();
-            if library != Some(processor) {
-                return Err(Difference { operation: operation.name, operands, library, processor });
+            let loader = results.get(index).copied();
+            if loader != Some(processor) {
+                return Err(Difference { operation: operation.name, operands, loader, processor });
             }
         }
     }
@@ -147,7 +150,7 @@ fn results(loader: &mut Loader, operation: &Operation, pairs: &[(u64, u64)]) -> 
         body.push(operation.code);
     }
     body.extend([0x00, 0x0B]);
-    match loader.try_run(&SECTION, &body, 0, BUDGET) {
+    match loader.try_run(EMPTY_LIBRARY, &SECTION, &body, 0, BUDGET) {
         Ok(run) if matches!(run.ended, Ended::Trap { number: 41, .. }) => run.state.operands(),
         _ => Vec::new(),
     }

@@ -1,13 +1,14 @@
-//! The program `host_tests`: compares the library with the plain checker, and its float operations with the processor's, on
+//! The program `host_tests`: compares the loader with the plain checker, and its float operations with the processor's, on
 //! as many requests or pairs as asked for.
 
 use host_tests::compare::Comparison;
 use host_tests::floats;
 use host_tests::guarded::Guarded;
-use host_tests::requests;
+use host_tests::requests::{self, Request};
 use std::process::ExitCode;
 
 const USE: &str = "use: host_tests compare SEED COUNT
+     host_tests without-libraries SEED COUNT   the same requests without their libraries
      host_tests floats SEED COUNT              COUNT pairs for each operation and width
      host_tests touch before | touch behind    touches a guard page, and so must die of it";
 
@@ -16,7 +17,11 @@ fn main() -> ExitCode {
     let arguments: Vec<&str> = arguments.iter().map(String::as_str).collect();
     match arguments[..] {
         ["compare", seed, count] => match (seed.parse(), count.parse()) {
-            (Ok(seed), Ok(count)) => compare(seed, count),
+            (Ok(seed), Ok(count)) => compare(seed, count, requests::generated(seed)),
+            _ => refuse_use(),
+        },
+        ["without-libraries", seed, count] => match (seed.parse(), count.parse()) {
+            (Ok(seed), Ok(count)) => compare(seed, count, requests::without_libraries(seed)),
             _ => refuse_use(),
         },
         ["floats", seed, count] => match (seed.parse(), count.parse()) {
@@ -34,16 +39,16 @@ fn refuse_use() -> ExitCode {
 }
 
 /// Stops at the first difference, with the request line that anyone can ask both programs again.
-fn compare(seed: u64, count: usize) -> ExitCode {
+fn compare(seed: u64, count: usize, requests: impl Iterator<Item = Request>) -> ExitCode {
     let mut comparison = Comparison::new(seed);
-    for request in requests::generated(seed).take(count) {
+    for request in requests.take(count) {
         if let Err(difference) = comparison.ask(&request) {
             println!("{request}\n{difference}");
             return ExitCode::FAILURE;
         }
     }
     let tally = comparison.tally();
-    println!("the library and the plain checker agree on {count} requests and every lent word");
+    println!("the loader and the plain checker agree on {count} requests and every lent word");
     print!("{tally}");
     ExitCode::SUCCESS
 }
@@ -55,7 +60,7 @@ fn compare_floats(seed: u64, count: usize) -> ExitCode {
             println!("{difference}");
             return ExitCode::FAILURE;
         }
-        println!("{}: the library and the processor agree on {count} pairs", operation.name);
+        println!("{}: the loader and the processor agree on {count} pairs", operation.name);
     }
     ExitCode::SUCCESS
 }

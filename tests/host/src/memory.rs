@@ -4,13 +4,17 @@ use crate::expected;
 use chelbugan::calls::RunMemory;
 use std::fmt;
 
-/// How many elements each buffer has, in the order of a run's call. A section is lent the first two, a body the first three;
+/// How many buffers a run is lent.
+pub const BUFFERS: usize = 11;
+
+/// How many elements each buffer has, in the order of a run's call. A section is lent the first three, a body the first four;
 /// a buffer that is not lent has none.
-pub type Lengths = [usize; 10];
+pub type Lengths = [usize; BUFFERS];
 
 /// The very sizes of docs/LAYOUT.md.
 pub const SIZES: Lengths = [
     expected::ROWS,
+    expected::SHARED,
     expected::CODES,
     expected::WORK,
     expected::ENDS,
@@ -29,10 +33,11 @@ pub fn first(lengths: &[usize]) -> Lengths {
     all
 }
 
-/// All ten buffers.
+/// All buffers.
 #[derive(Clone, Debug, PartialEq, Eq)]
 pub struct Memory {
     pub rows: Vec<u16>,
+    pub shared: Vec<u16>,
     pub codes: Vec<u16>,
     pub work: Vec<u32>,
     pub ends: Vec<u16>,
@@ -47,9 +52,11 @@ pub struct Memory {
 impl Memory {
     /// Every element holds the same, cut to its width.
     pub fn filled(lengths: Lengths, with: u64) -> Memory {
-        let [rows, codes, work, ends, counts, objects, cells, locals, operands, blocks] = lengths;
+        let [rows, shared, codes, work, ends, counts, objects, cells, locals, operands, blocks] =
+            lengths;
         Memory {
             rows: vec![with as u16; rows],
+            shared: vec![with as u16; shared],
             codes: vec![with as u16; codes],
             work: vec![with as u32; work],
             ends: vec![with as u16; ends],
@@ -65,6 +72,7 @@ impl Memory {
     pub fn lent(&mut self) -> RunMemory<'_> {
         RunMemory {
             rows: &mut self.rows,
+            shared: &mut self.shared,
             codes: &mut self.codes,
             work: &mut self.work,
             ends: &mut self.ends,
@@ -80,6 +88,7 @@ impl Memory {
     /// The first word that is not as wanted, in words.
     pub fn difference(&self, wanted: &Memory) -> Option<String> {
         differing("rows", &self.rows, &wanted.rows)
+            .or_else(|| differing("shared", &self.shared, &wanted.shared))
             .or_else(|| differing("codes", &self.codes, &wanted.codes))
             .or_else(|| differing("work", &self.work, &wanted.work))
             .or_else(|| differing("ends", &self.ends, &wanted.ends))
@@ -92,7 +101,8 @@ impl Memory {
     }
 
     pub fn is_zero(&self) -> bool {
-        let halves = [&self.rows, &self.codes, &self.ends, &self.objects, &self.blocks];
+        let Memory { rows, shared, codes, ends, objects, blocks, .. } = self;
+        let halves = [rows, shared, codes, ends, objects, blocks];
         let doubles = [&self.counts, &self.cells, &self.locals, &self.operands];
         halves.into_iter().flatten().all(|&word| word == 0)
             && self.work.iter().all(|&word| word == 0)

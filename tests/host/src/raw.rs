@@ -2,9 +2,12 @@
 
 use crate::compare::Answer;
 use chelbugan::calls::RunMemory;
+use chelbugan::Input;
 
 extern "C" {
     fn chelbugan_judge_body(
+        library: *const u8,
+        library_len: usize,
         section: *const u8,
         section_len: usize,
         body: *const u8,
@@ -12,6 +15,8 @@ extern "C" {
         number: u64,
         rows: *mut u16,
         rows_len: usize,
+        shared: *mut u16,
+        shared_len: usize,
         codes: *mut u16,
         codes_len: usize,
         work: *mut u32,
@@ -20,6 +25,8 @@ extern "C" {
     ) -> u64;
 
     fn chelbugan_try_run(
+        library: *const u8,
+        library_len: usize,
         section: *const u8,
         section_len: usize,
         body: *const u8,
@@ -28,6 +35,8 @@ extern "C" {
         budget: u64,
         rows: *mut u16,
         rows_len: usize,
+        shared: *mut u16,
+        shared_len: usize,
         codes: *mut u16,
         codes_len: usize,
         work: *mut u32,
@@ -55,10 +64,12 @@ pub const WORDS: usize = 4;
 
 /// What is handed in.
 pub struct Handed<'a> {
+    pub library: &'a [u8],
     pub section: &'a [u8],
     pub body: &'a [u8],
     pub number: u64,
     pub rows: &'a mut [u16],
+    pub shared: &'a mut [u16],
     pub codes: &'a mut [u16],
     pub work: &'a mut [u32],
     /// Four words.
@@ -71,6 +82,8 @@ pub fn judge_body(handed: &mut Handed) -> (u64, Answer) {
     // SAFETY: each pointer and length is one slice's, and the answer has its four words.
     let kind = unsafe {
         chelbugan_judge_body(
+            handed.library.as_ptr(),
+            handed.library.len(),
             handed.section.as_ptr(),
             handed.section.len(),
             handed.body.as_ptr(),
@@ -78,6 +91,8 @@ pub fn judge_body(handed: &mut Handed) -> (u64, Answer) {
             handed.number,
             handed.rows.as_mut_ptr(),
             handed.rows.len(),
+            handed.shared.as_mut_ptr(),
+            handed.shared.len(),
             handed.codes.as_mut_ptr(),
             handed.codes.len(),
             handed.work.as_mut_ptr(),
@@ -86,13 +101,14 @@ pub fn judge_body(handed: &mut Handed) -> (u64, Answer) {
         )
     };
     match kind {
-        0 => (kind, Answer::No(handed.answer[0], handed.answer[1])),
+        0 => (kind, refused(handed.answer)),
         _ => (kind, Answer::Count(handed.answer[0])),
     }
 }
 
 /// What is handed in for a run.
 pub struct HandedRun<'a> {
+    pub library: &'a [u8],
     pub section: &'a [u8],
     pub body: &'a [u8],
     pub number: u64,
@@ -104,11 +120,13 @@ pub struct HandedRun<'a> {
 
 /// The number returned, and the answer that it and the four words tell.
 pub fn try_run(handed: &mut HandedRun) -> (u64, Answer) {
-    let HandedRun { section, body, number, budget, memory, answer } = handed;
+    let HandedRun { library, section, body, number, budget, memory, answer } = handed;
     assert_eq!(answer.len(), WORDS);
     // SAFETY: as above.
     let kind = unsafe {
         chelbugan_try_run(
+            library.as_ptr(),
+            library.len(),
             section.as_ptr(),
             section.len(),
             body.as_ptr(),
@@ -117,6 +135,8 @@ pub fn try_run(handed: &mut HandedRun) -> (u64, Answer) {
             *budget,
             memory.rows.as_mut_ptr(),
             memory.rows.len(),
+            memory.shared.as_mut_ptr(),
+            memory.shared.len(),
             memory.codes.as_mut_ptr(),
             memory.codes.len(),
             memory.work.as_mut_ptr(),
@@ -139,10 +159,21 @@ pub fn try_run(handed: &mut HandedRun) -> (u64, Answer) {
         )
     };
     let told = match kind {
-        0 => Answer::No(answer[0], answer[1]),
+        0 => refused(answer),
         1 => Answer::Done(answer[0], answer[1]),
         2 => Answer::Trap(answer[0], answer[1], answer[2]),
         _ => Answer::Spent(answer[0]),
     };
     (kind, told)
+}
+
+/// Number, place, and of which section the place is a byte.
+fn refused(answer: &[u64]) -> Answer {
+    let input = match answer[2] {
+        0 => None,
+        1 => Some(Input::Library),
+        2 => Some(Input::Addon),
+        other => panic!("{other} is no input"),
+    };
+    Answer::No(answer[0], answer[1], input)
 }

@@ -1,6 +1,6 @@
 //! Some thousands of comparisons; `host_tests compare SEED COUNT` makes as many as asked for.
 
-use host_tests::compare::{ask_plain, difference, Answer, Comparison, Left};
+use host_tests::compare::{ask_plain, difference, no, Answer, Comparison, Left};
 use host_tests::expected;
 use host_tests::memory::SIZES;
 use host_tests::requests::{self, Request};
@@ -9,13 +9,14 @@ use host_tests::tally::Kind;
 const SEED: u64 = 20260101;
 const COUNT: usize = 16_000;
 
-/// What a section is refused by, and what a body is refused by besides; 14 is for tests/memory.rs.
+/// What a section is refused by, at a byte too, and what a body is refused by besides; 14 is for tests/memory.rs.
 const OF_SECTIONS: [u64; 14] = [1, 2, 3, 4, 5, 6, 7, 8, 9, 10, 11, 12, 13, 32];
+const OF_BYTES: [u64; 6] = [1, 2, 3, 4, 5, 32];
 const OF_BODIES: [u64; 10] = [20, 21, 22, 23, 24, 25, 27, 28, 29, 31];
 const TRAPS: [u64; 6] = [41, 42, 43, 44, 45, 46];
 
 #[test]
-fn the_library_and_the_plain_checker_agree() {
+fn the_loader_and_the_plain_checker_agree() {
     let mut comparison = Comparison::new(SEED);
     for request in requests::generated(SEED).take(COUNT) {
         agree(&mut comparison, &request);
@@ -38,6 +39,43 @@ fn the_library_and_the_plain_checker_agree() {
     }
 }
 
+/// The same of requests that have a library; and of its bytes, all that a section's bytes can be refused by.
+#[test]
+fn they_agree_with_libraries() {
+    let mut comparison = Comparison::new(SEED);
+    let with_library = |request: &Request| request.library.is_some();
+    for request in requests::generated(SEED + 2).filter(with_library).take(COUNT / 4) {
+        agree(&mut comparison, &request);
+    }
+    let tally = comparison.tally();
+    for asked in ["sections", "types", "bodies"] {
+        assert!(tally.with_library(asked, Kind::Yes) > 20, "few {asked} are accepted:\n{tally}");
+    }
+    assert!(tally.with_library("runs", Kind::Done) > 20, "few runs are done:\n{tally}");
+    for number in OF_SECTIONS {
+        let refused = tally.with_library("sections", Kind::No(number));
+        assert!(refused > 0, "no section with a library is refused by {number}:\n{tally}");
+    }
+    for number in OF_BYTES {
+        assert!(tally.in_library(number) > 0, "no library is refused by {number}:\n{tally}");
+    }
+}
+
+/// The library of no types changes nothing: requests of a time without libraries, answered with it.
+#[test]
+fn they_agree_without_libraries() {
+    let mut comparison = Comparison::new(SEED);
+    for request in requests::without_libraries(SEED + 1).take(COUNT / 4) {
+        assert_eq!(request.library(), [0x00]);
+        agree(&mut comparison, &request);
+    }
+    let tally = comparison.tally();
+    for asked in ["sections", "types", "bodies"] {
+        assert!(tally.of(asked, Kind::Yes) > 100, "few of {asked} are accepted:\n{tally}");
+    }
+    assert!(tally.of("runs", Kind::Done) > 100, "few runs are done:\n{tally}");
+}
+
 fn agree(comparison: &mut Comparison, request: &Request) {
     if let Err(difference) = comparison.ask(request) {
         panic!("{request}\n{difference}");
@@ -48,11 +86,27 @@ fn agree(comparison: &mut Comparison, request: &Request) {
 #[test]
 fn they_agree_on_every_cut_and_flip_of_a_section() {
     let whole = section();
-    let answer = ask_plain(&Request::Section(whole.clone()), SIZES).answer;
+    let answer = ask_plain(&Request::section(&whole), SIZES).answer;
     assert_eq!(answer, Answer::Count(6), "the section to spoil is itself accepted");
     let mut comparison = Comparison::new(SEED);
     for section in cuts_and_flips(&whole) {
-        agree(&mut comparison, &Request::Section(section));
+        agree(&mut comparison, &Request::section(&section));
+    }
+}
+
+/// The same of a library, before a section that names its types; and of that section.
+#[test]
+fn they_agree_on_every_cut_and_flip_of_a_library() {
+    let (library, add_on) = (section(), after_section());
+    let whole = Request::section(&add_on).after(&library);
+    let answer = ask_plain(&whole, SIZES).answer;
+    assert_eq!(answer, Answer::Count(6 + 4), "the sections to spoil are themselves accepted");
+    let mut comparison = Comparison::new(SEED);
+    for library in cuts_and_flips(&library) {
+        agree(&mut comparison, &Request::section(&add_on).after(&library));
+    }
+    for add_on in cuts_and_flips(&add_on) {
+        agree(&mut comparison, &Request::section(&add_on).after(&library));
     }
 }
 
@@ -60,14 +114,14 @@ fn they_agree_on_every_cut_and_flip_of_a_section() {
 #[test]
 fn they_agree_on_every_cut_and_flip_of_a_body() {
     let (whole, instructions) = body();
-    let answer = ask_plain(&Request::Body(section(), 5, whole.clone()), SIZES).answer;
+    let answer = ask_plain(&Request::body(&section(), 5, &whole), SIZES).answer;
     assert_eq!(answer, Answer::Count(instructions), "the body to spoil is itself accepted");
     let mut comparison = Comparison::new(SEED);
     for body in cuts_and_flips(&whole) {
-        agree(&mut comparison, &Request::Body(section(), 5, body));
+        agree(&mut comparison, &Request::body(&section(), 5, &body));
     }
     for section in cuts_and_flips(&section()) {
-        agree(&mut comparison, &Request::Body(section, 5, whole.clone()));
+        agree(&mut comparison, &Request::body(&section, 5, &whole));
     }
 }
 
@@ -76,12 +130,12 @@ fn they_agree_on_every_cut_and_flip_of_a_body() {
 fn a_type_number_is_taken_whole() {
     let (body, instructions) = body();
     let mut comparison = Comparison::new(SEED);
-    for number in (3..64).map(|bit| 5 + (1 << bit)).chain([0, 4, 6, 255, 256, u64::MAX]) {
-        let request = Request::Body(section(), number, body.clone());
-        assert_eq!(ask_plain(&request, SIZES).answer, Answer::No(27, 0), "{request}");
+    for number in (3..64).map(|bit| 5 + (1 << bit)).chain([0, 4, 6, 1_023, 1_024, u64::MAX]) {
+        let request = Request::body(&section(), number, &body);
+        assert_eq!(ask_plain(&request, SIZES).answer, no(27, 0), "{request}");
         agree(&mut comparison, &request);
     }
-    let request = Request::Body(section(), 5, body);
+    let request = Request::body(&section(), 5, &body);
     assert_eq!(ask_plain(&request, SIZES).answer, Answer::Count(instructions));
     agree(&mut comparison, &request);
 }
@@ -89,8 +143,10 @@ fn a_type_number_is_taken_whole() {
 /// The comparison itself: one word or one place that is off is a difference.
 #[test]
 fn a_word_that_is_off_is_found() {
-    let requests = [Request::Section(section()), Request::Body(section(), 5, body().0)];
-    let spoilt: [fn(&mut Left); 5] = [
+    let sections = Request::section(&after_section()).after(&section());
+    let requests = [sections, Request::body(&section(), 5, &body().0)];
+    let spoilt: [fn(&mut Left); 6] = [
+        |left| left.memory.shared[0] ^= 1,
         |left| left.memory.rows[expected::ROWS - 1] = 1,
         |left| left.memory.rows[9] += 1,
         |left| left.memory.codes[0] ^= 1,
@@ -101,7 +157,7 @@ fn a_word_that_is_off_is_found() {
         found(&request, &spoilt);
     }
     found(
-        &Request::Body(section(), 5, body().0),
+        &Request::body(&section(), 5, &body().0),
         &[|left| left.memory.work[expected::WORK - 1] = 1],
     );
     let run: [fn(&mut Left); 9] = [
@@ -119,7 +175,7 @@ fn a_word_that_is_off_is_found() {
     let section = vec![0x02, 0x5F, 0x01, 0x7F, 0x00, 0x60, 0x00, 0x00];
     let body = [0x01, 0x01, 0x7F, 0x41, 0x7B, 0xFB, 0x00, 0x00, 0x02, 0x40, 0x41, 0x07, 0x1A];
     let body = [&body[..], &[0x0B, 0x1A, 0x0B]].concat();
-    found(&Request::Run(section, 1, body, 4), &run);
+    found(&Request::run(&section, 1, &body, 4), &run);
 }
 
 /// Each way to spoil what the plain checker says is a difference.
@@ -154,6 +210,16 @@ fn section() -> Vec<u8> {
     section.extend([0x4F, 0x01, 0x01, 0x4C, 0x02, 0x5F, 0x00]);
     section.extend([0x5F, 0x05, 0x7E, 0x00, 0x7D, 0x01, 0x7C, 0x00, 0x63, 0x02, 0x00, 0x6D, 0x01]);
     section.extend([0x60, 0x02, 0x70, 0x64, 0x00, 0x01, 0x63, 0x62, 0x01]);
+    section
+}
+
+/// After the section above as a library: a pair below types 0 and 1 of it, a function over both sections' types, a struct.
+fn after_section() -> Vec<u8> {
+    let mut section = vec![0x03, 0x4E, 0x02];
+    section.extend([0x50, 0x01, 0x00, 0x4D, 0x07, 0x5F, 0x02, 0x7F, 0x01, 0x64, 0x62, 0x02, 0x00]);
+    section.extend([0x50, 0x01, 0x01, 0x4C, 0x06, 0x5F, 0x00]);
+    section.extend([0x60, 0x02, 0x63, 0x00, 0x64, 0x06, 0x01, 0x63, 0x62, 0x05]);
+    section.extend([0x5F, 0x01, 0x63, 0x08, 0x01]);
     section
 }
 

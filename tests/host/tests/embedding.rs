@@ -3,16 +3,17 @@
 use std::path::{Path, PathBuf};
 use std::process::{Command, Output};
 
-const F1: [u8; 17] = [
-    0x02, 0x4E, 0x02, 0x4D, 0x01, 0x5F, 0x00, 0x4C, 0x00, 0x5F, 0x00, 0x60, 0x00, 0x01, 0x64, 0x62,
-    0x00,
-];
+/// F1's struct with its descriptor, as a library.
+const LIBRARY: [u8; 11] = [0x01, 0x4E, 0x02, 0x4D, 0x01, 0x5F, 0x00, 0x4C, 0x00, 0x5F, 0x00];
+
+/// F1's function, type 2: it gives a (ref (exact 0)).
+const SECTION: [u8; 7] = [0x01, 0x60, 0x00, 0x01, 0x64, 0x62, 0x00];
 
 /// Its clauses disagree: 11, type 1.
 const DISAGREE: [u8; 13] =
     [0x01, 0x4E, 0x03, 0x5F, 0x00, 0x4D, 0x02, 0x5F, 0x00, 0x4C, 0x00, 0x5F, 0x00];
 
-/// Of F1's type 2: 3 instructions.
+/// Of type 2: 3 instructions.
 const BODY: [u8; 8] = [0x00, 0xFB, 0x00, 0x01, 0xFB, 0x20, 0x00, 0x0B];
 
 /// A struct with a descriptor made without one: 23 at 1.
@@ -40,42 +41,50 @@ fn folder(name: &str) -> PathBuf {
 }
 
 /// The host with these inputs as files beside it.
-fn run(program: &Path, section: &[u8], body: &[u8], numbers: [&str; 2]) -> Output {
+fn run(program: &Path, sections: [&[u8]; 2], body: &[u8], numbers: [&str; 2]) -> Output {
     let file = |name: &str, content: &[u8]| {
         let path = program.with_extension(name);
         std::fs::write(&path, content).expect("an input's file");
         path
     };
     let mut host = Command::new(program);
-    host.arg(file("section", section)).arg(file("body", body)).args(numbers);
+    let [library, section] = sections;
+    host.arg(file("library", library)).arg(file("section", section));
+    host.arg(file("body", body)).args(numbers);
     host.output().expect("the host starts")
 }
 
 /// What the page says that a host prints, and its status.
 fn held_to_the_page(program: &Path) {
-    let said = |section: &[u8], body: &[u8], numbers: [&str; 2]| {
-        let output = run(program, section, body, numbers);
+    let said_of = |sections, body: &[u8], numbers: [&str; 2]| {
+        let output = run(program, sections, body, numbers);
         (String::from_utf8_lossy(&output.stdout).to_string(), output.status.code())
     };
+    let said = |body: &[u8], numbers| said_of([&LIBRARY, &SECTION], body, numbers);
     let page = block("text");
     let (types, body) = page.split_at(page.find("the body").expect("the body's line"));
     let (accepted, objects) = body.split_at(body.find("object").expect("the objects"));
     assert_eq!(accepted, "the body has 3 instructions\nthe run: done after 3 steps, 1 results\n");
-    assert_eq!(said(&F1, &BODY, ["2", "100"]), (page.clone(), Some(0)));
+    assert_eq!(said(&BODY, ["2", "100"]), (page.clone(), Some(0)));
     let run = |line: &str, objects: &str, status: i32| {
         (format!("{types}the body has 3 instructions\nthe run: {line}\n{objects}"), Some(status))
     };
-    assert_eq!(said(&F1, &BODY, ["2", "2"]), run("spent after 2 steps", objects, 0));
-    assert_eq!(said(&F1, &NULL, ["2", "100"]), run("trap 43 at 4, after 2 steps", "", 0));
-    assert_eq!(said(&F1, &BODY, ["2", "1000001"]), run("refusal 4 at 0", "", 1));
+    assert_eq!(said(&BODY, ["2", "2"]), run("spent after 2 steps", objects, 0));
+    assert_eq!(said(&NULL, ["2", "100"]), run("trap 43 at 4, after 2 steps", "", 0));
+    assert_eq!(said(&BODY, ["2", "1000001"]), run("refusal 4 at 0", "", 1));
     let below_the_types = |line: &str| (format!("{types}{line}\n"), Some(1));
-    assert_eq!(said(&F1, &WITHOUT, ["2", "1"]), below_the_types("the body: refusal 23 at 1"));
-    assert_eq!(said(&F1, &BODY, ["0", "1"]), below_the_types("the body: refusal 27 at 0"));
-    assert_eq!(said(&F1, &[0; 40_000], ["2", "1"]), below_the_types("the body: refusal 4 at 0"));
+    assert_eq!(said(&WITHOUT, ["2", "1"]), below_the_types("the body: refusal 23 at 1"));
+    assert_eq!(said(&BODY, ["0", "1"]), below_the_types("the body: refusal 27 at 0"));
+    assert_eq!(said(&[0; 40_000], ["2", "1"]), below_the_types("the body: refusal 4 at 0"));
+    let of = |library, section| said_of([library, section], &BODY, ["2", "1"]);
     let alone = |line: &str| (format!("{line}\n"), Some(1));
-    assert_eq!(said(&DISAGREE, &BODY, ["2", "1"]), alone("the section: refusal 11 at 1"));
-    assert_eq!(said(&[0; 32_769], &BODY, ["2", "1"]), alone("the section: refusal 4 at 0"));
-    let absent = Command::new(program).args(["no", "such", "2", "1"]).output().expect("it starts");
+    let (none, long): (&[u8], &[u8]) = (&[0x00], &[0x00; 32_769]);
+    assert_eq!(of(none, &DISAGREE), alone("the section: refusal 11 at 1"));
+    assert_eq!(of(&DISAGREE, none), alone("the section: refusal 11 at 1"));
+    assert_eq!(of(&LIBRARY, long), alone("the section: refusal 4 at 0 of the add-on"));
+    assert_eq!(of(long, &SECTION), alone("the section: refusal 4 at 0 of the library"));
+    let absent = Command::new(program).args(["no", "such", "file", "2", "1"]).output();
+    let absent = absent.expect("it starts");
     assert_ne!(absent.status.code(), Some(0));
 }
 
@@ -110,7 +119,7 @@ fn the_host_in_c_with_what_is_installed() {
     assert!(made.status.success(), "{}", String::from_utf8_lossy(&made.stderr));
     let prefix = below.join("opt/some");
     let words = std::fs::read_to_string(prefix.join("lib/pkgconfig/chelbugan.pc")).expect("it");
-    assert!(words.contains("\nVersion: 1.3.0\n"), "{words}");
+    assert!(words.contains("\nVersion: 2.0.0\n"), "{words}");
     let flags = |name: &str| {
         let line = words.lines().find_map(|line| line.strip_prefix(name)).expect("the flags");
         let line = line

@@ -6,7 +6,7 @@ const SEED: u64 = 20260101;
 const COUNT: usize = 10_000;
 
 #[test]
-fn the_library_and_the_processor_agree() {
+fn the_loader_and_the_processor_agree() {
     for operation in &OPERATIONS {
         if let Err(difference) = compare(operation, SEED, COUNT) {
             panic!("{difference}");

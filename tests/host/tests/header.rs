@@ -1,5 +1,6 @@
 //! The header's numbers are those of docs/LAYOUT.md, the header is C by itself, and its examples print what they say.
 
+use chelbugan::{calls, Input, Refusal, EMPTY_LIBRARY};
 use std::path::{Path, PathBuf};
 use std::process::Command;
 
@@ -28,9 +29,9 @@ fn elements_of(buffer: &str) -> usize {
 
 #[test]
 fn sizes_are_the_layouts() {
-    use chelbugan::calls;
     let sizes = [
         ("rows", "ROWS", calls::ROWS),
+        ("shared", "SHARED", calls::SHARED),
         ("codes", "CODES", calls::CODES),
         ("work", "WORK", calls::WORK),
         ("ends", "ENDS", calls::ENDS),
@@ -169,7 +170,7 @@ fn named_heaps() -> Vec<String> {
     names
 }
 
-/// The header's way of telling a byte from a type where 4 is at 67 for either.
+/// Where 4 is at 67 for either, the input tells a byte from a type.
 #[test]
 fn a_byte_and_a_type_are_told_apart() {
     // A function of 65 parameters: 01 60 41 and 64 of them; the 65th is byte 67.
@@ -183,15 +184,30 @@ fn a_byte_and_a_type_are_told_apart() {
         }
         of_a_type.extend([0x5F, 0x00]);
     }
+    let (library, none) = (Some(Input::Library), EMPTY_LIBRARY);
     let mut loader = chelbugan::Loader::new();
-    let mut refused = |section: &[u8]| {
-        let refusal = loader.judge_section(section).expect_err("it is refused");
-        (refusal.number, refusal.place)
+    let mut refused = |library: &[u8], section: &[u8]| {
+        loader.judge_section(library, section).map(|table| table.count()).expect_err("a refusal")
     };
-    assert_eq!(refused(&of_a_byte), (4, 67));
-    assert_eq!(refused(&of_a_type), (4, 67));
-    assert_eq!(refused(&of_a_byte[..68]), (4, 67), "the same again: a byte");
-    assert_ne!(refused(&of_a_type[..68]), (4, 67), "another: a type");
+    let at_67 = |input| Refusal { number: 4, place: 67, input };
+    assert_eq!(refused(none, &of_a_byte), at_67(Some(Input::Addon)));
+    assert_eq!(refused(&of_a_byte, none), at_67(library));
+    assert_eq!(refused(none, &of_a_type), at_67(None));
+    assert_eq!(refused(&of_a_type, none), at_67(None));
+}
+
+/// The numbers of the inputs, where a row's codes lie, and the library of no types: the header and the wrapper agree.
+#[test]
+fn what_a_library_adds_is_the_wrappers() {
+    let inputs = ["NONE", "LIBRARY", "ADDON"].map(|it| constant(&format!("CHELBUGAN_INPUT_{it}")));
+    assert_eq!(inputs, [0, 1, 2]);
+    assert_eq!(constant("CHELBUGAN_ROW_WORDS") * constant("CHELBUGAN_TYPES"), calls::ROWS);
+    // A first code is a place in codes or, from there on, one in shared; both fit in a word.
+    assert_eq!(constant("CHELBUGAN_ROW_SHARED"), calls::CODES);
+    assert_eq!(calls::CODES + calls::SHARED, 1 << 16);
+    assert_eq!((EMPTY_LIBRARY, constant("CHELBUGAN_EMPTY_LIBRARY_LEN")), (&[0x00][..], 1));
+    let text = header();
+    assert!(text.contains("#define CHELBUGAN_EMPTY_LIBRARY ((const uint8_t *)\"\")\n"));
 }
 
 /// The cells of the row below the heading that begins so; a line of dashes is between.
@@ -359,6 +375,7 @@ fn examples_print_what_they_say() {
         .status();
     assert!(compiled.expect("a C compiler").success());
     let said = Command::new(&built).output().expect("the examples run");
-    let wanted = b"version 10300\n1 types\n\x5F\x01\x7F\x002 instructions\n2 steps, i32 7\n";
+    let wanted =
+        b"version 20000\n2 types\n\x4F\x01\x00\x5F\x01\x7F\x002 instructions\n2 steps, i32 7\n";
     assert_eq!(said.stdout, wanted, "{}", String::from_utf8_lossy(&said.stdout));
 }

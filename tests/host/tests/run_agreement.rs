@@ -1,6 +1,6 @@
-//! The library against the plain checker on runs: after every single step, and on every cut and flip.
+//! The loader against the plain checker on runs: after every single step, and on every cut and flip.
 
-use host_tests::compare::{ask_plain, Answer, Comparison};
+use host_tests::compare::{ask_plain, no, Answer, Comparison};
 use host_tests::memory::SIZES;
 use host_tests::requests::Request;
 
@@ -8,10 +8,6 @@ const SEED: u64 = 20260103;
 
 /// A function type of nothing to nothing, number 0.
 const V: [u8; 4] = [0x01, 0x60, 0x00, 0x00];
-
-fn run(section: &[u8], number: u64, body: &[u8], budget: u64) -> Request {
-    Request::Run(section.to_vec(), number, body.to_vec(), budget)
-}
 
 fn agree(comparison: &mut Comparison, request: &Request) {
     if let Err(difference) = comparison.ask(request) {
@@ -22,14 +18,14 @@ fn agree(comparison: &mut Comparison, request: &Request) {
 /// The state after every n steps, of a run that does every instruction but unreachable.
 #[test]
 fn they_agree_after_every_step() {
-    let whole = run(&section(), 5, &body(), 1_000_000);
+    let whole = Request::run(&section(), 5, &body(), 1_000_000);
     // Objects; tests and casts; branching casts, of which three skip their `end`; a loop of two turns and what follows it.
     let steps = 17 + 27 + (24 - 3) + (6 + 5 + 1) + 4;
     assert_eq!(ask_plain(&whole, SIZES).answer, Answer::Done(steps, 1));
     let mut comparison = Comparison::new(SEED);
     agree(&mut comparison, &whole);
     for budget in 0..steps {
-        let request = run(&section(), 5, &body(), budget);
+        let request = Request::run(&section(), 5, &body(), budget);
         assert_eq!(ask_plain(&request, SIZES).answer, Answer::Spent(budget));
         agree(&mut comparison, &request);
     }
@@ -40,10 +36,10 @@ fn they_agree_after_every_step() {
 fn they_agree_on_every_cut_and_flip() {
     let mut comparison = Comparison::new(SEED);
     for body in cuts_and_flips(&body()) {
-        agree(&mut comparison, &run(&section(), 5, &body, 1_000));
+        agree(&mut comparison, &Request::run(&section(), 5, &body, 1_000));
     }
     for section in cuts_and_flips(&section()) {
-        agree(&mut comparison, &run(&section, 5, &body(), 1_000));
+        agree(&mut comparison, &Request::run(&section, 5, &body(), 1_000));
     }
 }
 
@@ -53,21 +49,21 @@ fn numbers_are_taken_whole() {
     let mut comparison = Comparison::new(SEED);
     let body = [0x00, 0x0B];
     for bit in 20..64 {
-        let request = run(&V, 0, &body, 1 + (1 << bit));
-        assert_eq!(ask_plain(&request, SIZES).answer, Answer::No(4, 0));
+        let request = Request::run(&V, 0, &body, 1 + (1 << bit));
+        assert_eq!(ask_plain(&request, SIZES).answer, no(4, 0));
         agree(&mut comparison, &request);
-        let request = run(&V, 1 << bit, &body, 1);
-        assert_eq!(ask_plain(&request, SIZES).answer, Answer::No(27, 0));
+        let request = Request::run(&V, 1 << bit, &body, 1);
+        assert_eq!(ask_plain(&request, SIZES).answer, no(27, 0));
         agree(&mut comparison, &request);
     }
     for (budget, answer) in [
         (0, Answer::Spent(0)),
         (1, Answer::Done(1, 0)),
         (1_000_000, Answer::Done(1, 0)),
-        (1_000_001, Answer::No(4, 0)),
-        (u64::MAX, Answer::No(4, 0)),
+        (1_000_001, no(4, 0)),
+        (u64::MAX, no(4, 0)),
     ] {
-        let request = run(&V, 0, &body, budget);
+        let request = Request::run(&V, 0, &body, budget);
         assert_eq!(ask_plain(&request, SIZES).answer, answer);
         agree(&mut comparison, &request);
     }
@@ -77,7 +73,7 @@ fn numbers_are_taken_whole() {
 #[test]
 fn they_agree_on_a_million_steps() {
     let mut comparison = Comparison::new(SEED);
-    let endless = run(&V, 0, &[0x00, 0x03, 0x40, 0x0C, 0x00, 0x0B, 0x0B], 1_000_000);
+    let endless = Request::run(&V, 0, &[0x00, 0x03, 0x40, 0x0C, 0x00, 0x0B, 0x0B], 1_000_000);
     assert_eq!(ask_plain(&endless, SIZES).answer, Answer::Spent(1_000_000));
     agree(&mut comparison, &endless);
 }

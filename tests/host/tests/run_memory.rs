@@ -1,10 +1,12 @@
-//! Memory handed in with a run, seen from outside: section, body, the answer and all ten buffers between guard pages; lent
-//! buffers too short, of length 0, longer than asked, full of rubbish.
+//! Memory handed in with a run, seen from outside: library, section, body, the answer and every buffer between guard
+//! pages; lent buffers too short, of length 0, longer than asked, full of rubbish.
 
 use chelbugan::calls::RunMemory;
-use host_tests::compare::{ask_plain, difference, is_short, Answer, Left};
+use host_tests::compare::{
+    ask_plain, difference, is_short, no, no_addon, no_library, Answer, Left,
+};
 use host_tests::guarded::{filled, read_only, Guarded, Side};
-use host_tests::memory::{Lengths, Memory, SIZES};
+use host_tests::memory::{Lengths, Memory, BUFFERS, SIZES};
 use host_tests::raw::{try_run, HandedRun, WORDS};
 use host_tests::requests::Request;
 
@@ -18,6 +20,7 @@ const F1: [u8; 17] = [
 ];
 
 struct Case {
+    library: Vec<u8>,
     section: Vec<u8>,
     number: u64,
     body: Vec<u8>,
@@ -26,17 +29,41 @@ struct Case {
 }
 
 impl Case {
+    /// With the library of no types.
     fn new(section: &[u8], number: u64, body: &[u8], budget: u64, answer: Answer) -> Case {
-        Case { section: section.to_vec(), number, body: body.to_vec(), budget, answer }
+        let (library, section, body) = (vec![0x00], section.to_vec(), body.to_vec());
+        Case { library, section, number, body, budget, answer }
+    }
+
+    fn after(self, library: &[u8]) -> Case {
+        Case { library: library.to_vec(), ..self }
     }
 
     fn request(&self) -> Request {
-        Request::Run(self.section.clone(), self.number, self.body.clone(), self.budget)
+        Request::run(&self.section, self.number, &self.body, self.budget).after(&self.library)
     }
 }
 
 fn cases() -> Vec<Case> {
-    [ended(), trapped(), at_sizes(), refused()].into_iter().flatten().collect()
+    [ended(), trapped(), at_sizes(), refused(), with_libraries()].into_iter().flatten().collect()
+}
+
+/// A struct of the library and a function of the section after it, and the other way round; refusals of each input.
+fn with_libraries() -> Vec<Case> {
+    let field = [0x01, 0x5F, 0x01, 0x7F, 0x00];
+    let made = |number| [0x00, 0xFB, 0x01, number, 0x1A, 0x0B];
+    let needs = [0x01, 0x60, 0x01, 0x64, 0x00, 0x00];
+    let end = [0x00, 0x0B];
+    vec![
+        Case::new(&V, 1, &made(0), 2, Answer::Spent(2)).after(&field),
+        Case::new(&field, 0, &made(1), 9, Answer::Done(3, 0)).after(&V),
+        Case::new(&field, 0, &[0x00, 0x00, 0x0B], 9, Answer::Trap(41, 1, 1)).after(&V),
+        Case::new(&V, 1, &end, 1, no_library(5, 1)).after(&[0x00, 0x00]),
+        Case::new(&[0x00, 0x00], 0, &end, 1, no_addon(5, 1)).after(&V),
+        Case::new(&V, 0, &end, 1, no(27, 0)).after(&field),
+        Case::new(&needs, 1, &end, 1, no(29, 0)).after(&field),
+        Case::new(&V, 1, &end, 1_000_001, no(4, 0)).after(&field),
+    ]
 }
 
 /// Done and spent; the third is docs/LAYOUT.md's state with every buffer in use.
@@ -93,24 +120,25 @@ fn refused() -> Vec<Case> {
     let too_long = [vec![0x00], vec![0x01; 32_767], vec![0x0B]].concat();
     let end = [0x00, 0x0B];
     vec![
-        Case::new(&[], 0, &end, 1, Answer::No(1, 0)),
-        Case::new(&[0x01, 0x4C, 0x00, 0x60, 0x00, 0x00], 0, &end, 1, Answer::No(9, 0)),
-        Case::new(&V, 0, &[], 1, Answer::No(1, 0)),
-        Case::new(&V, 0, &too_long, 1, Answer::No(4, 0)),
-        Case::new(&V, 1, &end, 1, Answer::No(27, 0)),
-        Case::new(&F1, 2, &[0x00, 0xFB, 0x00, 0x00, 0x0B], 1, Answer::No(23, 1)),
-        Case::new(&V, 0, &[0x00, 0x0B, 0x00], 1, Answer::No(5, 2)),
-        Case::new(&V, 0, &end, 1_000_001, Answer::No(4, 0)),
-        Case::new(&V, 0, &end, u64::MAX, Answer::No(4, 0)),
-        Case::new(&needs, 1, &end, 1, Answer::No(29, 0)),
-        Case::new(&needs, 1, &end, 1_000_001, Answer::No(4, 0)),
-        Case::new(&needs, 1, &[0x00, 0x1A, 0x0B], 1_000_001, Answer::No(20, 1)),
+        Case::new(&[], 0, &end, 1, no_addon(1, 0)),
+        Case::new(&[0x01, 0x4C, 0x00, 0x60, 0x00, 0x00], 0, &end, 1, no(9, 0)),
+        Case::new(&V, 0, &[], 1, no(1, 0)),
+        Case::new(&V, 0, &too_long, 1, no(4, 0)),
+        Case::new(&V, 1, &end, 1, no(27, 0)),
+        Case::new(&F1, 2, &[0x00, 0xFB, 0x00, 0x00, 0x0B], 1, no(23, 1)),
+        Case::new(&V, 0, &[0x00, 0x0B, 0x00], 1, no(5, 2)),
+        Case::new(&V, 0, &end, 1_000_001, no(4, 0)),
+        Case::new(&V, 0, &end, u64::MAX, no(4, 0)),
+        Case::new(&needs, 1, &end, 1, no(29, 0)),
+        Case::new(&needs, 1, &end, 1_000_001, no(4, 0)),
+        Case::new(&needs, 1, &[0x00, 0x1A, 0x0B], 1_000_001, no(20, 1)),
     ]
 }
 
-/// All ten buffers between guard pages.
+/// All buffers between guard pages.
 struct Lent {
     rows: Guarded<u16>,
+    shared: Guarded<u16>,
     codes: Guarded<u16>,
     work: Guarded<u32>,
     ends: Guarded<u16>,
@@ -124,9 +152,11 @@ struct Lent {
 
 impl Lent {
     fn new(side: Side, lengths: Lengths, rubbish: u64) -> Lent {
-        let [rows, codes, work, ends, counts, objects, cells, locals, operands, blocks] = lengths;
+        let [rows, shared, codes, work, ends, counts, objects, cells, locals, operands, blocks] =
+            lengths;
         Lent {
             rows: filled(side, rows, rubbish as u16),
+            shared: filled(side, shared, rubbish as u16),
             codes: filled(side, codes, rubbish as u16),
             work: filled(side, work, rubbish as u32),
             ends: filled(side, ends, rubbish as u16),
@@ -142,6 +172,7 @@ impl Lent {
     fn lent(&mut self) -> RunMemory<'_> {
         RunMemory {
             rows: self.rows.as_mut_slice(),
+            shared: self.shared.as_mut_slice(),
             codes: self.codes.as_mut_slice(),
             work: self.work.as_mut_slice(),
             ends: self.ends.as_mut_slice(),
@@ -157,6 +188,7 @@ impl Lent {
     fn memory(&self) -> Memory {
         Memory {
             rows: self.rows.as_slice().to_vec(),
+            shared: self.shared.as_slice().to_vec(),
             codes: self.codes.as_slice().to_vec(),
             work: self.work.as_slice().to_vec(),
             ends: self.ends.as_slice().to_vec(),
@@ -170,13 +202,15 @@ impl Lent {
     }
 }
 
-/// Section and body cannot be written, and all that is lent holds rubbish.
+/// Library, section and body cannot be written, and all that is lent holds rubbish.
 fn ask_guarded(case: &Case, side: Side, lengths: Lengths, rubbish: u64) -> Left {
+    let library = read_only(side, &case.library);
     let section = read_only(side, &case.section);
     let body = read_only(side, &case.body);
     let mut lent = Lent::new(side, lengths, rubbish);
     let mut words = filled(side, WORDS, rubbish);
     let (kind, answer) = try_run(&mut HandedRun {
+        library: library.as_slice(),
         section: section.as_slice(),
         body: body.as_slice(),
         number: case.number,
@@ -185,13 +219,14 @@ fn ask_guarded(case: &Case, side: Side, lengths: Lengths, rubbish: u64) -> Left 
         answer: words.as_mut_slice(),
     });
     let without_value = match kind {
-        0 | 1 => &words.as_slice()[2..],
-        2 => &words.as_slice()[3..],
+        1 => &words.as_slice()[2..],
+        0 | 2 => &words.as_slice()[3..],
         3 => &words.as_slice()[1..],
         _ => panic!("{kind} is no answer of a run"),
     };
     assert!(without_value.iter().all(|&word| word == 0), "a word without a value is 0");
-    assert_eq!((section.as_slice(), body.as_slice()), (&*case.section, &*case.body));
+    let read = [&library, &section, &body].map(|input| input.as_slice());
+    assert_eq!(read, [&case.library, &case.section, &case.body].map(|input| &input[..]));
     Left { answer, memory: lent.memory() }
 }
 
@@ -202,13 +237,13 @@ fn the_cases_are_answered_as_worked_out_by_hand() {
         let plain = ask_plain(&request, SIZES).answer;
         assert_eq!(plain, case.answer, "the plain checker on {request}");
         let left = ask_guarded(&case, Side::Behind, SIZES, 0);
-        assert_eq!(left.answer, case.answer, "the library on {request}");
+        assert_eq!(left.answer, case.answer, "the loader on {request}");
     }
 }
 
 /// The very sizes; longer, all and each; too short by one and of length 0, each; of length 0 and 1, all.
 fn every_length() -> Vec<Lengths> {
-    let all = [SIZES, SIZES.map(|size| size + 1), [0; 10], [1; 10]];
+    let all = [SIZES, SIZES.map(|size| size + 1), [0; BUFFERS], [1; BUFFERS]];
     let each = |change: fn(usize) -> usize| {
         (0..SIZES.len()).map(move |buffer| {
             let mut lengths = SIZES;
@@ -229,7 +264,7 @@ fn buffers_of_every_length_between_guard_pages() {
         let request = case.request();
         for lengths in every_length() {
             let is_short = is_short(&request, lengths);
-            let wanted = if is_short { Answer::No(14, 0) } else { case.answer.clone() };
+            let wanted = if is_short { no(14, 0) } else { case.answer.clone() };
             let plain = ask_plain(&request, lengths);
             for (side, rubbish) in [(Side::Before, 0xA5A5_A5A5_A5A5_A5A5), (Side::Behind, u64::MAX)]
             {
@@ -244,7 +279,7 @@ fn buffers_of_every_length_between_guard_pages() {
         }
     }
     // Each buffer short by one and of length 0, and all of length 0 and 1.
-    assert_eq!(short, cases().len() * 2 * (2 * 10 + 2));
+    assert_eq!(short, cases().len() * 2 * (2 * BUFFERS + 2));
 }
 
 #[test]
@@ -267,6 +302,7 @@ fn memory_may_be_lent_again() {
     for first in cases() {
         for case in [&first, used] {
             let (_, answer) = try_run(&mut HandedRun {
+                library: &case.library,
                 section: &case.section,
                 body: &case.body,
                 number: case.number,

@@ -1,6 +1,6 @@
 //! No call takes more stack than docs/EMBEDDING.md says.
 
-use host_tests::compare::ask_library;
+use host_tests::compare::ask_loader;
 use host_tests::memory::{Memory, SIZES};
 use host_tests::painted::stack_used;
 use host_tests::requests::{generated, Request};
@@ -16,11 +16,11 @@ fn on_the_page(asked: &str) -> usize {
     bytes.replace(',', "").parse().expect("a number")
 }
 
-/// The library on a painted stack, with the wrapper's own frames.
+/// The loader on a painted stack, with the wrapper's own frames.
 fn used_by(request: &Request, memory: &mut Memory) -> usize {
     let mut lent = memory.lent();
     stack_used(&mut || {
-        let _ = std::hint::black_box(ask_library(request, &mut lent));
+        let _ = std::hint::black_box(ask_loader(request, &mut lent));
     })
 }
 
