@@ -1,68 +1,89 @@
-//! The check that finds causes, against the library on generated requests: the same number and the same place.
+//! The check that finds causes, against the loader on generated requests, with a library and without: the same number, place and
+//! input.
 
-use crate::ask::{self, AddOn, No};
+use crate::ask::{self, AddOn};
 use crate::hex;
 use crate::recheck::{body, section, Cause};
-use chelbugan::Loader;
+use crate::sections::Sections;
+use chelbugan::{Input, Loader, Refusal};
 use plain::generate;
+use plain::lines::{read_request, Asked, Request};
 
-fn bytes(text: &str) -> Vec<u8> {
-    plain::lines::read_bytes(text).expect("hex")
+fn requests(seed: u64, count: usize, small: bool) -> impl Iterator<Item = Request> {
+    generate::requests(seed, count, small).map(|line| read_request(&line).expect("a request"))
 }
 
-fn told<T>(answer: Result<T, Cause>) -> Result<T, No> {
+fn sections(request: &Request) -> Sections {
+    Sections::new(request.library.clone(), request.section.clone())
+}
+
+/// Of a request that has a body.
+fn add_on(request: &Request) -> Option<AddOn> {
+    let (number, body) = request.body()?;
+    let number = u64::from(number);
+    Some(AddOn { sections: sections(request), body: body.to_vec(), number })
+}
+
+fn told<T>(answer: Result<T, Cause>) -> Result<T, Refusal> {
     answer.map_err(|cause| {
         assert!(!cause.words.is_empty());
-        No { number: cause.number, place: cause.place }
+        cause.refusal
     })
 }
 
-/// Every refusal that a section or a body can have comes up. And nothing that is accepted is taken for hex digits.
+/// Every refusal that a section or a body can have comes up, those of types with a library and without, in either section. And
+/// nothing that is accepted is taken for hex digits.
 #[test]
-fn causes_have_the_librarys_number_and_place() {
+fn causes_have_the_loaders_number_and_place() {
     let mut loader = Loader::new();
-    let mut seen = [0; 33];
-    for line in generate::requests(20_260_807, 12_000, false) {
-        let parts: Vec<&str> = line.split(' ').collect();
-        let of_section = bytes(parts[1]);
-        let library = ask::section(&mut loader, &of_section).map(|table| table.count());
-        let own = told(section::judge(&of_section));
-        assert_eq!(own.as_ref().map(|read| read.types.len()).map_err(|no| *no), library, "{line}");
-        match library {
-            Err(no) => seen[no.number as usize] += 1,
-            Ok(_) => assert!(!hex::is_text(&of_section), "{line}"),
+    let (mut seen, mut with_library, mut lies) = ([0; 33], [0; 33], [0; 2]);
+    for request in requests(20_260_807, 12_000, false) {
+        let sections = sections(&request);
+        let asked = ask::section(&mut loader, &sections).map(|table| table.count());
+        let own = told(section::judge(&sections));
+        let count = own.as_ref().map(|all| all.types.len()).map_err(|refusal| *refusal);
+        assert_eq!(count, asked, "{request}");
+        match asked {
+            Err(refusal) => {
+                seen[refusal.number as usize] += 1;
+                with_library[refusal.number as usize] += sections.has_library() as usize;
+                lies[0] += (refusal.input == Some(Input::Library)) as usize;
+                lies[1] += (refusal.input == Some(Input::Addon)) as usize;
+            }
+            Ok(_) => assert!(!hex::is_text(sections.addon()), "{request}"),
         }
-        let (Ok(read), Some(of_body)) = (own, parts.get(3)) else { continue };
-        let number = parts[2].parse().expect("a number");
-        let add_on = AddOn { section: of_section, body: bytes(of_body), number };
-        let library = ask::body(&mut loader, &add_on);
-        assert_eq!(told(body::judge(&read.types, number, &add_on.body)), library, "{line}");
-        match library {
-            Err(no) => seen[no.number as usize] += 1,
-            Ok(_) => assert!(!hex::is_text(&add_on.body), "{line}"),
+        let (Ok(all), Some(add_on)) = (own, add_on(&request)) else { continue };
+        let asked = ask::body(&mut loader, &add_on);
+        assert_eq!(told(body::judge(&all, add_on.number, &add_on.body)), asked, "{request}");
+        match asked {
+            Err(refusal) => seen[refusal.number as usize] += 1,
+            Ok(_) => assert!(!hex::is_text(&add_on.body), "{request}"),
         }
     }
     for number in (1..=13).chain(20..=25).chain(27..=29).chain(31..=32) {
         assert!(seen[number] > 0, "{number} never came up: {seen:?}");
     }
+    for number in (1..=13).chain([32]) {
+        assert!(with_library[number] > 0, "{number} never came up: {with_library:?}");
+    }
+    assert!(lies.iter().all(|&count| count > 50), "{lies:?}");
 }
 
 /// The operands that an explanation shows are the plain checker's.
 #[test]
 fn operands_are_the_plain_checkers() {
     let mut told = 0;
-    for line in generate::requests(32, 4_000, true).filter(|line| line.starts_with("B ")) {
-        let parts: Vec<&str> = line.split(' ').collect();
-        let (of_section, of_body) = (bytes(parts[1]), bytes(parts[3]));
-        let number: u32 = parts[2].parse().expect("a number");
-        let Ok(read) = section::judge(&of_section) else { continue };
+    for request in requests(32, 4_000, true) {
+        let Asked::Body(number, of_body) = &request.asked else { continue };
+        let Ok(all) = section::judge(&sections(&request)) else { continue };
         for place in 0..of_body.len() {
-            let own = body::operands_before(&read.types, u64::from(number), &of_body, place);
+            let own = body::operands_before(&all, u64::from(*number), of_body, place);
             let Some((own, unreachable)) = own else { continue };
-            let plain = plain::body::operands_before(&of_section, number, &of_body, place);
+            let (library, section) = (request.library(), &request.section);
+            let plain = plain::body::operands_before(library, section, *number, of_body, place);
             let (operands, also_unreachable) = plain.expect("an instruction stands there");
             let operands: Vec<String> = operands.iter().map(operand).collect();
-            assert_eq!((own, unreachable), (operands, also_unreachable), "{line} at {place}");
+            assert_eq!((own, unreachable), (operands, also_unreachable), "{request} at {place}");
             told += 1;
         }
     }
@@ -74,16 +95,14 @@ fn operands_are_the_plain_checkers() {
 fn traps_have_a_cause() {
     let mut loader = Loader::new();
     let mut seen = [0; 6];
-    for line in generate::requests(51, 6_000, true).filter(|line| line.starts_with("R ")) {
-        let parts: Vec<&str> = line.split(' ').collect();
-        let number = parts[2].parse().expect("a number");
-        let add_on = AddOn { section: bytes(parts[1]), body: bytes(parts[3]), number };
-        let budget = parts[4].parse().expect("a number");
+    for request in requests(51, 6_000, true) {
+        let Asked::Run(_, _, budget) = request.asked else { continue };
+        let add_on = add_on(&request).expect("a run has a body");
         let Ok(run) = ask::run(&mut loader, &add_on, budget) else { continue };
         if let chelbugan::Ended::Trap { number, place, .. } = run.ended {
             let place = place as usize;
             let cause = crate::explain::trap::cause(&add_on.body, number, place, &run.state);
-            assert!(cause.is_some(), "{line}");
+            assert!(cause.is_some(), "{request}");
             seen[number as usize - 41] += 1;
         }
     }

@@ -12,14 +12,18 @@ pub struct Arguments {
     pub version: bool,
     pub raw: bool,
     pub page: bool,
+    /// Of `--library`: an input like any other.
+    pub library: Option<String>,
 }
+
+const LIBRARY: &str = "--library";
 
 impl Arguments {
     /// Behind `--` nothing is an option.
     pub fn read(given: &[String]) -> Result<Arguments, Trouble> {
         let mut arguments = Arguments::default();
         let mut given = given.iter();
-        for argument in given.by_ref() {
+        while let Some(argument) = given.next() {
             match argument.as_str() {
                 "--" => break,
                 "--json" => arguments.json = true,
@@ -28,6 +32,10 @@ impl Arguments {
                 "--version" | "-V" => arguments.version = true,
                 "--raw" => arguments.raw = true,
                 "--page" => arguments.page = true,
+                LIBRARY => arguments.set_library(given.next().map(String::as_str))?,
+                option if option.starts_with("--library=") => {
+                    arguments.set_library(option.split_once('=').map(|(_, value)| value))?;
+                }
                 option if option.starts_with("--") => {
                     let use_ = "use: chelbugan help lists the commands and their options";
                     return Err(format!("there is no option {option}\n{use_}"));
@@ -37,6 +45,15 @@ impl Arguments {
         }
         arguments.words.extend(given.cloned());
         arguments.fitting()
+    }
+
+    /// What follows is the input, whatever it looks like: `-` is standard input, and `''` no bytes at all.
+    fn set_library(&mut self, value: Option<&str>) -> Result<(), Trouble> {
+        let value = value.ok_or_else(|| format!("{LIBRARY} needs FILE\n{}", help::LIBRARY_USE))?;
+        match self.library.replace(value.to_string()) {
+            None => Ok(()),
+            Some(_) => Err(format!("{LIBRARY} can be given once\n{}", help::LIBRARY_USE)),
+        }
     }
 
     /// Options that say nothing of the command are told, not passed over.
@@ -49,6 +66,7 @@ impl Arguments {
             (self.quiet, "--quiet", &["check", "run", "type", "dump"][..]),
             (self.raw, "--raw", &["assemble"][..]),
             (self.page, "--page", &["explain"][..]),
+            (self.library.is_some(), LIBRARY, &help::WITH_LIBRARY[..]),
         ];
         for (given, option, commands) in meant {
             let known = help::COMMANDS.iter().any(|row| row.name == command);

@@ -1,38 +1,35 @@
-//! The library asked, one place for each call. A refusal is two numbers here.
+//! The loader asked, one place for each call.
 
-use chelbugan::{Loader, Run, Table};
+use crate::sections::Sections;
+use chelbugan::{Input, Loader, Refusal, Run, Table};
 
-/// A refusal's number and place.
-#[derive(Clone, Copy, Debug, PartialEq, Eq)]
-pub struct No {
-    pub number: u64,
-    pub place: u64,
-}
-
-/// A body with its section and the number of its function type.
+/// A body with its sections and the number of its function type.
 pub struct AddOn {
-    pub section: Vec<u8>,
+    pub sections: Sections,
     pub body: Vec<u8>,
     pub number: u64,
 }
 
-fn no(refusal: chelbugan::Refusal) -> No {
-    No { number: refusal.number, place: refusal.place }
+pub fn section<'a>(loader: &'a mut Loader, sections: &Sections) -> Result<Table<'a>, Refusal> {
+    loader.judge_section(sections.library(), sections.addon())
 }
 
-pub fn section<'a>(loader: &'a mut Loader, section: &[u8]) -> Result<Table<'a>, No> {
-    loader.judge_section(section).map_err(no)
-}
-
-pub fn type_bytes<'s>(loader: &mut Loader, section: &'s [u8], number: u64) -> Result<&'s [u8], No> {
-    loader.type_bytes(section, number).map_err(no)
+/// The definition's bytes, and the section that holds them.
+pub fn type_bytes<'s>(
+    loader: &mut Loader,
+    sections: &'s Sections,
+    number: u64,
+) -> Result<(&'s [u8], Input), Refusal> {
+    loader.type_bytes(sections.library(), sections.addon(), number)
 }
 
 /// The body's count of instructions.
-pub fn body(loader: &mut Loader, add_on: &AddOn) -> Result<u64, No> {
-    loader.judge_body(&add_on.section, &add_on.body, add_on.number).map_err(no)
+pub fn body(loader: &mut Loader, add_on: &AddOn) -> Result<u64, Refusal> {
+    let AddOn { sections, body, number } = add_on;
+    loader.judge_body(sections.library(), sections.addon(), body, *number)
 }
 
-pub fn run<'a>(loader: &'a mut Loader, add_on: &AddOn, budget: u64) -> Result<Run<'a>, No> {
-    loader.try_run(&add_on.section, &add_on.body, add_on.number, budget).map_err(no)
+pub fn run<'a>(loader: &'a mut Loader, add_on: &AddOn, budget: u64) -> Result<Run<'a>, Refusal> {
+    let AddOn { sections, body, number } = add_on;
+    loader.try_run(sections.library(), sections.addon(), body, *number, budget)
 }

@@ -22,9 +22,20 @@ const REST_A_LINE: usize = 16;
 /// long as its bytes.
 const INDENT_AT_MOST: usize = 8;
 
-pub fn section(bytes: &[u8]) -> Listing {
-    let read::section::Section { lines, fault, padded, .. } =
-        read::section::read_with(bytes, Padding::Noted);
+/// The library, and how many types it has, as far as they can be read.
+pub fn library(bytes: &[u8]) -> (Listing, usize) {
+    let read = read::section::read_library(bytes, Padding::Noted);
+    let count = read.types.len();
+    (of_section(bytes, read), count)
+}
+
+/// A section whose types are numbered on after so many of the library.
+pub fn section(bytes: &[u8], before: usize) -> Listing {
+    of_section(bytes, read::section::read_addon(bytes, before, Padding::Noted))
+}
+
+fn of_section(bytes: &[u8], read: read::section::Section) -> Listing {
+    let read::section::Section { lines, fault, padded, .. } = read;
     Listing { lines, fault }.with_remarks(bytes, &padded)
 }
 

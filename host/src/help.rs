@@ -1,5 +1,11 @@
 //! The words of `chelbugan help`, and those for a call that misses something.
 
+/// The commands that take a section, and so a library before it.
+pub const WITH_LIBRARY: [&str; 7] = ["check", "run", "type", "dump", "print", "assemble", "lines"];
+
+pub const LIBRARY_USE: &str =
+    "use: --library FILE, the type section that comes before SECTION, once";
+
 pub struct Command {
     pub name: &'static str,
     /// How it is called, a way a line.
@@ -16,7 +22,9 @@ pub const COMMANDS: &[Command] = &[
         does: "judge a section, a body against the function type of a number, or many sections",
         page: "\
 A section: its types, or why it is refused. A body: its count of instructions, or why it is refused. Of several files, each a \
-section, a line each; the exit status is the worst of them. --quiet says nothing, the exit status is the answer.",
+section, a line each; the exit status is the worst of them. --quiet says nothing, the exit status is the answer. With --library \
+the library is judged first, by itself, then each section after it; TYPE and all numbers in the answer are those of the joined \
+list.",
     },
     Command {
         name: "run",
@@ -24,13 +32,15 @@ section, a line each; the exit status is the worst of them. --quiet says nothing
         does: "make a trial run of at most BUDGET steps",
         page: "\
 How the run ended and the state that it left, or why the add-on is refused. An add-on that traps or spends its budget was \
-accepted: exit status 0.",
+accepted: exit status 0. With --library, TYPE is a number of the joined list.",
     },
     Command {
         name: "type",
         uses: &["type SECTION NUMBER"],
         does: "the bytes of a type's definition, in hex",
-        page: "The section is judged first.",
+        page: "\
+The section is judged first, the library before it. With --library NUMBER is one of the joined list, and a comment after the \
+bytes says which of the two sections holds them.",
     },
     Command {
         name: "explain",
@@ -42,13 +52,18 @@ accepted: exit status 0.",
         name: "dump",
         uses: &["dump section SECTION", "dump body BODY"],
         does: "list every byte with its offset; judges nothing",
-        page: "The exit status is 1 where the listing breaks off at a byte that fits nowhere; the bytes behind it are listed too. A padded number is listed with its shortest writing.",
+        page: "\
+The exit status is 1 where the listing breaks off at a byte that fits nowhere; the bytes behind it are listed too. A padded \
+number is listed with its shortest writing. With --library the library is listed first, and the section's types are numbered on \
+after those of the library that could be read. A body defines no types, so dump body takes no library.",
     },
     Command {
         name: "print",
         uses: &["print section SECTION", "print body BODY"],
         does: "write it in WebAssembly's text; judges nothing",
-        page: "assemble makes the same bytes of it; where numbers are padded, which the loader refuses, it makes bytes without padding.",
+        page: "\
+assemble makes the same bytes of it; where numbers are padded, which the loader refuses, it makes bytes without padding. With \
+--library the section's types are numbered on after the library's, which are named by their numbers and not printed.",
     },
     Command {
         name: "assemble",
@@ -56,13 +71,17 @@ accepted: exit status 0.",
         does: "make bytes of WebAssembly's text; judges nothing",
         page: "\
 TEXT is the name of a file, - for standard input, or the text itself: it begins with a parenthesis or has white space in it. A section is a list of \
-(rec ..) and (type ..), a body a (func ..) with flat or folded instructions. A float is decimal or hex digits, inf, nan, or nan:0x and its payload. The bytes are written in hex, or as they are with --raw.",
+(rec ..) and (type ..), a body a (func ..) with flat or folded instructions. A float is decimal or hex digits, inf, nan, or nan:0x and its payload. The bytes are written in hex, or as they are with --raw. With --library \
+the first (type ..) has the number after the library's last, and the library's types are named by their numbers.",
     },
     Command {
         name: "lines",
         uses: &["lines"],
         does: "answer requests, one a line, from standard input (docs/LAYOUT.md)",
-        page: "Requests are S SECTION, T SECTION NUMBER, B SECTION TYPE BODY and R SECTION TYPE BODY BUDGET, bytes in hex, - for none.",
+        page: "\
+Requests are S SECTION, T SECTION NUMBER, B SECTION TYPE BODY and R SECTION TYPE BODY BUDGET, bytes in hex, - for none. The \
+library's section may stand before SECTION; then rows, bytes and places say in which of the two they lie, by the word library or \
+addon. With --library, a request that has no library of its own is answered as if the bytes of FILE stood there.",
     },
     Command {
         name: "help",
@@ -77,11 +96,15 @@ SECTION and BODY are hex digits, as 014E00 or '01 4E 00' or 0x01,0x4E,0x00; '' f
 the bytes themselves; or the name of a file. A file holds the bytes themselves; one whose name ends in .hex holds hex digits in
 pairs, white space, commas, and comments from # to the end of a line. ./NAME is always a file, hex:DIGITS always bytes.";
 
+const LIBRARY_OPTION: &str = "\
+--library FILE  the library: a type section that comes before SECTION, as hex digits, a file or -, like SECTION of check.
+                Types are numbered through both, the library's first. Without it there is no library.";
+
 const OPTIONS: &str = "\
---json       write the answer as JSON, an object a line (docs/JSON.md)
---quiet      say nothing; the exit status is the answer
---help       this page, or behind a command that command's
---version    the program's version";
+--json          write the answer as JSON, an object a line (docs/JSON.md)
+--quiet         say nothing; the exit status is the answer
+--help          this page, or behind a command that command's
+--version       the program's version";
 
 const STATUS: &str =
     "exit status: 0 yes, 1 no, 2 bad usage or unreadable input; an add-on that traps or spends its budget was accepted: 0";
@@ -101,7 +124,7 @@ pub fn all() -> String {
             text.push('\n');
         }
     }
-    format!("{text}\n{INPUTS}\n\n{OPTIONS}\n\n{STATUS}\n")
+    format!("{text}\n{INPUTS}\n\n{LIBRARY_OPTION}\n{OPTIONS}\n\n{STATUS}\n")
 }
 
 pub fn command(name: &str) -> Option<&'static Command> {
@@ -116,7 +139,12 @@ pub fn page(command: &Command) -> String {
         "check" | "run" | "type" | "dump" | "print" => format!("\n{INPUTS}\n"),
         _ => String::new(),
     };
-    format!("{uses}\n{}.\n\n{}\n{inputs}\n{STATUS}\n", capital(command.does), wrapped(command.page))
+    let library = match WITH_LIBRARY.contains(&command.name) {
+        true => format!("\n{LIBRARY_OPTION}\n"),
+        false => String::new(),
+    };
+    let does = capital(command.does);
+    format!("{uses}\n{does}.\n\n{}\n{inputs}{library}\n{STATUS}\n", wrapped(command.page))
 }
 
 fn capital(words: &str) -> String {

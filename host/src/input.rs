@@ -47,6 +47,11 @@ pub fn is_input(argument: &str) -> bool {
     known || hex::is_meant(argument) || is_file(argument)
 }
 
+/// Whether an argument stands for standard input.
+pub fn is_standard_input(argument: &str) -> bool {
+    argument.strip_prefix(HEX).unwrap_or(argument) == STANDARD_INPUT
+}
+
 /// Whether an argument names a file that is there.
 pub fn is_file(argument: &str) -> bool {
     Path::new(argument).exists()

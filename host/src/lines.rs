@@ -1,47 +1,74 @@
 //! Requests and answers in lines, as docs/LAYOUT.md has them.
 
-use crate::ask::{self, AddOn, No};
-use crate::commands::{row_json, run_members};
+use crate::ask::{self, AddOn};
+use crate::commands::{input_member, run_members, table_members};
 use crate::json::Json;
+use crate::sections::Sections;
 use crate::{error, hex};
 use chelbugan::state::{Block, Object, Value};
 use chelbugan::table::Row;
-use chelbugan::{Ended, Loader, Run, State, Table};
+use chelbugan::{Ended, Input, Loader, Refusal, Run, State, Table};
 
 /// Why a line is no request.
 type Why = &'static str;
 
 enum Request {
-    Section(Vec<u8>),
-    Type(Vec<u8>, u64),
+    Section(Sections),
+    Type(Sections, u64),
     Body(AddOn),
     Run(AddOn, u64),
 }
 
-pub fn answer(loader: &mut Loader, line: &[u8]) -> String {
-    match read_request(line) {
+impl Request {
+    /// Where a library was named, answers say in which section bytes lie.
+    fn has_library(&self) -> bool {
+        match self {
+            Request::Section(sections) | Request::Type(sections, _) => sections.has_library(),
+            Request::Body(add_on) | Request::Run(add_on, _) => add_on.sections.has_library(),
+        }
+    }
+}
+
+/// With a library for the requests that have none of their own.
+pub fn answer(loader: &mut Loader, library: &Option<Vec<u8>>, line: &[u8]) -> String {
+    match read_request(line, library) {
         Ok(request) => answer_request(loader, &request),
         Err(why) => format!("error {why}"),
     }
 }
 
-fn read_request(line: &[u8]) -> Result<Request, Why> {
+/// The library's section may stand before the add-on's; how many words there are says whether it does.
+fn read_request(line: &[u8], library: &Option<Vec<u8>>) -> Result<Request, Why> {
     let line = std::str::from_utf8(line).map_err(|_| "not text")?;
     let parts: Vec<&str> = line.split(' ').collect();
-    match parts[..] {
-        ["S", section] => Ok(Request::Section(read_bytes(section)?)),
-        ["T", section, number] => Ok(Request::Type(read_bytes(section)?, read_number(number)?)),
-        ["B", section, number, body] => Ok(Request::Body(read_add_on(section, number, body)?)),
-        ["R", section, number, body, budget] => {
-            Ok(Request::Run(read_add_on(section, number, body)?, read_number(budget)?))
+    let after_section = match parts[0] {
+        "S" => 0,
+        "T" => 1,
+        "B" => 2,
+        "R" => 3,
+        _ => return Err("not a request"),
+    };
+    let (sections, rest) = match parts.len().checked_sub(after_section + 1) {
+        Some(1) => (Sections::new(library.clone(), read_bytes(parts[1])?), &parts[2..]),
+        Some(2) => {
+            let own = Some(read_bytes(parts[1])?);
+            (Sections::new(own, read_bytes(parts[2])?), &parts[3..])
+        }
+        _ => return Err("not a request"),
+    };
+    match *rest {
+        [] => Ok(Request::Section(sections)),
+        [number] => Ok(Request::Type(sections, read_number(number)?)),
+        [number, body] => Ok(Request::Body(read_add_on(sections, number, body)?)),
+        [number, body, budget] => {
+            Ok(Request::Run(read_add_on(sections, number, body)?, read_number(budget)?))
         }
         _ => Err("not a request"),
     }
 }
 
-fn read_add_on(section: &str, number: &str, body: &str) -> Result<AddOn, Why> {
-    let (section, number) = (read_bytes(section)?, read_number(number)?);
-    Ok(AddOn { section, body: read_bytes(body)?, number })
+fn read_add_on(sections: Sections, number: &str, body: &str) -> Result<AddOn, Why> {
+    Ok(AddOn { sections, number: read_number(number)?, body: read_bytes(body)? })
 }
 
 fn read_bytes(text: &str) -> Result<Vec<u8>, Why> {
@@ -61,30 +88,51 @@ pub fn read_number(text: &str) -> Result<u64, Why> {
 }
 
 fn answer_request(loader: &mut Loader, request: &Request) -> String {
+    let has_library = request.has_library();
     let answered = match request {
-        Request::Section(section) => ask::section(loader, section).map(|table| accepted(&table)),
-        Request::Type(section, number) => ask::type_bytes(loader, section, *number)
-            .map(|bytes| format!("yes {}", hex::plain(bytes))),
+        Request::Section(sections) => {
+            ask::section(loader, sections).map(|table| accepted(&table, has_library))
+        }
+        Request::Type(sections, number) => {
+            ask::type_bytes(loader, sections, *number).map(|(bytes, input)| {
+                format!("yes {}{}", hex::plain(bytes), word(Some(input), has_library))
+            })
+        }
         Request::Body(add_on) => ask::body(loader, add_on).map(|count| format!("yes {count}")),
         Request::Run(add_on, budget) => ask::run(loader, add_on, *budget).map(|run| ended(&run)),
     };
-    answered.unwrap_or_else(|No { number, place }| format!("no {number} {place}"))
+    answered.unwrap_or_else(|Refusal { number, place, input }| {
+        format!("no {number} {place}{}", word(input, has_library))
+    })
 }
 
-/// The same as an object; a refusal has its number and place alone.
-pub fn answer_json(loader: &mut Loader, line: &[u8]) -> Json {
-    let request = match read_request(line) {
+/// The word at an answer's end that says in which section a place or bytes lie.
+fn word(input: Option<Input>, has_library: bool) -> String {
+    match input {
+        Some(input) if has_library => format!(" {input}"),
+        _ => String::new(),
+    }
+}
+
+/// The same as an object; a refusal has its number, its place and where it lies alone.
+pub fn answer_json(loader: &mut Loader, library: &Option<Vec<u8>>, line: &[u8]) -> Json {
+    let request = match read_request(line, library) {
         Ok(request) => request,
         Err(why) => return error(why),
     };
+    let has_library = request.has_library();
+    let lies = |input: Option<Input>| input.filter(|_| has_library).map(input_member);
     let yes = |name, value| vec![("answer", "yes".into()), (name, value)];
     let answered = match &request {
-        Request::Section(section) => ask::section(loader, section).map(|table| {
-            let rows = table.rows().enumerate().map(|(number, row)| row_json(number, &row));
-            yes("types", Json::List(rows.collect()))
-        }),
-        Request::Type(section, number) => ask::type_bytes(loader, section, *number)
-            .map(|bytes| yes("bytes", hex::plain(bytes).into())),
+        Request::Section(sections) => {
+            ask::section(loader, sections).map(|table| table_members(&table, has_library))
+        }
+        Request::Type(sections, number) => {
+            ask::type_bytes(loader, sections, *number).map(|(bytes, input)| {
+                let bytes = yes("bytes", hex::plain(bytes).into());
+                bytes.into_iter().chain(lies(Some(input))).collect()
+            })
+        }
         Request::Body(add_on) => {
             ask::body(loader, add_on).map(|count| yes("instructions", count.into()))
         }
@@ -92,13 +140,15 @@ pub fn answer_json(loader: &mut Loader, line: &[u8]) -> Json {
             ask::run(loader, add_on, *budget).map(|run| run_members(&add_on.body, &run))
         }
     };
-    Json::Object(answered.unwrap_or_else(|No { number, place }| {
-        vec![("answer", "no".into()), ("refusal", number.into()), ("place", place.into())]
+    Json::Object(answered.unwrap_or_else(|Refusal { number, place, input }| {
+        let no = [("answer", "no".into()), ("refusal", number.into()), ("place", place.into())];
+        no.into_iter().chain(lies(input)).collect()
     }))
 }
 
-fn accepted(table: &Table) -> String {
-    let rows: Vec<String> = table.rows().map(|row| row_text(&row)).collect();
+fn accepted(table: &Table, has_library: bool) -> String {
+    let rows: Vec<String> =
+        table.rows().map(|row| row_text(&row) + &word(Some(row.input()), has_library)).collect();
     match rows.is_empty() {
         true => "yes 0".to_string(),
         false => format!("yes {} {}", table.count(), rows.join(";")),

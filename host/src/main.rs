@@ -1,4 +1,5 @@
-//! The program `chelbugan`: judges sections and bodies, makes trial runs, hands out types' bytes, and shows bytes to people.
+//! The program `chelbugan`: judges sections and bodies, with a library of types before them or without, makes trial runs, hands
+//! out types' bytes, and shows bytes to people.
 //!
 //! Exit status: 0 yes, 1 no, 2 bad usage or unreadable input.
 
@@ -15,6 +16,7 @@ mod lines;
 mod output;
 mod read;
 mod recheck;
+mod sections;
 mod syntax;
 mod text;
 

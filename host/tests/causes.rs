@@ -137,8 +137,8 @@ fn sizes() {
         &[],
     );
     section(
-        &format!("81 02 {}", "5F 00 ".repeat(257)),
-        "a type beyond the 256 that a section may have begins here",
+        &format!("81 08 {}", "5F 00 ".repeat(1_025)),
+        "a type beyond the 1,024 that a section may have begins here",
         &[],
     );
     body((V, "01 81 02 7F 0B", "0"), "257 locals with parameters; 256 are the most", &[]);

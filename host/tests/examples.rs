@@ -2,7 +2,7 @@
 
 mod common;
 
-use common::chelbugan;
+use common::{asked, chelbugan};
 use std::path::{Path, PathBuf};
 
 fn folder() -> PathBuf {
@@ -27,45 +27,76 @@ struct Example {
     answer: String,
     /// The plain checker's request.
     request: String,
-    /// The program's arguments behind `check`.
+    /// The program's arguments after `check`.
     arguments: Vec<String>,
     is_body: bool,
+    /// Of its section, or of its body's.
+    library: Option<PathBuf>,
     /// The budget and how the run ends.
     run: Option<(String, String)>,
 }
 
+/// What stands after some words at the start of a line.
+fn said<'t>(text: &'t str, words: &str) -> Option<&'t str> {
+    text.lines().find_map(|line| line.strip_prefix(words))
+}
+
+fn content(file: &Path) -> String {
+    std::fs::read_to_string(file).expect("the example")
+}
+
+fn name(file: &Path) -> String {
+    file.to_str().expect("a name").to_string()
+}
+
+/// The library that a section's text names, as a request's word and as an option.
+fn library_of(section: &str) -> (Option<PathBuf>, String, Vec<String>) {
+    let library = said(section, "# After the library ").map(|name| folder().join(name));
+    let word = library.iter().map(|file| bytes(&content(file)) + " ").collect();
+    let option = library.iter().flat_map(|file| ["--library".to_string(), name(file)]).collect();
+    (library, word, option)
+}
+
 fn read(file: &Path) -> Example {
-    let text = std::fs::read_to_string(file).expect("the example");
-    let said = |words: &str| text.lines().find_map(|line| line.strip_prefix(words));
-    let answer = said("# Answer: ").expect("its answer").to_string();
-    let name = file.to_str().expect("a name").to_string();
-    let Some(body_of) = said("# Body of type ") else {
-        let request = format!("S {}", bytes(&text));
-        let arguments = vec![name.clone()];
-        return Example { name, answer, request, arguments, is_body: false, run: None };
+    let text = content(file);
+    let answer = said(&text, "# Answer: ").expect("its answer").to_string();
+    let own = name(file);
+    let Some(body_of) = said(&text, "# Body of type ") else {
+        let (library, word, mut arguments) = library_of(&text);
+        let request = format!("S {word}{}", bytes(&text));
+        arguments.push(own.clone());
+        let run = None;
+        return Example { name: own, answer, request, arguments, is_body: false, library, run };
     };
-    let run = said("# Run with a budget of ").and_then(|run| run.split_once(": "));
+    let run = said(&text, "# Run with a budget of ").and_then(|run| run.split_once(": "));
     let run = run.map(|(budget, ending)| (budget.to_string(), ending.to_string()));
     let (number, section) = body_of.split_once(" of ").expect("a type's number and a section");
     let section = folder().join(section);
-    let types = std::fs::read_to_string(&section).expect("its section");
-    let request = format!("B {} {number} {}", bytes(&types), bytes(&text));
-    let section = section.to_str().expect("a name").to_string();
-    let arguments = vec![section, name.clone(), number.to_string()];
-    Example { name, answer, request, arguments, is_body: true, run }
+    let types = content(&section);
+    let (library, word, mut arguments) = library_of(&types);
+    let request = format!("B {word}{} {number} {}", bytes(&types), bytes(&text));
+    arguments.extend([name(&section), own.clone(), number.to_string()]);
+    Example { name: own, answer, request, arguments, is_body: true, library, run }
 }
 
 /// The first line that a person reads, and the exit status.
 fn wanted(example: &Example) -> (i32, String) {
     let parts: Vec<&str> = example.answer.split(' ').collect();
-    let counted = if example.is_body { "instructions" } else { "types" };
     match parts[..] {
-        ["yes", count] => (0, format!("yes: {count} {counted}")),
+        ["yes", count] if example.is_body => (0, format!("yes: {count} instructions")),
+        ["yes", count] if example.library.is_some() => {
+            (0, format!("yes: {count} types, 4 of the library"))
+        }
+        ["yes", count] => (0, format!("yes: {count} types")),
         ["no", number, place] if example.is_body => {
             (1, format!("no: refusal {number} at byte {place} of the body"))
         }
         ["no", number, place] if number.parse::<u32>().unwrap() <= 5 => {
             (1, format!("no: refusal {number} at byte {place}"))
+        }
+        ["no", number, place] if example.library.is_some() => {
+            let own = place.parse::<u32>().expect("a number") - 4;
+            (1, format!("no: refusal {number} at type {place}, the add-on's type {own}"))
         }
         ["no", number, place] => (1, format!("no: refusal {number} at type {place}")),
         _ => panic!("{}: {}", example.name, example.answer),
@@ -77,6 +108,7 @@ fn examples_are_answered_as_they_say() {
     let examples: Vec<Example> = examples().iter().map(|file| read(file)).collect();
     assert!(examples.iter().filter(|example| example.is_body).count() >= 4);
     assert!(examples.iter().filter(|example| !example.is_body).count() >= 5);
+    assert!(examples.iter().filter(|example| example.library.is_some()).count() >= 4);
     for example in examples {
         let Example { name, answer, request, arguments, .. } = &example;
         let plain = plain::lines::answer(request);
@@ -122,27 +154,61 @@ fn examples_run_as_they_say() {
     }
 }
 
+/// The options that print and assemble of an example's section have: a body's text needs no library.
+fn options(example: &Example) -> Vec<String> {
+    match (&example.library, example.is_body) {
+        (Some(file), false) => vec!["--library".to_string(), name(file)],
+        _ => Vec::new(),
+    }
+}
+
 /// An example that is there in WebAssembly's text too is assembled to the same bytes, and printed bytes come back.
 #[test]
 fn examples_in_text_are_the_same_bytes() {
-    let texts = [("1-routes", "section"), ("6-incident", "body")];
+    let texts = [("1-routes", "section"), ("6-incident", "body"), ("16-ferry", "section")];
     for (name, kind) in texts {
         let file = |end: &str| folder().join(format!("{name}.{end}"));
-        let hex = std::fs::read_to_string(file("hex")).expect("the example");
-        let said = chelbugan(&["assemble", kind, file("wat").to_str().expect("a name")]);
+        let example = read(&file("hex"));
+        let options = options(&example);
+        let text = file("wat");
+        let said = asked(&["assemble", kind], &options, &[text.to_str().expect("a name")]);
         assert_eq!(said.status, 0, "{}", said.err);
-        assert_eq!(said.out.split_whitespace().collect::<String>(), bytes(&hex).to_lowercase());
+        let wanted = bytes(&content(&file("hex"))).to_lowercase();
+        assert_eq!(said.out.split_whitespace().collect::<String>(), wanted);
     }
     for example in examples().iter().map(|file| read(file)) {
         let kind = if example.is_body { "body" } else { "section" };
-        let printed = chelbugan(&["print", kind, &example.name]);
+        let options = options(&example);
+        let printed = asked(&["print", kind], &options, &[&example.name]);
         if printed.status == 1 {
             assert_eq!((printed.out.as_str(), example.answer.as_str()), ("", "no 1 16"));
             continue;
         }
-        let back = common::chelbugan_fed(&["assemble", kind, "-"], printed.out.as_bytes());
-        let text = std::fs::read_to_string(&example.name).expect("the example");
+        let options = options.iter().map(String::as_str);
+        let arguments: Vec<&str> = ["assemble", kind, "-"].into_iter().chain(options).collect();
+        let back = common::chelbugan_fed(&arguments, printed.out.as_bytes());
         let digits = back.out.split_whitespace().collect::<String>();
-        assert_eq!(digits, bytes(&text).to_lowercase(), "{}", example.name);
+        let wanted = bytes(&content(Path::new(&example.name))).to_lowercase();
+        assert_eq!(digits, wanted, "{}", example.name);
+    }
+}
+
+/// Requests in lines about the examples stand in examples/requests.txt too, those of the library among them, and the plain
+/// checker answers each.
+#[test]
+fn requests_are_answered_by_both() {
+    let requests = content(&folder().join("requests.txt"));
+    let said = common::chelbugan_fed(&["lines"], requests.as_bytes());
+    let plain: Vec<String> = requests.lines().map(plain::lines::answer).collect();
+    assert_eq!(said.out.lines().collect::<Vec<_>>(), plain);
+    for example in examples().iter().map(|file| read(file)).filter(|it| it.library.is_some()) {
+        let request = example.request.to_lowercase();
+        let asked = |line: &str| {
+            let line = line.to_lowercase();
+            let run = example.run.as_ref().map(|(budget, _)| format!(" {budget}"));
+            line == request
+                || run.is_some_and(|budget| line[1..] == request[1..].to_string() + &budget)
+        };
+        assert!(requests.lines().any(asked), "{}", example.name);
     }
 }

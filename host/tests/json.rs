@@ -29,7 +29,8 @@ fn answers(schema: &Json, said: &Said) -> Vec<Json> {
 fn every_command_has_its_answer() {
     let schema = schema();
     let long = OwnFile::new("long-json", &[0; 40_000]);
-    let cases: [(&[&str], i32, &str); 30] = [
+    let (open, below) = ("01 50 00 5F 00", "01 4F 01 00 5F 00");
+    let cases: [(&[&str], i32, &str); 46] = [
         (&["check", F1], 0, "yes"),
         (&["check", "00 00"], 1, "no"),
         (&["check", ""], 1, "no"),
@@ -60,6 +61,22 @@ fn every_command_has_its_answer() {
         (&["assemble", "section", "(type (struct))"], 0, "yes"),
         (&["assemble", "body", "(func nopp)"], 2, "error"),
         (&["explain", "26"], 2, "error"),
+        (&["check", "--library", open, below], 0, "yes"),
+        (&["check", "--library", open, "01 7B"], 1, "no"),
+        (&["check", "--library", "01 7B", below], 1, "no"),
+        (&["check", "--library", "01 5F 00", below], 1, "no"),
+        (&["check", "--library", long.name(), below], 1, "no"),
+        (&["check", "--library", "01 60 00 00", below, "00 0B", "0"], 1, "no"),
+        (&["check", "--library", "01 60 00 00", "01 5F 00", "00 0B", "0"], 0, "yes"),
+        (&["run", "--library", "01 60 00 00", "01 5F 00", "00 FB 00 01 1A 0B", "0", "9"], 0, "yes"),
+        (&["run", "--library", "00 00", "01 60 00 00", "00 0B", "0", "9"], 1, "no"),
+        (&["type", "--library", open, below, "1"], 0, "yes"),
+        (&["type", "--library", open, below, "2"], 1, "no"),
+        (&["dump", "--library", open, "section", below], 0, "yes"),
+        (&["dump", "--library", "01 7B", "section", below], 1, "no"),
+        (&["print", "--library", open, "section", below], 0, "yes"),
+        (&["print", "--library", "01 7B", "section", below], 1, "no"),
+        (&["assemble", "--library", "01 7B", "section", "(type (struct))"], 2, "error"),
     ];
     for (arguments, status, answer) in cases {
         let said = chelbugan(&[arguments, &["--json"]].concat());
@@ -96,6 +113,62 @@ fn many_files_have_an_object_each() {
     assert_eq!(answers[1].text("input"), bad.name());
 }
 
+/// One library for all; `input` beside `answer` is the file, `of` the section at fault.
+#[test]
+fn many_files_after_a_library() {
+    let library = OwnFile::new("library-json.hex", b"01 50 00 5F 00");
+    let good = OwnFile::new("after-json.hex", b"01 4F 01 00 5F 00");
+    let bad = OwnFile::new("cut-json.hex", b"01 4F 01 00");
+    let option = format!("--library={}", library.name());
+    let said = chelbugan(&["check", "--json", &option, good.name(), bad.name()]);
+    let answers = answers(&schema(), &said);
+    assert_eq!((said.status, answers.len()), (1, 2));
+    assert_eq!(answers[0].text("input"), good.name());
+    let Some(Json::List(types)) = answers[0].get("types") else { panic!("{:?}", answers[0]) };
+    let lie: Vec<&str> = types.iter().map(|row| row.text("input")).collect();
+    assert_eq!(lie, ["library", "addon"]);
+    assert_eq!((answers[1].text("input"), answers[1].text("of")), (bad.name(), "addon"));
+}
+
+/// Each member that a library adds, and that none of them is there without one.
+#[test]
+fn a_library_shows_in_the_answers() {
+    let schema = schema();
+    let told = |arguments: &[&str]| {
+        let said = chelbugan(&[arguments, &["--json"]].concat());
+        answers(&schema, &said).remove(0)
+    };
+    let number = |answer: &Json, name: &str| match answer.get(name) {
+        Some(Json::Number(number)) => number.clone(),
+        other => panic!("{name} is {other:?}"),
+    };
+    let (open, below) = ("01 50 00 5F 00", "02 60 00 00 4F 01 00 5F 00");
+    let of_addon = told(&["type", "--library", open, below, "2"]);
+    assert_eq!((of_addon.text("bytes"), of_addon.text("input")), ("4f01005f00", "addon"));
+    let of_library = told(&["type", "--library", open, below, "0"]);
+    assert_eq!((of_library.text("bytes"), of_library.text("input")), ("50005f00", "library"));
+    assert_eq!(told(&["type", below, "0"]).get("input"), None);
+
+    let rule = told(&["check", "--library", "01 5F 00", below]);
+    assert_eq!((rule.text("of"), rule.text("place_is")), ("addon", "type"));
+    assert_eq!((number(&rule, "place"), number(&rule, "own_number")), ("2".into(), "1".into()));
+    let own = told(&["check", "--library", "01 4C 00 60 00 00", below]);
+    assert_eq!((own.text("of"), own.text("place_is")), ("library", "type"));
+    assert_eq!((number(&own, "place"), own.get("own_number")), ("0".into(), None));
+    let byte = told(&["check", "--library", "01 7B", below]);
+    assert_eq!((byte.text("of"), byte.text("place_is")), ("library", "byte"));
+    let absent = told(&["type", "--library", open, below, "3"]);
+    assert_eq!((absent.text("of"), absent.get("own_number")), ("section", None));
+    assert_eq!(told(&["check", "01 7B"]).text("of"), "section");
+
+    let listed = told(&["dump", "--library", open, "section", "01 5F 00"]);
+    let library = listed.get("library").expect("its listing");
+    assert_eq!((number(&listed, "length"), number(library, "length")), ("3".into(), "5".into()));
+    assert_eq!(told(&["dump", "section", "01 5F 00"]).get("library"), None);
+    let unread = told(&["print", "--library", "01 7B", "section", "01 5F 00"]);
+    assert_eq!((unread.text("of"), number(&unread, "place")), ("library", "1".into()));
+}
+
 /// The cause is the words of the explanation, and no other.
 #[test]
 fn the_cause_is_the_explanations() {
@@ -106,14 +179,17 @@ fn the_cause_is_the_explanations() {
     assert!(chelbugan(&arguments).out.contains(&format!("\n  {cause}\n")));
 }
 
-/// docs/JSON.md's example.
+/// docs/JSON.md's examples.
 #[test]
 fn the_page_shows_what_is_printed() {
     let file = concat!(env!("CARGO_MANIFEST_DIR"), "/../docs/JSON.md");
     let page = std::fs::read_to_string(file).expect("the page");
-    let shown = page.lines().find(|line| line.starts_with("    {")).expect("an example").trim();
-    let said = chelbugan(&["check", "--json", F1, "00 FB 00 00 0B", "2"]);
-    assert_eq!(said.out.trim_end(), shown);
+    let shown = page.lines().filter(|line| line.starts_with("    {")).map(str::trim);
+    let of_body = chelbugan(&["check", "--json", F1, "00 FB 00 00 0B", "2"]);
+    let after = ["--library", "01 5F 00", "01 4F 01 00 5F 00"];
+    let of_library = chelbugan(&[&["check", "--json"], &after[..]].concat());
+    let said = [of_body.out.trim_end(), of_library.out.trim_end()];
+    assert_eq!(said.to_vec(), shown.collect::<Vec<_>>());
 }
 
 /// The same answers as the lines have, on generated requests.
@@ -135,7 +211,11 @@ fn lines_as_objects() {
             else {
                 panic!("{answer:?}")
             };
-            assert_eq!(line, format!("no {number} {place}"));
+            let lies = match answer.get("input") {
+                Some(Json::Text(input)) => format!(" {input}"),
+                _ => String::new(),
+            };
+            assert_eq!(line, format!("no {number} {place}{lies}"));
         }
     }
 }

@@ -66,7 +66,7 @@ fn document_01() {
 /// A line is never skipped: each of these has an answer, and the last request has its own.
 #[test]
 fn unreadable_lines_are_answered_as_such() {
-    let unreadable: [&[u8]; 33] = [
+    let unreadable: [&[u8]; 43] = [
         b"",
         b" ",
         b"S",
@@ -100,6 +100,16 @@ fn unreadable_lines_are_answered_as_such() {
         b"R 00 0 00 -1",
         b"R 00 0 00 18446744073709551616",
         b"R 00 0 00 1 1",
+        b"S 00 00 00",
+        b"S 0 00",
+        b"S 00  00",
+        b"T 00 00 x",
+        b"T 00 00 00 0",
+        b"B 00 00 00 00 00",
+        b"B 00 00 x 00",
+        b"R 00 00 0 00 x",
+        b"R 00 00 0 00 1 1",
+        b"M 00",
     ];
     let input: Vec<u8> = [unreadable.join(&b'\n'), b"\nS 00\n".to_vec()].concat();
     let said = chelbugan_fed(&["lines"], &input);
@@ -110,6 +120,128 @@ fn unreadable_lines_are_answered_as_such() {
     }
     assert_eq!(answered[unreadable.len()], "yes 0");
     assert_eq!(said.status, 0);
+}
+
+/// Each request has its answer.
+fn answered(cases: &[(&str, &str)]) {
+    let requests: Vec<&str> = cases.iter().map(|(request, _)| *request).collect();
+    let said = answers(&requests.join("\n"));
+    for ((request, wanted), answer) in cases.iter().zip(&said) {
+        assert_eq!(answer, wanted, "{request}");
+    }
+    assert_eq!(said.len(), cases.len());
+}
+
+/// A byte of one of the two sections has a word; a type's number, a place in a body and the 0 of what is asked for have none.
+/// Without a library's word in the request there is no word at all.
+#[test]
+fn where_a_place_lies() {
+    answered(&[
+        ("S 015f00 017b", "no 3 1 addon"),
+        ("S 015f00 014c00600000", "no 9 1"),
+        ("S - 00", "no 1 0 library"),
+        ("S 00 -", "no 1 0 addon"),
+        ("S 017b 017b", "no 3 1 library"),
+        ("S 0000 -", "no 5 1 library"),
+        ("S 8000 00", "no 32 0 library"),
+        ("S 00 8000", "no 32 0 addon"),
+        ("S 014c00600000 0000", "no 9 0"),
+        ("S 00 00", "yes 0"),
+        ("S 017b", "no 3 1"),
+        ("T 00 0000 0", "no 5 1 addon"),
+        ("T 00 00 18446744073709551615", "no 6 18446744073709551615"),
+        ("B 01600000 015f00 0 00fb01021a0b", "no 6 1"),
+        ("B 01600000 015f00 0 00fb01011a0b", "yes 3"),
+        ("B 01600000 015f00 0 -", "no 1 0"),
+        ("B 01600000 015f00 1 000b", "no 27 0"),
+        ("B 01600000 015f00 2 000b", "no 27 0"),
+        ("B 01600000 017b 0 000b", "no 3 1 addon"),
+        ("B 017b 01600000 0 000b", "no 3 1 library"),
+        ("B 00 01600000 0 001a0b", "no 20 1"),
+        ("R 01600000 015f00 0 000b 1000001", "no 4 0"),
+        ("R 01600000 015f00 1 000b 1", "no 27 0"),
+        ("R 025f006001640000 00 1 000b 1", "no 29 0"),
+        ("R 0000 01600000 0 000b 1", "no 5 1 library"),
+    ]);
+}
+
+/// A definition's places count in the section that holds it; its bytes are a part of that one.
+#[test]
+fn rows_and_bytes_of_a_pair() {
+    let (library, section) = ("0150005f00", "014f01005f00");
+    answered(&[
+        (
+            &format!("S {library} {section}"),
+            "yes 2 struct open super=- describes=- descriptor=- 1..5 library;\
+             struct final super=0 describes=- descriptor=- 1..6 addon",
+        ),
+        (
+            &format!("S 00 {library}"),
+            "yes 1 struct open super=- describes=- descriptor=- 1..5 addon",
+        ),
+        (
+            &format!("S {library} 00"),
+            "yes 1 struct open super=- describes=- descriptor=- 1..5 library",
+        ),
+        (&format!("S {library}"), "yes 1 struct open super=- describes=- descriptor=- 1..5"),
+        (&format!("T {library} {section} 0"), "yes 50005f00 library"),
+        (&format!("T {library} {section} 1"), "yes 4f01005f00 addon"),
+        (&format!("T {library} {section} 2"), "no 6 2"),
+        (&format!("T 00 {library} 0"), "yes 50005f00 addon"),
+        (&format!("T {library} 0"), "yes 50005f00"),
+        // The library cannot name what comes after it.
+        ("S 015f01630100 015f00", "no 6 0"),
+        (
+            "R 01600000 015f00 0 00fb00011a0b 9",
+            "done 3 [] | place=6 heap=[0:type=1,desc=-,fields=()] locals=[] operands=[] blocks=[]",
+        ),
+    ]);
+}
+
+/// Each section has its own 32,768 bytes; 1,024 types are for both together.
+#[test]
+fn sizes_of_a_pair() {
+    let longest = format!("ff7f{}", "4e00".repeat(16_383));
+    let beyond = format!("{longest}00");
+    let full = format!("8008{}", "5f00".repeat(1_024));
+    let row = |from: usize| {
+        format!("struct final super=- describes=- descriptor=- {from}..{} library", from + 2)
+    };
+    let rows: Vec<String> = (0..1_024).map(|number| row(2 + 2 * number)).collect();
+    answered(&[
+        (&format!("S {longest} {longest}"), "yes 0"),
+        (&format!("S {beyond} {longest}"), "no 4 0 library"),
+        (&format!("S {longest} {beyond}"), "no 4 0 addon"),
+        (&format!("S 017b {beyond}"), "no 3 1 library"),
+        (&format!("S 014c00600000 {beyond}"), "no 9 0"),
+        (&format!("S {full} 01"), "no 1 1 addon"),
+        (&format!("S {full} 0100"), "no 4 1 addon"),
+        (&format!("S {full} 014e00"), &format!("yes 1024 {}", rows.join(";"))),
+        (&format!("S {full} 014e01"), "no 4 3 addon"),
+        (&format!("T {full} 00 1023"), "yes 5f00 library"),
+    ]);
+}
+
+/// `--library` stands in the requests that have none of their own, and is answered as if it stood there.
+#[test]
+fn a_library_for_all_lines() {
+    let requests = "S 014f01005f00\nS 00 015f00\nT 014f01005f00 0\nS 017b\nB 01600000 1 000b\nx\n";
+    let said = chelbugan_fed(&["lines", "--library", "01 50 00 5F 00"], requests.as_bytes());
+    let answers: Vec<&str> = said.out.lines().collect();
+    let wanted = [
+        "yes 2 struct open super=- describes=- descriptor=- 1..5 library;\
+         struct final super=0 describes=- descriptor=- 1..6 addon",
+        "yes 1 struct final super=- describes=- descriptor=- 1..3 addon",
+        "yes 50005f00 library",
+        "no 3 1 addon",
+        "yes 1",
+        "error not a request",
+    ];
+    assert_eq!((said.status, answers), (0, wanted.to_vec()));
+    let objects = chelbugan_fed(&["lines", "--json", "--library", "017B"], b"S 00\nS 00 017b\n");
+    let wanted = "{\"answer\":\"no\",\"refusal\":3,\"place\":1,\"input\":\"library\"}\n\
+                  {\"answer\":\"no\",\"refusal\":3,\"place\":1,\"input\":\"addon\"}\n";
+    assert_eq!(objects.out, wanted);
 }
 
 /// Document 01's runs, the line form's own example and docs/LAYOUT.md's worked states.

@@ -2,87 +2,129 @@
 
 mod common;
 
-use common::chelbugan;
+use common::{asked, chelbugan, hex, section_arguments, Said};
 use plain::generate;
-use plain::refusal::NUMBER_PADDED;
-use plain::section::judge_section;
+use plain::lines::{read_request, Asked, Request};
+use plain::refusal::{Input, Refusal, NUMBER_PADDED};
+use plain::section::{judge_section, EMPTY_LIBRARY};
 use plain::section_reader::read_section;
 
-/// The sections of generated requests, short enough for a command line.
-fn sections(seed: u64, count: usize) -> Vec<Vec<u8>> {
-    let lines = generate::requests(seed, usize::MAX, true).filter(|line| line.starts_with("S "));
-    let sections = lines.map(|line| plain::lines::read_bytes(&line[2..]).expect("hex"));
-    sections.filter(|section| section.len() < 1_000).take(count).collect()
-}
-
-fn hex(bytes: &[u8]) -> String {
-    plain::lines::hex(bytes)
+/// Requests about sections, short enough for a command line; about half of them have a library.
+fn requests(seed: u64, count: usize) -> Vec<Request> {
+    let all = generate::requests(seed, usize::MAX, true);
+    let all = all.map(|line| read_request(&line).expect("a request"));
+    let of_sections = all.filter(|request| request.asked == Asked::Section);
+    let short = of_sections.filter(|it| it.section.len() + it.library().len() < 1_000);
+    short.take(count).collect()
 }
 
 const BREAKS_OFF: &str = "the listing breaks off here";
 
 /// The bytes of a listing: behind each line's place and two spaces, pairs of hex digits.
 fn listed_bytes(listing: &str) -> String {
-    let lines = listing.lines().filter(|line| !line.contains(BREAKS_OFF));
+    let lines = listing.lines().filter(|line| !line.contains(BREAKS_OFF) && line.len() > 8);
     let is_pair =
         |word: &&str| word.len() == 2 && word.chars().all(|digit| digit.is_ascii_hexdigit());
     lines.flat_map(|line| line[8..].split(' ').take_while(is_pair)).collect()
 }
 
-/// A listing breaks off where the reading of the bytes ends with a fault, and nowhere else, padding apart; it shows every byte, those behind
-/// the fault too.
-#[test]
-fn a_listing_breaks_off_where_reading_does() {
-    let (mut whole, mut broken_off, mut padded) = (0, 0, 0);
-    for section in sections(11, 400) {
-        let said = chelbugan(&["dump", "section", &hex(&section)]);
-        match read_section(&section) {
-            Ok(_) => {
-                assert_eq!(said.status, 0, "{}\n{}", hex(&section), said.out);
-                whole += 1;
-            }
-            // A listing goes on behind a padded number, and says so.
-            Err(fault) if fault.number == NUMBER_PADDED => {
-                let at = |line: &&str| line.contains("(padded: write ");
-                assert!(said.out.lines().any(|line| at(&line)), "{}\n{}", hex(&section), said.out);
-                padded += 1;
-            }
-            Err(fault) => {
-                assert_eq!(said.status, 1, "{}\n{}", hex(&section), said.out);
-                let broken = said.out.lines().find(|line| line.contains(BREAKS_OFF));
-                let place = broken.expect("a line").trim_start().split(' ').next();
-                let place = place.expect("a place");
-                assert_eq!(place, fault.place.to_string(), "{}\n{}", hex(&section), said.out);
-                broken_off += 1;
-            }
+/// The listings of the library, where there is one, and of the add-on's section.
+fn listings(said: &Said, has_library: bool) -> (&str, &str) {
+    match has_library {
+        false => ("", &said.out),
+        true => {
+            let both = said.out.strip_prefix("the library\n").expect("its name");
+            let (library, addon) = both.split_once("\nthe add-on\n").expect("the other's name");
+            (library, addon)
         }
-        // No bytes are written as -, and listed as none.
-        let bytes = if section.is_empty() { String::new() } else { hex(&section) };
-        assert_eq!(listed_bytes(&said.out), bytes, "{}", said.out);
     }
-    assert!(whole > 100 && broken_off > 30 && padded > 2, "{whole}, {broken_off}, {padded}");
 }
 
-/// Every refusal is told with its number and with its place as what it is, a byte or a type.
+/// Shows every byte, those after a fault too, and breaks off where reading ends with a fault and nowhere else, padding apart.
+fn held_to(listing: &str, bytes: &[u8], read: &Result<(), Refusal>) {
+    assert_eq!(listed_bytes(listing), hex(bytes), "{listing}");
+    let broken = listing.lines().find(|line| line.contains(BREAKS_OFF));
+    match read {
+        Ok(()) => assert_eq!(broken, None, "{listing}"),
+        // A listing goes on after a padded number, and says so.
+        Err(fault) if fault.number == NUMBER_PADDED => {
+            assert!(listing.contains("(padded: write "), "{listing}");
+        }
+        Err(fault) => {
+            let place = broken.expect("a line").trim_start().split(' ').next().expect("a place");
+            assert_eq!(place, fault.place.to_string(), "{listing}");
+        }
+    }
+}
+
+#[test]
+fn a_listing_breaks_off_where_reading_does() {
+    let (mut whole, mut broken_off, mut padded, mut libraries) = (0, 0, 0, 0);
+    for request in requests(11, 900) {
+        let said = asked(&["dump", "section"], &section_arguments(&request), &[]);
+        let mut types = Vec::new();
+        let library = read_section(&mut types, Input::Library, request.library());
+        let addon = read_section(&mut types, Input::Addon, &request.section);
+        let listings = listings(&said, request.library.is_some());
+        if request.library.is_some() {
+            held_to(listings.0, request.library(), &library);
+            libraries += 1;
+        }
+        // After a library that breaks off, or goes on after a padded number, the plain checker's numbers are others.
+        if library.is_err() {
+            assert_eq!(listed_bytes(listings.1), hex(&request.section));
+            continue;
+        }
+        held_to(listings.1, &request.section, &addon);
+        match addon {
+            Ok(()) => assert_eq!(said.status, 0, "{request}\n{}", said.out),
+            Err(fault) if fault.number == NUMBER_PADDED => padded += 1,
+            Err(_) => assert_eq!(said.status, 1, "{request}\n{}", said.out),
+        }
+        whole += addon.is_ok() as usize;
+        broken_off += addon.is_err_and(|fault| fault.number != NUMBER_PADDED) as usize;
+    }
+    let counts = [whole, broken_off, padded, libraries];
+    assert!(whole > 100 && broken_off > 30 && padded > 0 && libraries > 100, "{counts:?}");
+}
+
+/// What the place is, a byte or a type, and of which section where a library is named.
+fn place_text(request: &Request, refusal: Refusal) -> String {
+    let of = |input| match (&request.library, input) {
+        (None, _) => "",
+        (Some(_), Input::Library) => " of the library",
+        (Some(_), Input::Addon) => " of the add-on",
+    };
+    let Refusal { place, input, .. } = refusal;
+    match (input, judge_section(request.library(), EMPTY_LIBRARY)) {
+        (Some(input), _) => format!("byte {place}{}", of(input)),
+        (None, Err(_)) => format!("type {place} of the library"),
+        (None, Ok(library)) if library.is_empty() => format!("type {place}"),
+        (None, Ok(library)) => {
+            format!("type {place}, the add-on's type {}", place - library.len())
+        }
+    }
+}
+
+/// Every refusal is told with its number and with its place as what it is.
 #[test]
 fn generated_refusals_are_explained() {
-    let mut refused = 0;
-    for section in sections(12, 300) {
-        let said = chelbugan(&["check", &hex(&section)]);
-        let Err(refusal) = judge_section(&section) else {
-            assert_eq!(said.status, 0, "{}", hex(&section));
+    let (mut refused, mut with_library) = (0, 0);
+    for request in requests(12, 400) {
+        let said = asked(&["check"], &section_arguments(&request), &[]);
+        let Err(refusal) = judge_section(request.library(), &request.section) else {
+            assert_eq!(said.status, 0, "{request}");
             continue;
         };
-        // These sections are too small for a chain of 63 steps.
-        let of_byte = refusal.number <= 5 || refusal.number == NUMBER_PADDED;
-        let place = if of_byte { "byte" } else { "type" };
-        let wanted = format!("no: refusal {} at {place} {}\n", refusal.number, refusal.place);
-        assert_eq!(said.status, 1, "{}", hex(&section));
-        assert!(said.out.starts_with(&wanted), "{}\n{}", hex(&section), said.out);
-        assert!(said.out.contains("^^"), "{}\n{}", hex(&section), said.out);
+        let place = place_text(&request, refusal);
+        let wanted = format!("no: refusal {} at {place}\n", refusal.number);
+        assert_eq!(said.status, 1, "{request}");
+        assert!(said.out.starts_with(&wanted), "{request}\n{wanted}{}", said.out);
+        assert!(said.out.contains("^^"), "{request}\n{}", said.out);
         refused += 1;
+        with_library += request.library.is_some() as usize;
     }
-    assert!(refused > 100, "{refused}");
+    assert!(refused > 100 && with_library > 50, "{refused}, {with_library}");
 }
 
 /// An accepted body is listed whole, an instruction a line.

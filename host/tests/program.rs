@@ -223,7 +223,9 @@ fn the_readme_shows_what_is_printed() {
         assert_eq!(chelbugan(&arguments).out.trim_end(), printed.join("\n").trim_end());
         commands.push(arguments[0].to_string());
     }
-    assert_eq!(commands, ["check", "run"]);
+    for command in ["check", "run"] {
+        assert!(commands.iter().any(|shown| shown == command), "{command} is not shown");
+    }
 }
 
 /// A command's words; a part between quotes is one, and the repository's files are named as from here.

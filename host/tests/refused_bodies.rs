@@ -2,80 +2,67 @@
 
 mod common;
 
-use common::chelbugan;
+use common::{asked, hex, section_arguments};
 use plain::body::{judge_body, operands_before};
 use plain::frames::Operand;
 use plain::generate;
 use plain::instruction_reader::read_instruction;
+use plain::lines::{read_request, Asked, Request};
 use plain::number::Reader;
 use plain::refusal::Refusal;
 use plain::section::judge_section;
 use plain::syntax::{Abstract, Heap, Reference, ValueType};
 
-struct Body {
-    section: Vec<u8>,
-    number: u32,
-    body: Vec<u8>,
-}
-
-fn hex(bytes: &[u8]) -> String {
-    plain::lines::hex(bytes)
-}
-
-/// The bodies of generated requests, short enough for a command line.
-fn bodies(seed: u64, count: usize) -> Vec<Body> {
-    let lines = generate::requests(seed, usize::MAX, true).filter(|line| line.starts_with("B "));
-    let bodies = lines.map(|line| {
-        let parts: Vec<&str> = line.split(' ').collect();
-        let bytes = |text| plain::lines::read_bytes(text).expect("hex");
-        Body {
-            section: bytes(parts[1]),
-            number: parts[2].parse().expect("a number"),
-            body: bytes(parts[3]),
-        }
+/// Bodies of generated requests, short enough for a command line, with their numbers; about half have a library.
+fn bodies(seed: u64, count: usize) -> impl Iterator<Item = (Request, u32, Vec<u8>)> {
+    let all = generate::requests(seed, usize::MAX, true);
+    let all = all.map(|line| read_request(&line).expect("a request"));
+    let bodies = all.filter_map(|request| match request.asked.clone() {
+        Asked::Body(number, body) => Some((request, number, body)),
+        _ => None,
     });
-    bodies.filter(|body| body.section.len() + body.body.len() < 1_000).take(count).collect()
+    let short = |request: &Request| request.section.len() + request.library().len() < 1_000;
+    bodies.filter(move |(request, _, body)| short(request) && body.len() < 1_000).take(count)
 }
 
 #[test]
 fn generated_bodies_are_answered_and_explained() {
-    let (mut accepted, mut of_sections, mut of_bodies) = (0, 0, 0);
-    for Body { section, number, body } in bodies(31, 500) {
-        let said = chelbugan(&["check", &hex(&section), &hex(&body), &number.to_string()]);
-        let request = format!("B {} {number} {}\n{}", hex(&section), hex(&body), said.out);
-        let refusal = match judge_body(&section, number, &body) {
+    let (mut accepted, mut of_types, mut of_bodies) = (0, [0; 2], [0; 2]);
+    for (request, number, body) in bodies(31, 700) {
+        let arguments = section_arguments(&request);
+        let said = asked(&["check"], &arguments, &[&hex(&body), &number.to_string()]);
+        let has_library = request.library.is_some() as usize;
+        let shown = format!("{request}\n{}", said.out);
+        let refusal = match judge_body(request.library(), &request.section, number, &body) {
             Ok(judged) => {
                 let instructions = judged.code.len();
-                assert_eq!(said.status, 0, "{request}");
-                assert!(
-                    said.out.starts_with(&format!("yes: {instructions} instruction")),
-                    "{request}"
-                );
+                assert_eq!(said.status, 0, "{shown}");
+                let wanted = format!("yes: {instructions} instruction");
+                assert!(said.out.starts_with(&wanted), "{shown}");
                 accepted += 1;
                 continue;
             }
             Err(refusal) => refusal,
         };
-        assert_eq!(said.status, 1, "{request}");
-        if judge_section(&section).is_err() {
+        assert_eq!(said.status, 1, "{shown}");
+        if judge_section(request.library(), &request.section).is_err() {
             let wanted = format!("no: refusal {} at ", refusal.number);
-            assert!(said.out.starts_with(&wanted), "{request}");
-            assert!(said.out.contains("the section itself is refused"), "{request}");
-            of_sections += 1;
+            assert!(said.out.starts_with(&wanted), "{shown}");
+            assert!(said.out.contains(" itself is refused; the body was not looked at"), "{shown}");
+            of_types[has_library] += 1;
             continue;
         }
-        held_to(&said.out, refusal, &request);
-        of_bodies += 1;
+        held_to(&said.out, refusal, &shown);
+        of_bodies[has_library] += 1;
     }
-    assert!(
-        accepted > 100 && of_sections > 5 && of_bodies > 100,
-        "{accepted} {of_sections} {of_bodies}"
-    );
+    assert!(accepted > 100, "{accepted}");
+    assert!(of_types.iter().all(|&count| count > 5), "{of_types:?}");
+    assert!(of_bodies.iter().all(|&count| count > 50), "{of_bodies:?}");
 }
 
 /// Number and place, a cause, and a mark, but for 27, whose place is no byte.
 fn held_to(said: &str, refusal: Refusal, request: &str) {
-    let Refusal { number, place } = refusal;
+    let Refusal { number, place, .. } = refusal;
     let wanted = match number {
         27 => "no: refusal 27 at 0, for the type's number\n".to_string(),
         _ => format!("no: refusal {number} at byte {place} of the body\n"),
@@ -90,22 +77,24 @@ fn held_to(said: &str, refusal: Refusal, request: &str) {
 #[test]
 fn the_instruction_and_its_operands_are_told() {
     let (mut told, mut unreachable) = (0, 0);
-    for Body { section, number, body } in bodies(32, 3_000) {
-        let Err(refusal) = judge_body(&section, number, &body) else { continue };
-        if judge_section(&section).is_err() || !matches!(refusal.number, 20 | 28 | 31) {
+    for (request, number, body) in bodies(32, 3_000) {
+        let (library, section) = (request.library(), &request.section);
+        let Err(refusal) = judge_body(library, section, number, &body) else { continue };
+        if judge_section(library, section).is_err() || !matches!(refusal.number, 20 | 28 | 31) {
             continue;
         }
-        let said = chelbugan(&["check", &hex(&section), &hex(&body), &number.to_string()]);
-        let request = format!("B {} {number} {}\n{}", hex(&section), hex(&body), said.out);
-        assert_eq!(marked(&said.out), instruction_bytes(&body, refusal.place), "{request}");
-        let before = operands_before(&section, number, &body, refusal.place);
+        let arguments = section_arguments(&request);
+        let said = asked(&["check"], &arguments, &[&hex(&body), &number.to_string()]);
+        let shown = format!("{request}\n{}", said.out);
+        assert_eq!(marked(&said.out), instruction_bytes(&body, refusal.place), "{shown}");
+        let before = operands_before(library, section, number, &body, refusal.place);
         let (operands, is_unreachable) = before.expect("an instruction is refused");
         let Some(there) = said.out.split("its block has, the top last: ").nth(1) else {
-            assert!(operands.len() <= 1 && !is_unreachable, "{request}");
+            assert!(operands.len() <= 1 && !is_unreachable, "{shown}");
             continue;
         };
         let wanted = stack(&operands, is_unreachable);
-        assert_eq!(there.lines().next(), Some(&*wanted), "{request}");
+        assert_eq!(there.lines().next(), Some(&*wanted), "{shown}");
         told += 1;
         unreachable += is_unreachable as usize;
     }

@@ -3,8 +3,9 @@
 
 mod common;
 
-use common::{assert_marked, chelbugan, misused, no, yes, OwnFile};
+use common::{asked, assert_marked, hex, misused, no, section_arguments, yes, OwnFile};
 use plain::generate;
+use plain::lines::{read_request, Asked};
 
 const F1: &str = "02 4E 02 4D 01 5F 00 4C 00 5F 00 60 00 01 64 62 00";
 
@@ -243,18 +244,25 @@ fn bad_usage_of_run_is_told() {
 /// Generated runs, short enough for a command line: the first line says what the plain checker says of the same request.
 #[test]
 fn generated_runs_are_told() {
-    let lines = generate::requests(41, usize::MAX, true).filter(|line| line.starts_with("R "));
-    let mut told = [0; 4];
-    for line in lines.filter(|line| line.len() < 2_000).take(600) {
-        let parts: Vec<&str> = line.split(' ').collect();
-        let said = chelbugan(&["run", parts[1], parts[3], parts[2], parts[4]]);
-        let answer = plain::lines::answer(&line);
+    let lines = generate::requests(41, usize::MAX, true).filter(|line| line.len() < 2_000);
+    let requests = lines.map(|line| read_request(&line).expect("a request"));
+    let runs = requests.filter_map(|request| match request.asked.clone() {
+        Asked::Run(number, body, budget) => Some((request, number, body, budget)),
+        _ => None,
+    });
+    let mut told = [[0; 4]; 2];
+    for (request, number, body, budget) in runs.take(800) {
+        let rest = [hex(&body), number.to_string(), budget.to_string()];
+        let rest: Vec<&str> = rest.iter().map(String::as_str).collect();
+        let said = asked(&["run"], &section_arguments(&request), &rest);
+        let answer = plain::lines::answer(&request.to_string());
         let (status, first, kind) = first_line(&answer);
-        assert_eq!((said.status, said.err.as_str()), (status, ""), "{line}\n{}", said.out);
-        assert!(said.out.starts_with(&first), "{line}\n{answer}\n{}", said.out);
-        told[kind] += 1;
+        assert_eq!((said.status, said.err.as_str()), (status, ""), "{request}\n{}", said.out);
+        assert!(said.out.starts_with(&first), "{request}\n{answer}\n{}", said.out);
+        told[request.library.is_some() as usize][kind] += 1;
     }
-    assert!(told.iter().all(|&count| count > 30), "{told:?} of done, trap, spent, no");
+    let often = told.iter().flatten().all(|&count| count > 15);
+    assert!(often, "{told:?} of done, trap, spent, no, without a library and with one");
 }
 
 /// The exit status, how the first line begins, and which of the four answers it is.

@@ -101,6 +101,15 @@ fn help_and_version() {
         assert!(page.starts_with(&format!("use: chelbugan {command}")), "{page}");
         assert_eq!(yes(&[command, "--help"]), page);
     }
+    for command in ["check", "run", "type", "dump", "print", "assemble", "lines"] {
+        let page = yes(&["help", command]);
+        assert!(page.contains("\n--library FILE  the library: a type section"), "{page}");
+        assert!(page.matches("--library").count() > 1, "its own words on it: {page}");
+    }
+    for command in ["explain", "help"] {
+        assert!(!yes(&["help", command]).contains("--library"), "{command}");
+    }
+    assert!(all.contains("\n--library FILE  the library: a type section"), "{all}");
     assert!(misused(&["help", "chekc"]).contains("there is no command chekc; check is one"));
     assert!(all.lines().all(|line| line.len() <= 130), "{all}");
 }
@@ -108,7 +117,7 @@ fn help_and_version() {
 /// What is missing is named, in two lines.
 #[test]
 fn bad_usage_is_told_in_two_lines() {
-    let cases: [(&[&str], &str); 19] = [
+    let cases: [(&[&str], &str); 33] = [
         (&[], "no command was given"),
         (&["chekc", "00"], "there is no command chekc; check is one"),
         (&["frobnicate"], "there is no command frobnicate"),
@@ -128,6 +137,20 @@ fn bad_usage_is_told_in_two_lines() {
         (&["assemble", "section"], "assemble section needs TEXT"),
         (&["explain", "26"], "there is no refusal or trap 26"),
         (&["check", "--loud", "00"], "there is no option --loud"),
+        (&["check", "00", "--library"], "--library needs FILE"),
+        (&["check", "--library", "00"], "check needs SECTION"),
+        (&["check", "--library", "00", "--library=00", "00"], "--library can be given once"),
+        (&["check", "--librar", "00", "00"], "there is no option --librar"),
+        (&["check", "--library", "00", "00", "00"], "check SECTION BODY needs TYPE"),
+        (&["run", "--library", "00", "00"], "run SECTION needs BODY, TYPE and BUDGET"),
+        (&["explain", "--library", "00", "1"], "explain has no option --library"),
+        (&["help", "--library", "00"], "help has no option --library"),
+        (&["dump", "--library", "00"], "dump needs section or body and its bytes"),
+        (&["dump", "body", "--library", "00", "000b"], "dump body takes no library"),
+        (&["print", "body", "--library", "00", "000b"], "print body takes no library"),
+        (&["assemble", "body", "--library", "00", "nop"], "assemble body takes no library"),
+        (&["lines", "--library", "-"], "lines reads its requests from standard input"),
+        (&["lines", "--library", "hex:-"], "lines reads its requests from standard input"),
     ];
     for (arguments, words) in cases {
         let said = misused(arguments);
@@ -147,6 +170,11 @@ fn bad_usage_is_told_in_two_lines() {
         ),
         (&["explain", "x"], "x: a number is decimal digits"),
         (&["print", "--quiet", "section", "00"], "print has no option --quiet"),
+        (&["check", "--library", "no/such", "00"], "no/such: no such file, and not hex digits"),
+        (&["check", "--library", "1 5F", "00", "00", "00"], "`1` is one hex digit; a byte is two"),
+        (&["check", "--library", "-", "-"], "standard input can stand for one input alone"),
+        (&["lines", "--library", "no/such"], "no/such: no such file, and not hex digits"),
+        (&["assemble", "section", "--library", "01 7B", ""], "byte 1 of the library: 7b is"),
     ] {
         let said = misused(arguments);
         assert!(said.contains(words), "{arguments:?}: {said}");

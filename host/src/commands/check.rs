@@ -1,12 +1,14 @@
-//! A section, a body, or many sections judged.
+//! A section, a body, or many sections judged, each after the library where one is named.
 
-use super::{add_on_told, read_add_on, refusal_members, refused, say, say_json};
+use super::{add_on_told, input_member, read_add_on, read_library, read_sections, refusal_members};
+use super::{refused, say, say_json};
 use crate::arguments::Arguments;
 use crate::explain::section_refusal;
 use crate::json::Json;
+use crate::sections::Sections;
 use crate::{ask, error, help, input, lines, output, Outcome, Trouble};
 use chelbugan::table::Row;
-use chelbugan::{Loader, Table};
+use chelbugan::{Input, Loader, Table};
 
 const NAME: &str = "check";
 
@@ -27,23 +29,25 @@ pub fn check(arguments: &Arguments, words: &[&str]) -> Result<Outcome, Trouble> 
 }
 
 fn one(arguments: &Arguments, section: &str) -> Result<Outcome, Trouble> {
-    let section = input::bytes(section)?;
-    match ask::section(&mut Loader::new(), &section) {
-        Err(refusal) => refused(arguments, NAME, refusal, &section_refusal(&section, refusal)),
+    let sections = read_sections(arguments, section)?;
+    match ask::section(&mut Loader::new(), &sections) {
+        Err(refusal) => refused(arguments, NAME, refusal, &section_refusal(&sections, refusal)),
         Ok(_) if arguments.quiet => Ok(Outcome::Yes),
-        Ok(table) if arguments.json => say_json(NAME, table_members(&table)),
-        Ok(table) => say(&accepted(&table)),
+        Ok(table) if arguments.json => {
+            say_json(NAME, table_members(&table, sections.has_library()))
+        }
+        Ok(table) => say(&accepted(&table, sections.has_library())),
     }
 }
 
-/// The section's own refusal comes first; then every place is the body's.
+/// The sections' own refusal comes first; then every place is the body's.
 fn add_on(
     arguments: &Arguments,
     section: &str,
     body: &str,
     number: &str,
 ) -> Result<Outcome, Trouble> {
-    let add_on = read_add_on(section, body, number)?;
+    let add_on = read_add_on(arguments, section, body, number)?;
     match ask::body(&mut Loader::new(), &add_on) {
         Err(refusal) => refused(arguments, NAME, refusal, &add_on_told(&add_on, refusal)),
         Ok(_) if arguments.quiet => Ok(Outcome::Yes),
@@ -55,13 +59,14 @@ fn add_on(
     }
 }
 
-/// The worst of them is the answer.
+/// The worst of them is the answer. The library is read once: it may be standard input.
 fn each(arguments: &Arguments, names: &[&str]) -> Result<Outcome, Trouble> {
+    let library = read_library(arguments)?;
     let mut loader = Loader::new();
     let mut worst = Outcome::Yes;
     let mut last = Outcome::Yes;
     for name in names {
-        last = line(arguments, &mut loader, name)?;
+        last = line(arguments, &mut loader, &library, name)?;
         worst = match (worst, last) {
             (Outcome::Trouble, _) | (_, Outcome::Trouble) => Outcome::Trouble,
             (Outcome::No, _) | (_, Outcome::No) => Outcome::No,
@@ -75,9 +80,14 @@ fn each(arguments: &Arguments, names: &[&str]) -> Result<Outcome, Trouble> {
     Ok(worst)
 }
 
-fn line(arguments: &Arguments, loader: &mut Loader, name: &str) -> Result<Outcome, Trouble> {
-    let section = match input::bytes(name) {
-        Ok(section) => section,
+fn line(
+    arguments: &Arguments,
+    loader: &mut Loader,
+    library: &Option<Vec<u8>>,
+    name: &str,
+) -> Result<Outcome, Trouble> {
+    let sections = match input::bytes(name) {
+        Ok(section) => Sections::new(library.clone(), section),
         Err(trouble) => {
             match arguments.json {
                 true => output::say(&error(&trouble).to_string())?,
@@ -87,17 +97,18 @@ fn line(arguments: &Arguments, loader: &mut Loader, name: &str) -> Result<Outcom
         }
     };
     let named = |members| [("input", Json::from(name))].into_iter().chain(members).collect();
-    match ask::section(loader, &section) {
+    let has_library = sections.has_library();
+    match ask::section(loader, &sections) {
         Ok(table) => {
             match (arguments.json, arguments.quiet) {
-                (true, _) => drop(say_json(NAME, named(table_members(&table)))?),
+                (true, _) => drop(say_json(NAME, named(table_members(&table, has_library)))?),
                 (_, true) => (),
-                _ => output::say(&format!("{name}: yes: {}", types(table.count())))?,
+                _ => output::say(&format!("{name}: yes: {}", types(&table, has_library)))?,
             }
             Ok(Outcome::Yes)
         }
         Err(refusal) => {
-            let told = section_refusal(&section, refusal);
+            let told = section_refusal(&sections, refusal);
             match (arguments.json, arguments.quiet) {
                 (true, _) => drop(say_json(NAME, named(refusal_members(refusal, &told)))?),
                 (_, true) => (),
@@ -108,19 +119,37 @@ fn line(arguments: &Arguments, loader: &mut Loader, name: &str) -> Result<Outcom
     }
 }
 
-fn types(count: usize) -> String {
-    match count {
+fn of_library(table: &Table) -> usize {
+    table.rows().filter(|row| row.input() == Input::Library).count()
+}
+
+fn types(table: &Table, has_library: bool) -> String {
+    let all = match table.count() {
         1 => "1 type".to_string(),
-        _ => format!("{count} types"),
+        count => format!("{count} types"),
+    };
+    match has_library {
+        true => format!("{all}, {} of the library", of_library(table)),
+        false => all,
     }
 }
 
-fn accepted(table: &Table) -> String {
-    let mut text = format!("yes: {}\n", types(table.count()));
+fn accepted(table: &Table, has_library: bool) -> String {
+    let mut text = format!("yes: {}\n", types(table, has_library));
+    let before = of_library(table);
     for (number, row) in table.rows().enumerate() {
-        text += &format!("  type {number}: {}\n", described(&row));
+        text += &format!("  type {number}{}: {}\n", own(&row, number, before), described(&row));
     }
     text
+}
+
+/// What a type is in its own section, where the library has types.
+fn own(row: &Row, number: usize, before: usize) -> String {
+    match (row.input(), before) {
+        (Input::Library, _) => " of the library".to_string(),
+        (Input::Addon, 0) => String::new(),
+        (Input::Addon, _) => format!(", the add-on's type {}", number - before),
+    }
 }
 
 fn described(row: &Row) -> String {
@@ -149,12 +178,13 @@ fn texts<T: ToString>(items: &[T]) -> Vec<String> {
     items.iter().map(T::to_string).collect()
 }
 
-fn table_members(table: &Table) -> Vec<(&'static str, Json)> {
-    let rows = table.rows().enumerate().map(|(number, row)| row_json(number, &row));
+pub fn table_members(table: &Table, has_library: bool) -> Vec<(&'static str, Json)> {
+    let rows = table.rows().enumerate().map(|(number, row)| row_json(number, &row, has_library));
     vec![("answer", "yes".into()), ("types", Json::List(rows.collect()))]
 }
 
-pub fn row_json(number: usize, row: &Row) -> Json {
+/// Where a library was named, with the section that holds the bytes.
+fn row_json(number: usize, row: &Row, has_library: bool) -> Json {
     let bytes = row.bytes();
     let form = if row.is_struct() { "struct" } else { "function" };
     let mut members = vec![
@@ -167,6 +197,7 @@ pub fn row_json(number: usize, row: &Row) -> Json {
         ("from", bytes.start.into()),
         ("to", bytes.end.into()),
     ];
+    members.extend(has_library.then(|| input_member(row.input())));
     if row.is_struct() {
         members.push(("fields", texts(&row.fields()).into()));
     } else {

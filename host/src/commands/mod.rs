@@ -6,15 +6,16 @@ mod lines;
 mod run;
 mod show;
 
-pub use check::row_json;
+pub use check::table_members;
 pub use run::members as run_members;
 
 use crate::arguments::Arguments;
-use crate::ask::{AddOn, No};
+use crate::ask::AddOn;
 use crate::explain::{body_refusal, refusals, section_refusal, Told};
 use crate::json::Json;
-use crate::{ask, help, input, lines as protocol, output, Outcome, Trouble};
-use chelbugan::Loader;
+use crate::sections::{self, Sections};
+use crate::{ask, help, hex, input, lines as protocol, output, Outcome, Trouble};
+use chelbugan::{Input, Loader, Refusal};
 
 pub fn obey(arguments: &Arguments) -> Result<Outcome, Trouble> {
     let words: Vec<&str> = arguments.words.iter().map(String::as_str).collect();
@@ -105,18 +106,35 @@ fn read_number(text: &str) -> Result<u64, Trouble> {
     protocol::read_number(text).map_err(|why| format!("{text}: {why}"))
 }
 
-fn read_add_on(section: &str, body: &str, number: &str) -> Result<AddOn, Trouble> {
-    let (section, body) = (input::bytes(section)?, input::bytes(body)?);
-    Ok(AddOn { section, body, number: read_number(number)? })
+fn read_library(arguments: &Arguments) -> Result<Option<Vec<u8>>, Trouble> {
+    arguments.library.as_deref().map(input::bytes).transpose()
 }
 
-/// Whose refusal it is shows in the section judged alone.
-fn add_on_told(add_on: &AddOn, refusal: No) -> Told {
-    match ask::section(&mut Loader::new(), &add_on.section) {
+fn read_sections(arguments: &Arguments, section: &str) -> Result<Sections, Trouble> {
+    Ok(Sections::new(read_library(arguments)?, input::bytes(section)?))
+}
+
+fn read_add_on(
+    arguments: &Arguments,
+    section: &str,
+    body: &str,
+    number: &str,
+) -> Result<AddOn, Trouble> {
+    let (sections, body) = (read_sections(arguments, section)?, input::bytes(body)?);
+    Ok(AddOn { sections, body, number: read_number(number)? })
+}
+
+/// Whose refusal it is shows in the sections judged alone.
+fn add_on_told(add_on: &AddOn, refusal: Refusal) -> Told {
+    match ask::section(&mut Loader::new(), &add_on.sections) {
         Ok(_) => body_refusal(add_on, refusal),
         Err(of_section) => {
-            let mut told = section_refusal(&add_on.section, of_section);
-            told.text += "  the section itself is refused; the body was not looked at\n";
+            let mut told = section_refusal(&add_on.sections, of_section);
+            let whose = match told.of {
+                "library" => "library",
+                _ => "section",
+            };
+            told.text += &format!("  the {whose} itself is refused; the body was not looked at\n");
             told
         }
     }
@@ -125,7 +143,7 @@ fn add_on_told(add_on: &AddOn, refusal: No) -> Told {
 fn refused(
     arguments: &Arguments,
     command: &'static str,
-    refusal: No,
+    refusal: Refusal,
     told: &Told,
 ) -> Result<Outcome, Trouble> {
     if arguments.json {
@@ -136,32 +154,45 @@ fn refused(
     Ok(Outcome::No)
 }
 
-fn refusal_members(refusal: No, told: &Told) -> Vec<(&'static str, Json)> {
-    vec![
+fn refusal_members(refusal: Refusal, told: &Told) -> Vec<(&'static str, Json)> {
+    let mut members = vec![
         ("answer", "no".into()),
         ("of", told.of.into()),
         ("refusal", refusal.number.into()),
         ("place", refusal.place.into()),
         ("place_is", told.place_is.into()),
-        ("meaning", refusals::title(refusal.number).into()),
-        ("cause", told.words.as_str().into()),
-    ]
+    ];
+    members.extend(told.own_number.map(|own| ("own_number", own.into())));
+    members.push(("meaning", refusals::title(refusal.number).into()));
+    members.push(("cause", told.words.as_str().into()));
+    members
 }
 
+/// Where a library was named, the answer says which section holds the bytes: after them, as a comment, so that they can be
+/// read back.
 fn type_bytes(arguments: &Arguments, words: &[&str]) -> Result<Outcome, Trouble> {
-    let section = input::bytes(words[0])?;
+    let sections = read_sections(arguments, words[0])?;
     let number = read_number(words[1])?;
-    match ask::type_bytes(&mut Loader::new(), &section, number) {
-        Err(refusal) => refused(arguments, "type", refusal, &section_refusal(&section, refusal)),
+    match ask::type_bytes(&mut Loader::new(), &sections, number) {
+        Err(refusal) => refused(arguments, "type", refusal, &section_refusal(&sections, refusal)),
         Ok(_) if arguments.quiet => Ok(Outcome::Yes),
-        Ok(bytes) if arguments.json => say_json(
-            "type",
-            vec![
+        Ok((bytes, input)) if arguments.json => {
+            let mut members = vec![
                 ("answer", "yes".into()),
                 ("number", number.into()),
-                ("bytes", crate::hex::plain(bytes).into()),
-            ],
-        ),
-        Ok(bytes) => say(&crate::hex::spaced(bytes)),
+                ("bytes", hex::plain(bytes).into()),
+            ];
+            members.extend(sections.has_library().then(|| input_member(input)));
+            say_json("type", members)
+        }
+        Ok((bytes, input)) if sections.has_library() => {
+            say(&format!("{} # of {}", hex::spaced(bytes), sections::words(input)))
+        }
+        Ok((bytes, _)) => say(&hex::spaced(bytes)),
     }
+}
+
+/// In which section something lies.
+pub fn input_member(input: Input) -> (&'static str, Json) {
+    ("input", input.to_string().into())
 }

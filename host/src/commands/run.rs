@@ -12,7 +12,7 @@ const NAME: &str = "run";
 
 /// A run that traps or is spent is a yes: the add-on was accepted (docs/DECISIONS.md).
 pub fn run(arguments: &Arguments, words: &[&str]) -> Result<Outcome, Trouble> {
-    let add_on = read_add_on(words[0], words[1], words[2])?;
+    let add_on = read_add_on(arguments, words[0], words[1], words[2])?;
     let budget = read_number(words[3])?;
     let mut loader = Loader::new();
     match ask::run(&mut loader, &add_on, budget) {

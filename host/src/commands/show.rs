@@ -1,13 +1,15 @@
 //! Bytes shown to a person, as a listing or as text, and text made into bytes. None of it judges.
 
-use super::{say, say_json};
+use super::{read_library, say, say_json};
 use crate::arguments::Arguments;
 use crate::json::Json;
-use crate::read::Fault;
+use crate::read::section::read_library as library_of;
+use crate::read::{Fault, Padding};
 use crate::{dump as listing, help, hex, input, output, text, Outcome, Trouble};
 
-/// Which of the two, and the input.
+/// Which of the two, and the input. A body has no types, so that a library would say nothing of it.
 fn chosen<'w>(
+    arguments: &Arguments,
     command: &str,
     words: &[&'w str],
     input: [&str; 2],
@@ -16,6 +18,10 @@ fn chosen<'w>(
     match words {
         [] => Err(help::missing(command, &[], &["section or body", "its bytes"])),
         ["section"] => Err(help::missing(command, &["section"], &[of_section])),
+        ["body", ..] if arguments.library.is_some() => Err(format!(
+            "{command} body takes no library: a body defines no types\n{}",
+            help::use_of(command)
+        )),
         ["body"] => Err(help::missing(command, &["body"], &[of_body])),
         ["section", input] => Ok((true, input)),
         ["body", input] => Ok((false, input)),
@@ -31,28 +37,79 @@ fn of(is_section: bool) -> (&'static str, Json) {
     ("of", if is_section { "section" } else { "body" }.into())
 }
 
-/// No where the listing breaks off at a byte that fits nowhere.
+/// How many types the library has, where one is named; or where it cannot be read.
+fn types_before(arguments: &Arguments) -> Result<Result<usize, Fault>, Trouble> {
+    let Some(bytes) = read_library(arguments)? else { return Ok(Ok(0)) };
+    let read = library_of(&bytes, Padding::Noted);
+    Ok(match read.fault {
+        Some((_, fault)) => Err(fault),
+        None => Ok(read.types.len()),
+    })
+}
+
+/// Bytes with their listing.
+struct Listed {
+    bytes: Vec<u8>,
+    listing: listing::Listing,
+}
+
+/// No where a listing breaks off at a byte that fits nowhere.
 pub fn dump(arguments: &Arguments, words: &[&str]) -> Result<Outcome, Trouble> {
-    let (is_section, input) = chosen("dump", words, ["SECTION", "BODY"])?;
+    let (is_section, input) = chosen(arguments, "dump", words, ["SECTION", "BODY"])?;
+    let (library, before) = match read_library(arguments)? {
+        Some(bytes) => {
+            let (listing, count) = listing::library(&bytes);
+            (Some(Listed { bytes, listing }), count)
+        }
+        None => (None, 0),
+    };
     let bytes = input::bytes(input)?;
-    let listed = if is_section { listing::section(&bytes) } else { listing::body(&bytes) };
+    let listing = match is_section {
+        true => listing::section(&bytes, before),
+        false => listing::body(&bytes),
+    };
+    let own = Listed { bytes, listing };
     if arguments.json {
-        say_json("dump", dump_members(is_section, &bytes, &listed))?;
+        say_json("dump", dump_members(is_section, library.as_ref(), &own))?;
     } else if !arguments.quiet {
-        say(&listing::text(&bytes, &listed))?;
+        say(&dump_text(library.as_ref(), &own))?;
     }
-    match listed.fault {
-        None => Ok(Outcome::Yes),
-        Some(_) => Ok(Outcome::No),
+    match is_whole(library.as_ref(), &own) {
+        true => Ok(Outcome::Yes),
+        false => Ok(Outcome::No),
     }
 }
 
+fn is_whole(library: Option<&Listed>, own: &Listed) -> bool {
+    let whole = |listed: &Listed| listed.listing.fault.is_none();
+    whole(own) && library.is_none_or(whole)
+}
+
+/// The library's bytes first, and each of the two by its name where there are two.
+fn dump_text(library: Option<&Listed>, own: &Listed) -> String {
+    let text = |listed: &Listed| listing::text(&listed.bytes, &listed.listing);
+    match library {
+        None => text(own),
+        Some(library) => format!("the library\n{}\nthe add-on\n{}", text(library), text(own)),
+    }
+}
+
+/// The library's listing stands as an object of its own where there is one.
 fn dump_members(
     is_section: bool,
-    bytes: &[u8],
-    listed: &listing::Listing,
+    library: Option<&Listed>,
+    own: &Listed,
 ) -> Vec<(&'static str, Json)> {
-    let items = listed.lines.iter().map(|line| {
+    let answer = if is_whole(library, own) { "yes" } else { "no" };
+    let mut members = vec![("answer", answer.into()), of(is_section)];
+    members.extend(listed_members(own));
+    members.extend(library.map(|it| ("library", Json::Object(listed_members(it)))));
+    members
+}
+
+fn listed_members(listed: &Listed) -> Vec<(&'static str, Json)> {
+    let Listed { bytes, listing } = listed;
+    let items = listing.lines.iter().map(|line| {
         Json::Object(vec![
             ("from", line.bytes.start.into()),
             ("to", line.bytes.end.into()),
@@ -61,7 +118,7 @@ fn dump_members(
             ("text", line.text.as_str().into()),
         ])
     });
-    let rest = listed.fault.as_ref().map(|(from, fault)| {
+    let rest = listing.fault.as_ref().map(|(from, fault)| {
         Json::Object(vec![
             ("from", (*from).into()),
             ("place", fault.place.into()),
@@ -69,10 +126,7 @@ fn dump_members(
             ("bytes", hex::plain(&bytes[*from..]).into()),
         ])
     });
-    let answer = if rest.is_some() { "no" } else { "yes" };
     vec![
-        ("answer", answer.into()),
-        of(is_section),
         ("length", bytes.len().into()),
         ("items", Json::List(items.collect())),
         ("broken", rest.unwrap_or(Json::Null)),
@@ -81,42 +135,56 @@ fn dump_members(
 
 /// No where the bytes cannot be read; then nothing is printed.
 pub fn print(arguments: &Arguments, words: &[&str]) -> Result<Outcome, Trouble> {
-    let (is_section, input) = chosen("print", words, ["SECTION", "BODY"])?;
+    let (is_section, input) = chosen(arguments, "print", words, ["SECTION", "BODY"])?;
+    let before = match types_before(arguments)? {
+        Ok(before) => before,
+        Err(fault) => return unprinted(arguments, "library", &fault),
+    };
     let bytes = input::bytes(input)?;
-    let print = if is_section { text::print_section } else { text::print_body };
-    match print(&bytes) {
+    let (printed, what) = match is_section {
+        true => (text::print_section(&bytes, before), "section"),
+        false => (text::print_body(&bytes), "body"),
+    };
+    match printed {
         Ok(printed) if arguments.json => say_json(
             "print",
             vec![("answer", "yes".into()), of(is_section), ("text", printed.into())],
         ),
         Ok(printed) => say(&printed),
-        Err(fault) => unprinted(arguments, is_section, &fault),
+        Err(fault) => unprinted(arguments, what, &fault),
     }
 }
 
-fn unprinted(arguments: &Arguments, is_section: bool, fault: &Fault) -> Result<Outcome, Trouble> {
+fn unprinted(arguments: &Arguments, of: &'static str, fault: &Fault) -> Result<Outcome, Trouble> {
     match arguments.json {
         true => drop(say_json(
             "print",
             vec![
                 ("answer", "no".into()),
-                of(is_section),
+                ("of", of.into()),
                 ("place", fault.place.into()),
                 ("cause", fault.why.as_str().into()),
             ],
         )?),
         false => {
-            output::complain(&format!("byte {}: {}; dump lists the bytes", fault.place, fault.why))
+            let whose = if of == "library" { " of the library" } else { "" };
+            let (place, why) = (fault.place, &fault.why);
+            output::complain(&format!("byte {place}{whose}: {why}; dump lists the bytes"));
         }
     }
     Ok(Outcome::No)
 }
 
 pub fn assemble(arguments: &Arguments, words: &[&str]) -> Result<Outcome, Trouble> {
-    let (is_section, input) = chosen("assemble", words, ["TEXT", "TEXT"])?;
+    let (is_section, input) = chosen(arguments, "assemble", words, ["TEXT", "TEXT"])?;
+    let before = types_before(arguments)?
+        .map_err(|fault| format!("byte {} of the library: {}", fault.place, fault.why))?;
     let read = input::words(input)?;
-    let assemble = if is_section { text::assemble_section } else { text::assemble_body };
-    let bytes = assemble(&read).map_err(|fault| fault.to_string())?;
+    let bytes = match is_section {
+        true => text::assemble_section(&read, before),
+        false => text::assemble_body(&read),
+    };
+    let bytes = bytes.map_err(|fault| fault.to_string())?;
     match (arguments.json, arguments.raw) {
         (true, _) => say_json(
             "assemble",

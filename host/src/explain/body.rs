@@ -1,13 +1,15 @@
-//! The refusal of a body, or of its run, whose section was accepted.
+//! The refusal of a body, or of its run, whose sections were accepted.
 
 use super::around::{around, byte_remark, item_at};
 use super::{reason, shown_text, stacked, wrapped, Told};
-use crate::ask::{AddOn, No};
+use crate::ask::AddOn;
 use crate::dump;
 use crate::read;
 use crate::read::section::Line;
-use crate::recheck::{self, Cause, Input, Operands, INPUT_BYTES};
-use crate::syntax::{Form, Item, Placed, Type};
+use crate::recheck::{self, Cause, Holder, Joined, Operands, INPUT_BYTES};
+use crate::sections::Sections;
+use crate::syntax::{Form, Item, Placed};
+use chelbugan::{Input, Refusal};
 
 const SIZE_EXCEEDED: u64 = 4;
 const BUFFER_TOO_SMALL: u64 = 14;
@@ -27,18 +29,17 @@ enum Place {
     Parameters,
 }
 
-pub fn body_refusal(add_on: &AddOn, refusal: No) -> Told {
-    let AddOn { section, body, number } = add_on;
-    let types = read::section::read(section).types;
+pub fn body_refusal(add_on: &AddOn, refusal: Refusal) -> Told {
+    let AddOn { sections, body, number } = add_on;
+    let all = recheck::section::read(sections);
     let parts = read::body::read(body).parts;
     let place = place_of(body, &parts, refusal);
     let cause = match place {
         Place::Budget => Some(Cause::new(4, 0, "the budget is more than 1,000,000")),
-        Place::Parameters => Some(without_default(&types, *number)),
-        _ => recheck::body::judge(&types, *number, body).err(),
+        Place::Parameters => Some(without_default(&all, *number)),
+        _ => recheck::body::judge(&all, *number, body).err(),
     };
-    let cause =
-        cause.filter(|cause| (cause.number, cause.place) == (refusal.number, refusal.place));
+    let cause = cause.filter(|cause| cause.refusal == refusal);
     let words = reason(refusal.number, cause.as_ref());
     let mut text = wrapped(&words);
     match place {
@@ -51,18 +52,28 @@ pub fn body_refusal(add_on: &AddOn, refusal: No) -> Told {
             Place::Part(_) => "",
             _ => "\n",
         };
-        text += &shown_text(cause, Input::Body, body, before);
-        text += &shown_text(cause, Input::Section, section, "  in the section:\n");
+        text += &shown_text(cause, Holder::Body, body, before);
+        text += &types_shown(cause, sections);
     }
     text += byte_remark(body);
     let (place_is, at) = named(&parts, &place, refusal.place);
     let headline = format!("no: refusal {} at {at}", refusal.number);
-    Told { headline, of: "body", place_is, words, text }
+    Told { headline, of: "body", place_is, own_number: None, words, text }
+}
+
+/// The parts of types that a cause speaks of, by the section that holds them.
+fn types_shown(cause: &Cause, sections: &Sections) -> String {
+    let addon = match sections.has_library() {
+        true => "  in the add-on:\n",
+        false => "  in the section:\n",
+    };
+    let of = |input, before| shown_text(cause, Holder::Section(input), sections.of(input), before);
+    of(Input::Library, "  in the library:\n") + &of(Input::Addon, addon)
 }
 
 /// A byte fault is the item's; every other place is where an instruction or an entry of the locals begins. Neither begins at
 /// 0, where the count of entries stands.
-fn place_of(body: &[u8], parts: &[Placed<Item>], refusal: No) -> Place {
+fn place_of(body: &[u8], parts: &[Placed<Item>], refusal: Refusal) -> Place {
     let at = refusal.place as usize;
     match refusal.number {
         NOT_A_FUNCTION => Place::TypeNumber,
@@ -96,9 +107,9 @@ fn named(parts: &[Placed<Item>], place: &Place, at: u64) -> (&'static str, Strin
 }
 
 /// The parameters that 0 stands for.
-fn without_default(types: &[Type], number: u64) -> Cause {
-    let form = usize::try_from(number).ok().and_then(|number| types.get(number)).map(|it| &it.form);
-    let Some(Form::Function { parameters, .. }) = form else {
+fn without_default(all: &Joined, number: u64) -> Cause {
+    let function = all.type_of(number).map(|own| (own, &own.form));
+    let Some((own, Form::Function { parameters, .. })) = function else {
         return Cause::new(0, 0, "");
     };
     let lacking = parameters.iter().enumerate().filter(|(_, value)| !value.what.has_default());
@@ -110,8 +121,8 @@ fn without_default(types: &[Type], number: u64) -> Cause {
         named.join(", ")
     );
     lacking.iter().fold(Cause::new(NO_DEFAULT, 0, words), |cause, (at, value)| {
-        let text = format!("type {number}: parameter {at}: {}", value.what);
-        cause.showing(Input::Section, &value.bytes, text)
+        let text = format!("{}: parameter {at}: {}", all.label(number), value.what);
+        cause.showing(Holder::Section(own.input), &value.bytes, text)
     })
 }
 
@@ -119,7 +130,7 @@ fn without_default(types: &[Type], number: u64) -> Cause {
 fn part_text(body: &[u8], part: &Placed<Item>, cause: Option<&Cause>) -> String {
     let line = Line { bytes: part.bytes.clone(), indent: 0, text: part.what.to_string() };
     let marked = around(body, part.bytes.clone());
-    let operands = cause.and_then(|cause| cause.operands.as_ref());
+    let operands = cause.and_then(|cause| cause.operands.as_deref());
     let operands = operands.map_or(String::new(), operands_text);
     format!("{marked}\n{}{operands}", dump::line_text(body, &line))
 }

@@ -16,15 +16,18 @@ pub use section::section_refusal;
 
 use crate::dump;
 use crate::read::section::Line;
-use crate::recheck::{Cause, Input};
+use crate::recheck::{Cause, Holder};
+use chelbugan::Input;
 
 /// A refusal in words.
 pub struct Told {
     /// Number and place.
     pub headline: String,
-    /// Whose bytes the place is in.
+    /// Whose bytes the place is in: `section`, or `library` or `addon` where a library was named, or `body`.
     pub of: &'static str,
     pub place_is: &'static str,
+    /// Of a type at fault, its number in its own section where that is another one.
+    pub own_number: Option<usize>,
     /// The cause, on one line.
     pub words: String,
     /// What stands below the headline.
@@ -43,7 +46,15 @@ impl Told {
 
 const WIDTH: usize = 100;
 
-/// The cause, where the check by itself came to the library's refusal; else document 01's words for the number.
+/// A section as the answers name it.
+fn of_types(input: Input) -> &'static str {
+    match input {
+        Input::Library => "library",
+        Input::Addon => "addon",
+    }
+}
+
+/// The cause, where the check by itself came to the loader's refusal; else document 01's words for the number.
 fn reason(number: u64, cause: Option<&Cause>) -> String {
     match cause {
         Some(cause) => cause.words.clone(),
@@ -55,7 +66,7 @@ fn reason(number: u64, cause: Option<&Cause>) -> String {
 const SHOWN_BYTES: usize = 16;
 
 /// The parts of an input that a cause speaks of, behind a line of their own where there are any.
-fn shown_text(cause: &Cause, of: Input, bytes: &[u8], before: &str) -> String {
+fn shown_text(cause: &Cause, of: Holder, bytes: &[u8], before: &str) -> String {
     let shown: Vec<_> = cause.shown.iter().filter(|shown| shown.of == of).collect();
     if shown.is_empty() {
         return String::new();
@@ -118,25 +129,38 @@ fn counted(count: u64, word: &str) -> String {
 #[cfg(test)]
 mod tests {
     use super::*;
-    use crate::ask::{AddOn, No};
+    use crate::ask::AddOn;
+    use crate::sections::Sections;
+    use chelbugan::Refusal;
 
-    /// Where the check by itself comes to another number or place, only what the library said is told.
+    fn alone(section: &[u8]) -> Sections {
+        Sections::new(None, section.to_vec())
+    }
+
+    /// Where the check by itself comes to another number, place or input, only what the loader said is told.
     #[test]
-    fn the_librarys_verdict_is_the_one_told() {
-        let section = [0x00, 0x00];
-        let own = section_refusal(&section, No { number: 5, place: 1 });
-        assert_eq!(own.words, "1 byte is left over");
-        for (number, place) in [(5, 0), (3, 1), (8, 0)] {
-            let told = section_refusal(&section, No { number, place });
-            assert!(told.headline.starts_with(&format!("no: refusal {number} at ")));
-            assert_eq!(told.words, refusals::title(number));
+    fn the_loaders_verdict_is_the_one_told() {
+        let sections = alone(&[0x00, 0x00]);
+        let of_addon = |number, place| Refusal { number, place, input: Some(Input::Addon) };
+        assert_eq!(section_refusal(&sections, of_addon(5, 1)).words, "1 byte is left over");
+        let others = [
+            of_addon(5, 0),
+            of_addon(3, 1),
+            Refusal { number: 5, place: 1, input: Some(Input::Library) },
+            Refusal { number: 8, place: 0, input: None },
+        ];
+        for refusal in others {
+            let told = section_refusal(&sections, refusal);
+            assert!(told.headline.starts_with(&format!("no: refusal {} at ", refusal.number)));
+            assert_eq!(told.words, refusals::title(refusal.number));
         }
-        let (section, body) = (vec![0x01, 0x60, 0x00, 0x00], vec![0x00, 0x1A, 0x0B]);
-        let add_on = AddOn { section, body, number: 0 };
-        let own = body_refusal(&add_on, No { number: 20, place: 1 });
+        let sections = alone(&[0x01, 0x60, 0x00, 0x00]);
+        let add_on = AddOn { sections, body: vec![0x00, 0x1A, 0x0B], number: 0 };
+        let of_body = |number, place| Refusal { number, place, input: None };
+        let own = body_refusal(&add_on, of_body(20, 1));
         assert_eq!(own.words, "drop wants any value on top, and its block has no operand");
         for (number, place) in [(20, 2), (23, 1), (28, 2), (3, 9)] {
-            let told = body_refusal(&add_on, No { number, place });
+            let told = body_refusal(&add_on, of_body(number, place));
             assert_eq!(told.headline, format!("no: refusal {number} at byte {place} of the body"));
             assert_eq!(told.words, refusals::title(number));
             assert!(!told.text.contains("it takes"), "{}", told.text);
@@ -146,10 +170,10 @@ mod tests {
     /// 31 tells what 20 would, and what would do; the instruction is marked, and the one that put the operand there is shown.
     #[test]
     fn only_null_is_told() {
-        let section = vec![0x02, 0x5F, 0x00, 0x60, 0x00, 0x01, 0x64, 0x00];
+        let sections = alone(&[0x02, 0x5F, 0x00, 0x60, 0x00, 0x01, 0x64, 0x00]);
         let body = vec![0x00, 0xD0, 0x00, 0x0B];
-        let add_on = AddOn { section, body, number: 1 };
-        let told = body_refusal(&add_on, No { number: 31, place: 3 });
+        let add_on = AddOn { sections, body, number: 1 };
+        let told = body_refusal(&add_on, Refusal { number: 31, place: 3, input: None });
         assert_eq!(told.headline, "no: refusal 31 at byte 3 of the body");
         assert_eq!(
             told.words,

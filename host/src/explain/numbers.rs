@@ -1,7 +1,7 @@
 //! Every refusal and trap: what it means, what its place is, document 01's rule as document 02 amends it, and the smallest
 //! example with its mend.
 
-use super::refusals::Case::{Body, Rows, Run, Section};
+use super::refusals::Case::{After, Body, Library, Rows, Run, Section};
 use super::refusals::{Entry, Example};
 
 /// A function type of nothing to nothing.
@@ -17,6 +17,11 @@ const TO_I64: &str = "01 60 00 01 7E";
 /// A struct of no fields, and a function type of nothing to nothing.
 const S: &str = "02 5F 00 60 00 00";
 
+/// Libraries: a struct that is final, one that is open, and an open one with its descriptor.
+const FINAL: &str = "01 5F 00";
+const OPEN: &str = "01 50 00 5F 00";
+const DESCRIBED: &str = "01 4E 02 50 00 4D 01 5F 00 50 00 4C 00 5F 00";
+
 pub const ENTRIES: &[Entry] = &[
     Entry {
         number: 1,
@@ -31,6 +36,13 @@ pub const ENTRIES: &[Entry] = &[
                 why: "no bytes at all: the count of groups is missing",
                 mended: Section("00"),
                 mend: "a count of groups, 0",
+            },
+            Example {
+                broken: Library("", "00"),
+                place: 0,
+                why: "a library of no bytes at all; the place is a byte of the library",
+                mended: After("00", "00"),
+                mend: "the library of no types",
             },
             Example {
                 broken: Body(TO_F32, "00 43 00 00 80", 0),
@@ -79,6 +91,13 @@ pub const ENTRIES: &[Entry] = &[
                 mend: "a struct of no fields",
             },
             Example {
+                broken: After(FINAL, "01 7B"),
+                place: 1,
+                why: "7B begins no definition; the place is a byte of the add-on's section, and the library before it does not count",
+                mended: After(FINAL, "01 5F 00"),
+                mend: "a struct of no fields, type 1 of the joined list",
+            },
+            Example {
                 broken: Body(V, "00 04 0B", 0),
                 place: 1,
                 why: "04 begins no instruction that the loader reads",
@@ -97,9 +116,9 @@ pub const ENTRIES: &[Entry] = &[
     Entry {
         number: 4,
         title: "a size exceeded",
-        means: "There is more of something than the loader has room for: bytes, types, fields, steps up a supertype chain, locals, operands, frames, or steps of a run. The explanation says which.",
-        place: "Byte or instruction: the first byte of the first entry or instruction beyond. Type number: for a supertype chain. 0: for a whole input or the budget of a run.",
-        rule: "32,768 bytes a section or body; 256 types; 64 fields, parameters or results each; 63 steps up a supertype chain (place: type number); 256 locals with parameters; 512 operands in all frames after an instruction; 64 frames, the function's own counted. A budget of at most 1,000,000.",
+        means: "There is more of something than the loader has room for: bytes, types, fields, steps up a supertype chain, locals, operands, frames, or steps of a run. The explanation says which. Bytes are counted for the library and the add-on's section apart; types, and the steps of a chain, for both together.",
+        place: "Byte or instruction: the first byte of the first entry or instruction beyond. Type number: for a supertype chain. 0: for a whole input, and the answer says which of the two sections it is, or for the budget of a run.",
+        rule: "32,768 bytes a section or body; 1,024 types for both sections together (at the start of a group after them, no byte is 1 and any but 4E is 4); 64 fields, parameters or results each; 63 steps up a supertype chain (place: type number); 256 locals with parameters; 512 operands in all frames after an instruction; 64 frames, the function's own counted. A budget of at most 1,000,000.",
         examples: &[
             Example {
                 broken: Body(V, "01 81 02 7F 0B", 0),
@@ -134,9 +153,9 @@ pub const ENTRIES: &[Entry] = &[
     Entry {
         number: 6,
         title: "type number out of reach",
-        means: "A type names a type behind its own group, a body names one that the section does not have, or a section was asked for one that it does not have.",
+        means: "A type names a type after its own group, a body names one that neither section has, or one was asked for that neither has. The library is judged by itself, so every type of the add-on is out of its reach.",
         place: "Type number: of the type that names it; of the absent one where a section is asked for it. In a body, instruction or locals entry: the offset of its first byte.",
-        rule: "A number may name any type up to the end of its own group.",
+        rule: "A number may name any type up to the end of its own group. The library may not mention the add-on's numbers.",
         examples: &[
             Example {
                 broken: Section("01 5F 01 63 01 00"),
@@ -146,9 +165,16 @@ pub const ENTRIES: &[Entry] = &[
                 mend: "the field names type 0, its own type",
             },
             Example {
+                broken: Library("01 5F 01 63 01 00", "01 5F 00"),
+                place: 0,
+                why: "the library's field names type 1, which is the add-on's",
+                mended: After("02 5F 00 5F 01 63 00 00", "01 5F 00"),
+                mend: "the type that is named stands in the library too, before the field's",
+            },
+            Example {
                 broken: Body(V, "00 D0 01 1A 0B", 0),
                 place: 1,
-                why: "ref.null of type 1, and the section has type 0 alone",
+                why: "ref.null of type 1, and there is type 0 alone",
                 mended: Body(V, "00 D0 00 1A 0B", 0),
                 mend: "ref.null of type 0",
             },
@@ -174,6 +200,13 @@ pub const ENTRIES: &[Entry] = &[
                 why: "type 0 says neither 50 nor 4F, so it is final",
                 mended: Section("02 50 00 5F 00 4F 01 00 5F 00"),
                 mend: "50 00 before type 0: open, no supertype",
+            },
+            Example {
+                broken: After(FINAL, "01 4F 01 00 5F 00"),
+                place: 1,
+                why: "the add-on's type 0, type 1 of the joined list, stands below a type of the library that is final",
+                mended: After(OPEN, "01 4F 01 00 5F 00"),
+                mend: "the library's type is open",
             },
         ],
     },
@@ -234,13 +267,22 @@ pub const ENTRIES: &[Entry] = &[
         means: "A type names a descriptor that does not describe it, or describes a type that has another descriptor or none.",
         place: "Type number: of the first type whose clause is not answered.",
         rule: "If x has descriptor y then y describes x, and the reverse.",
-        examples: &[Example {
-            broken: Section("01 4D 00 5F 00"),
-            place: 0,
-            why: "type 0 has descriptor 0, and type 0 describes nothing",
-            mended: Section("01 4E 02 4D 01 5F 00 4C 00 5F 00"),
-            mend: "a descriptor, type 1, that describes type 0",
-        }],
+        examples: &[
+            Example {
+                broken: Section("01 4D 00 5F 00"),
+                place: 0,
+                why: "type 0 has descriptor 0, and type 0 describes nothing",
+                mended: Section("01 4E 02 4D 01 5F 00 4C 00 5F 00"),
+                mend: "a descriptor, type 1, that describes type 0",
+            },
+            Example {
+                broken: After(FINAL, "01 4C 00 5F 00"),
+                place: 1,
+                why: "the add-on describes a type of the library, which cannot have its descriptor in the add-on: it would have to name it",
+                mended: After(FINAL, "01 4E 02 4D 02 5F 00 4C 01 5F 00"),
+                mend: "the add-on describes a type of its own",
+            },
+        ],
     },
     Entry {
         number: 12,
@@ -248,15 +290,24 @@ pub const ENTRIES: &[Entry] = &[
         means: "The supertype has a descriptor, and the subtype has none, or one that does not stand below the supertype's. The explanation shows both clauses.",
         place: "Type number: the subtype's.",
         rule: "If the supertype has descriptor y, the subtype has a descriptor whose supertype is y. A supertype without one allows either.",
-        examples: &[Example {
-            broken: Section("02 4E 02 50 00 4D 01 5F 00 50 00 4C 00 5F 00 4F 01 00 5F 00"),
-            place: 2,
-            why: "type 0 has descriptor 1; type 2 below it has none",
-            mended: Section(
-                "02 4E 02 50 00 4D 01 5F 00 50 00 4C 00 5F 00 4E 02 4F 01 00 4D 03 5F 00 4F 01 01 4C 02 5F 00",
-            ),
-            mend: "type 2 has descriptor 3, whose supertype is 1",
-        }],
+        examples: &[
+            Example {
+                broken: Section("02 4E 02 50 00 4D 01 5F 00 50 00 4C 00 5F 00 4F 01 00 5F 00"),
+                place: 2,
+                why: "type 0 has descriptor 1; type 2 below it has none",
+                mended: Section(
+                    "02 4E 02 50 00 4D 01 5F 00 50 00 4C 00 5F 00 4E 02 4F 01 00 4D 03 5F 00 4F 01 01 4C 02 5F 00",
+                ),
+                mend: "type 2 has descriptor 3, whose supertype is 1",
+            },
+            Example {
+                broken: After(DESCRIBED, "01 4F 01 00 5F 00"),
+                place: 2,
+                why: "the same with types 0 and 1 in the library: its types bind those below them in the add-on",
+                mended: After(DESCRIBED, "01 4E 02 4F 01 00 4D 03 5F 00 4F 01 01 4C 02 5F 00"),
+                mend: "the add-on has a descriptor of its own, below the library's",
+            },
+        ],
     },
     Entry {
         number: 13,
@@ -279,11 +330,11 @@ pub const ENTRIES: &[Entry] = &[
         place: "0: no byte is meant.",
         rule: "A lent buffer under its one size fixed in docs/, at most 65,536 bytes; never otherwise.",
         examples: &[Example {
-            broken: Rows("00", 3_071),
+            broken: Rows("00", 16_383),
             place: 0,
-            why: "`rows` has 3,072 elements at least (docs/LAYOUT.md)",
-            mended: Rows("00", 3_072),
-            mend: "3,072 elements",
+            why: "`rows` has 16,384 elements at least (docs/LAYOUT.md)",
+            mended: Rows("00", 16_384),
+            mend: "16,384 elements",
         }],
     },
     Entry {
@@ -398,7 +449,7 @@ pub const ENTRIES: &[Entry] = &[
     Entry {
         number: 27,
         title: "not a function type's number",
-        means: "The number that the body was to be checked against names a struct, or no type of the section.",
+        means: "The number that the body was to be checked against names a struct, or no type of either section.",
         place: "0: no byte is meant.",
         rule: "A body is a locals list and instructions up to the last `end`, checked against a function type's number.",
         examples: &[Example {

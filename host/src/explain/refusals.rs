@@ -1,5 +1,7 @@
 //! `chelbugan explain` and docs/REFUSALS.md, both made from the list of numbers. A test runs every example and every mend of
-//! it through the library.
+//! it through the loader.
+
+use chelbugan::Input;
 
 pub struct Entry {
     pub number: u64,
@@ -26,6 +28,10 @@ pub struct Example {
 #[derive(Clone, Copy)]
 pub enum Case {
     Section(&'static str),
+    /// A section after a library.
+    After(&'static str, &'static str),
+    /// The same, and the library is at fault.
+    Library(&'static str, &'static str),
     Body(&'static str, &'static str, u64),
     Run(&'static str, &'static str, u64, u64),
     /// A section judged with so many words lent for `rows`: the program itself lends enough.
@@ -33,7 +39,7 @@ pub enum Case {
 }
 
 pub use super::numbers::ENTRIES;
-use Case::{Body, Rows, Run, Section};
+use Case::{After, Body, Library, Rows, Run, Section};
 
 /// The greatest number of a refusal; traps come after.
 const LAST_REFUSAL: u64 = 32;
@@ -68,6 +74,9 @@ impl Case {
     pub fn command(&self) -> String {
         match self {
             Section(section) => format!("chelbugan check '{section}'"),
+            After(library, section) | Library(library, section) => {
+                format!("chelbugan check --library '{library}' '{section}'")
+            }
             Body(section, body, number) => format!("chelbugan check '{section}' '{body}' {number}"),
             Run(section, body, number, budget) => {
                 format!("chelbugan run '{section}' '{body}' {number} {budget}")
@@ -80,10 +89,23 @@ impl Case {
 }
 
 impl Example {
-    /// "no 23 1", "trap 44 3".
+    /// "no 23 1", "no 3 1 addon", "trap 44 3": as a request in lines is answered, with the input where a library is named.
     pub fn answer(&self, entry: &Entry) -> String {
         let word = if entry.is_trap() { "trap" } else { "no" };
-        format!("{word} {} {}", entry.number, self.place)
+        let lies = match (self.broken, self.input(entry)) {
+            (After(..) | Library(..), Some(input)) => format!(" {input}"),
+            _ => String::new(),
+        };
+        format!("{word} {} {}{lies}", entry.number, self.place)
+    }
+
+    /// The section that the place is a byte of; byte faults alone have such a place.
+    fn input(&self, entry: &Entry) -> Option<Input> {
+        match (self.broken, entry.number) {
+            (Library(..), 1..=5 | 32) => Some(Input::Library),
+            (Section(_) | After(..), 1..=5 | 32) => Some(Input::Addon),
+            _ => None,
+        }
     }
 
     fn mended_answer(&self) -> &'static str {
@@ -127,10 +149,12 @@ pub fn page() -> String {
 # Refusals and traps
 
 For whoever got a no, or a trap, and has to mend an add-on. `chelbugan explain N` prints the same for one number. This page is \
-made by `chelbugan explain --page`, and a test runs every example and every mend of it through the library.
+made by `chelbugan explain --page`, and a test runs every example and every mend of it through the loader.
 
 A refusal has a number and a place. The place is a byte's offset, from 0; or a type's number, from 0; or 0 where neither is \
-meant. Of an instruction it is the first byte. The numbers are 1 to 14, 20 to 25, 27 to 29, 31 and 32; there is no 15 to 19, no 26 and no 30. \
+meant. Of an instruction it is the first byte. Of a byte of a type section the answer says in which of the two sections it lies: \
+the library, which comes first, or the add-on's. Type numbers count through both, the library's first. Without a library the \
+answer speaks of none. All faults of the library come before any of the add-on's. The numbers are 1 to 14, 20 to 25, 27 to 29, 31 and 32; there is no 15 to 19, no 26 and no 30. \
 Traps are 41 to 46: the add-on was accepted, and its trial run stopped there.
 
 | No. | When | Place |
@@ -174,24 +198,35 @@ fn section_text(entry: &Entry) -> String {
 #[cfg(test)]
 mod tests {
     use super::*;
-    use crate::ask::{self, AddOn, No};
-    use chelbugan::{calls, Ended, Loader};
+    use crate::ask::{self, AddOn};
+    use crate::sections::Sections;
+    use chelbugan::{calls, Ended, Loader, Refusal};
 
     fn bytes(text: &str) -> Vec<u8> {
         crate::hex::read_text(text).expect("hex")
     }
 
-    /// The library's answer: Ok with the trap's number and place, or 0 where nothing stopped it.
-    fn answer(case: Case) -> Result<(u64, u64), No> {
+    fn add_on(section: &str, body: &str, number: u64) -> AddOn {
+        AddOn { sections: Sections::new(None, bytes(section)), body: bytes(body), number }
+    }
+
+    /// The loader's answer: Ok with the trap's number and place, or 0 where nothing stopped it.
+    fn answer(case: Case) -> Result<(u64, u64), Refusal> {
         let mut loader = Loader::new();
         match case {
-            Section(section) => ask::section(&mut loader, &bytes(section)).map(|_| (0, 0)),
+            Section(section) => {
+                let sections = Sections::new(None, bytes(section));
+                ask::section(&mut loader, &sections).map(|_| (0, 0))
+            }
+            After(library, section) | Library(library, section) => {
+                let sections = Sections::new(Some(bytes(library)), bytes(section));
+                ask::section(&mut loader, &sections).map(|_| (0, 0))
+            }
             Body(section, body, number) => {
-                let add_on = AddOn { section: bytes(section), body: bytes(body), number };
-                ask::body(&mut loader, &add_on).map(|_| (0, 0))
+                ask::body(&mut loader, &add_on(section, body, number)).map(|_| (0, 0))
             }
             Run(section, body, number, budget) => {
-                let add_on = AddOn { section: bytes(section), body: bytes(body), number };
+                let add_on = add_on(section, body, number);
                 ask::run(&mut loader, &add_on, budget).map(|run| match run.ended {
                     Ended::Done { .. } => (0, 0),
                     Ended::Trap { number, place, .. } => (number, place),
@@ -199,24 +234,24 @@ mod tests {
                 })
             }
             Rows(section, words) => {
-                let (mut rows, mut codes) = (vec![0; words], vec![0; calls::CODES]);
-                match calls::judge_section(&bytes(section), &mut rows, &mut codes) {
-                    Ok(_) => Ok((0, 0)),
-                    Err(refusal) => Err(No { number: refusal.number, place: refusal.place }),
-                }
+                let (mut rows, mut shared) = (vec![0; words], vec![0; calls::SHARED]);
+                let (library, section) = (calls::EMPTY_LIBRARY, bytes(section));
+                let codes = &mut vec![0; calls::CODES];
+                calls::judge_section(library, &section, &mut rows, &mut shared, codes)
+                    .map(|_| (0, 0))
             }
         }
     }
 
     #[test]
-    fn every_example_and_every_mend_is_the_librarys() {
+    fn every_example_and_every_mend_is_the_loaders() {
         for entry in ENTRIES {
             assert!(!entry.examples.is_empty());
             for example in entry.examples {
-                let (number, place) = (entry.number, example.place);
+                let (number, place, input) = (entry.number, example.place, example.input(entry));
                 let wanted = match entry.is_trap() {
                     true => Ok((number, place)),
-                    false => Err(No { number, place }),
+                    false => Err(Refusal { number, place, input }),
                 };
                 assert_eq!(answer(example.broken), wanted, "{}", example.broken.command());
                 assert_eq!(answer(example.mended), Ok((0, 0)), "{}", example.mended.command());

@@ -1,79 +1,133 @@
-//! The refusal of a section.
+//! The refusal of a library or of an add-on's section.
 
 use super::around::{around, byte_remark, item_at};
-use super::{counted, reason, shown_text, wrapped, Told};
-use crate::ask::No;
-use crate::recheck::{self, Cause, Input, INPUT_BYTES};
-
-const SIZE_EXCEEDED: u64 = 4;
-const NUMBER_PADDED: u64 = 32;
+use super::{of_types, reason, shown_text, wrapped, Told};
+use crate::recheck::{self, Cause, Joined, INPUT_BYTES};
+use crate::sections::{self, Sections};
+use chelbugan::{Input, Refusal};
 
 /// What a refusal's place is.
 #[derive(Clone, Copy)]
 enum Place {
-    Byte(usize),
+    Byte(Input, usize),
     Type(u64),
-    WholeInput,
+    /// The size of an input.
+    Whole(Input),
+    /// Neither byte nor type.
+    Nothing,
 }
 
-pub fn section_refusal(section: &[u8], refusal: No) -> Told {
-    let (cause, count) = match recheck::section::judge(section) {
-        Ok(read) => (None, read.types.len()),
-        Err(cause) => (Some(cause), 0),
-    };
-    let cause =
-        cause.filter(|cause| (cause.number, cause.place) == (refusal.number, refusal.place));
-    let place = place_of(section, refusal);
-    let (place_is, at) = match place {
-        Place::Byte(at) => ("byte", format!("byte {at}")),
-        Place::Type(number) => ("type", format!("type {number}")),
-        Place::WholeInput => ("whole", "byte 0, for the whole input".to_string()),
-    };
-    let cause = cause.or_else(|| absent(count, refusal));
+pub fn section_refusal(sections: &Sections, refusal: Refusal) -> Told {
+    let all = recheck::section::read(sections);
+    let cause = cause_of(sections, refusal);
+    let place = place_of(sections, refusal);
+    let holder = holder_of(&all, place);
     let words = reason(refusal.number, cause.as_ref());
-    let mut text = wrapped(&words);
-    match place {
-        Place::Byte(at) => text += &around(section, item_at(section, at, refusal.number)),
-        Place::Type(number) => text += &around_type(section, number),
-        Place::WholeInput => (),
-    }
+    let mut text = wrapped(&words) + &marked(sections, &all, place, refusal.number);
     if let Some(cause) = &cause {
-        text += &shown_text(cause, Input::Section, section, "\n");
+        text += &shown(sections, cause, holder);
     }
-    text += byte_remark(section);
+    text += holder.map_or("", |input| byte_remark(sections.of(input)));
+    let (place_is, at) = named(sections, &all, place);
     Told {
         headline: format!("no: refusal {} at {at}", refusal.number),
-        of: "section",
+        of: match holder {
+            Some(input) if sections.has_library() => of_types(input),
+            _ => "section",
+        },
         place_is,
+        own_number: match place {
+            Place::Type(number) => own_number(&all, number),
+            _ => None,
+        },
         words,
         text,
     }
 }
 
-/// Asked for a type that is not there: no rule of the section is broken.
-fn absent(count: usize, refusal: No) -> Option<Cause> {
-    let number = refusal.place;
-    let words =
-        format!("the section has {}; there is no type {number}", counted(count as u64, "type"));
-    (refusal.number == 6).then(|| Cause::new(6, number as usize, words))
-}
-
-/// The sizes of a list or of the table are a byte's; the chain's is a type's, said once all bytes have been read.
-fn place_of(section: &[u8], refusal: No) -> Place {
-    match refusal.number {
-        SIZE_EXCEEDED if section.len() > INPUT_BYTES => Place::WholeInput,
-        SIZE_EXCEEDED if crate::read::section::read(section).fault.is_none() => {
-            Place::Type(refusal.place)
-        }
-        1..=5 | NUMBER_PADDED => Place::Byte(refusal.place as usize),
-        14 => Place::WholeInput,
-        _ => Place::Type(refusal.place),
+/// Where the second check came to the loader's refusal, or the section was asked for a type that is not there.
+fn cause_of(sections: &Sections, refusal: Refusal) -> Option<Cause> {
+    match recheck::section::judge(sections) {
+        Ok(all) => absent(&all, refusal),
+        Err(cause) => Some(cause).filter(|cause| cause.refusal == refusal),
     }
 }
 
-/// A type's bytes, marked.
-fn around_type(section: &[u8], number: u64) -> String {
-    let read = crate::read::section::read(section);
-    let own = usize::try_from(number).ok().and_then(|number| read.types.get(number));
-    own.map_or(String::new(), |own| around(section, own.bytes.clone()))
+/// Asked for a type that is not there: no rule of the sections is broken.
+fn absent(all: &Joined, refusal: Refusal) -> Option<Cause> {
+    let number = refusal.place;
+    let words = format!("{}; there is no type {number}", all.has());
+    (refusal.number == 6).then(|| Cause::new(6, number as usize, words))
+}
+
+/// A place with an input is a byte there, 0 for the whole of it where it is too long; any other is a type's number, but for
+/// the 0 of 14.
+fn place_of(sections: &Sections, refusal: Refusal) -> Place {
+    match (refusal.input, refusal.number) {
+        (Some(input), 4) if sections.of(input).len() > INPUT_BYTES => Place::Whole(input),
+        (Some(input), _) => Place::Byte(input, refusal.place as usize),
+        (None, 14) => Place::Nothing,
+        (None, _) => Place::Type(refusal.place),
+    }
+}
+
+/// The section at fault.
+fn holder_of(all: &Joined, place: Place) -> Option<Input> {
+    match place {
+        Place::Byte(input, _) | Place::Whole(input) => Some(input),
+        Place::Type(number) => all.type_of(number).map(|own| own.input),
+        Place::Nothing => None,
+    }
+}
+
+fn own_number(all: &Joined, number: u64) -> Option<usize> {
+    all.own_number(usize::try_from(number).ok()?)
+}
+
+/// The bytes at fault, marked.
+fn marked(sections: &Sections, all: &Joined, place: Place, number: u64) -> String {
+    match place {
+        Place::Byte(input, at) => {
+            let bytes = sections.of(input);
+            around(bytes, item_at(bytes, at, number))
+        }
+        Place::Type(number) => all
+            .type_of(number)
+            .map_or(String::new(), |own| around(sections.of(own.input), own.bytes.clone())),
+        Place::Whole(_) | Place::Nothing => String::new(),
+    }
+}
+
+/// First the parts of the section at fault, whose bytes stand above, then those of the other one.
+fn shown(sections: &Sections, cause: &Cause, holder: Option<Input>) -> String {
+    let first = holder.unwrap_or(Input::Addon);
+    let (second, heading) = match first {
+        Input::Library => (Input::Addon, "  in the add-on:\n"),
+        Input::Addon => (Input::Library, "  in the library:\n"),
+    };
+    let of = |input, before| {
+        shown_text(cause, recheck::Holder::Section(input), sections.of(input), before)
+    };
+    of(first, "\n") + &of(second, heading)
+}
+
+/// As JSON has it, and in a headline. Where no library was named, nothing is said of the input.
+fn named(sections: &Sections, all: &Joined, place: Place) -> (&'static str, String) {
+    let of = |input| match sections.has_library() {
+        true => format!(" of {}", sections::words(input)),
+        false => String::new(),
+    };
+    match place {
+        Place::Byte(input, at) => ("byte", format!("byte {at}{}", of(input))),
+        Place::Whole(input) => ("whole", format!("byte 0{}, for the whole input", of(input))),
+        Place::Nothing => ("whole", "byte 0, for the whole input".to_string()),
+        Place::Type(number) => {
+            let library = holder_of(all, place) == Some(Input::Library);
+            let at = match library {
+                true => format!("type {number}{}", of(Input::Library)),
+                false => all.label(number),
+            };
+            ("type", at)
+        }
+    }
 }

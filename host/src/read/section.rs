@@ -3,15 +3,17 @@
 use super::reader::{Fault, Padded, Padding, Reader, BYTES_END, NOT_LISTED, SIZE_EXCEEDED};
 use super::types;
 use crate::syntax::{Form, Front, Placed, Type};
+use chelbugan::Input;
 use std::fmt::Display;
 use std::ops::Range;
 
-/// The sizes that a section's reader looks at.
-const TYPES: usize = 256;
+/// The sizes that a section's reader looks at: types of both sections together, and entries of a list.
+const TYPES: usize = 1_024;
 const ENTRIES: u32 = 64;
 
 pub struct Section {
     pub groups: Vec<Group>,
+    /// Its own alone.
     pub types: Vec<Type>,
     pub lines: Vec<Line>,
     /// Where the part begins that could not be read, and why; none where the whole section was.
@@ -20,7 +22,7 @@ pub struct Section {
     pub padded: Vec<Padded>,
 }
 
-/// The types of a group; one definition alone is a group without 4E.
+/// The types of a group, by where they stand among the section's own; one definition alone is a group without 4E.
 pub struct Group {
     pub members: Range<usize>,
     pub alone: bool,
@@ -32,13 +34,20 @@ pub struct Line {
     pub text: String,
 }
 
-/// As the loader reads.
-pub fn read(bytes: &[u8]) -> Section {
-    read_with(bytes, Padding::Refused)
+/// The library, whose types are the first.
+pub fn read_library(bytes: &[u8], padding: Padding) -> Section {
+    read(bytes, Input::Library, 0, padding)
 }
 
-pub fn read_with(bytes: &[u8], padding: Padding) -> Section {
+/// The add-on's section after so many types of the library.
+pub fn read_addon(bytes: &[u8], before: usize, padding: Padding) -> Section {
+    read(bytes, Input::Addon, before, padding)
+}
+
+fn read(bytes: &[u8], input: Input, before: usize, padding: Padding) -> Section {
     let mut parts = Parts {
+        input,
+        before,
         reader: Reader::new(bytes, padding),
         groups: Vec::new(),
         types: Vec::new(),
@@ -59,6 +68,8 @@ pub fn read_with(bytes: &[u8], padding: Padding) -> Section {
 }
 
 struct Parts<'a> {
+    input: Input,
+    before: usize,
     reader: Reader<'a>,
     groups: Vec<Group>,
     types: Vec<Type>,
@@ -102,6 +113,11 @@ impl Parts<'_> {
         Err(Fault::new(BYTES_END, self.reader.place, why))
     }
 
+    /// Of both sections, as far as they were read.
+    fn count(&self) -> usize {
+        self.before + self.types.len()
+    }
+
     fn group(&mut self) -> Result<(), Fault> {
         let first = self.types.len();
         let alone = !self.reader.takes(0x4E);
@@ -119,26 +135,29 @@ impl Parts<'_> {
             }
             self.indent -= 1;
         }
-        let reach = self.types.len();
+        let reach = self.count();
         self.types[first..].iter_mut().for_each(|member| member.reach = reach);
-        self.groups.push(Group { members: first..reach, alone });
+        self.groups.push(Group { members: first..self.types.len(), alone });
         Ok(())
     }
 
     fn room(&self) -> Result<(), Fault> {
-        match self.types.len() < TYPES {
-            true => Ok(()),
-            false => Err(Fault::new(
-                SIZE_EXCEEDED,
-                self.reader.place,
-                "a type beyond the 256 that a section may have begins here",
-            )),
+        if self.count() < TYPES {
+            return Ok(());
         }
+        let why = match self.before {
+            0 => "a type beyond the 1,024 that a section may have begins here".to_string(),
+            before => format!(
+                "a type beyond the 1,024 that the library and the add-on may have together begins \
+                 here; the library has {before}"
+            ),
+        };
+        Err(Fault::new(SIZE_EXCEEDED, self.reader.place, why))
     }
 
     fn definition(&mut self) -> Result<(), Fault> {
         let start = self.reader.place;
-        self.label = format!("type {}: ", self.types.len());
+        self.label = format!("type {}: ", self.count());
         let front = self.front()?;
         let describes = self.clause(0x4C, "describes")?;
         let descriptor = self.clause(0x4D, "descriptor")?;
@@ -147,6 +166,7 @@ impl Parts<'_> {
         // The reach is known when the group has been read.
         let reach = 0;
         self.types.push(Type {
+            input: self.input,
             bytes,
             front,
             describes,
@@ -217,7 +237,7 @@ impl Parts<'_> {
         let mut entries = Vec::new();
         for number in 0..count {
             if number >= ENTRIES {
-                let of = self.types.len();
+                let of = self.count();
                 let why =
                     format!("a {word} beyond the {ENTRIES} that type {of} may have begins here");
                 return Err(Fault::new(SIZE_EXCEEDED, self.reader.place, why));

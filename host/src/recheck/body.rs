@@ -1,8 +1,9 @@
 //! The first fault of a body whose section was accepted: its size, its number, its locals, then instruction by instruction.
 
 use super::order::Fit;
+use super::section::type_part;
 use super::stack::{Frame, Kind, Operand};
-use super::{counted, Cause, Input, INPUT_BYTES};
+use super::{Cause, Holder, Joined, INPUT_BYTES};
 use crate::read;
 use crate::syntax::{Form, Heap, Instruction, Item, Placed, Plain, Type, ValueType};
 
@@ -12,27 +13,21 @@ const OPERANDS: usize = 512;
 const FRAMES: usize = 64;
 
 /// The count of instructions, or the first fault.
-pub fn judge(types: &[Type], number: u64, body: &[u8]) -> Result<u64, Cause> {
+pub fn judge(all: &Joined, number: u64, body: &[u8]) -> Result<u64, Cause> {
     if body.len() > INPUT_BYTES {
         return Err(Cause::new(4, 0, format!("a body has at most {INPUT_BYTES} bytes")));
     }
-    let function = usize::try_from(number).ok().and_then(|number| types.get(number));
-    let Some(function) = function else {
-        let has = counted(types.len(), "type");
-        let words = format!("there is no type {number}; the section has {has}");
-        return Err(Cause::new(27, 0, words));
+    let Some(function) = all.type_of(number) else {
+        return Err(Cause::new(27, 0, all.lacks(number)));
     };
     let Form::Function { parameters, results } = &function.form else {
-        let cause = Cause::new(27, 0, format!("type {number} is a struct"));
-        return Err(cause.showing(
-            Input::Section,
-            &function.head,
-            format!("type {number}: struct"),
-        ));
+        let cause = Cause::new(27, 0, format!("{} is a struct", all.name(number)));
+        let text = format!("{}: struct", all.label(number));
+        return Err(type_part(cause, function, &function.head, text));
     };
     let values = |entries: &[Placed<ValueType>]| entries.iter().map(|it| it.what).collect();
     let read = read::body::read(body);
-    let mut check = Check::new(types, function, &read.parts, values(parameters), values(results));
+    let mut check = Check::new(all, function, &read.parts, values(parameters), values(results));
     for at in 0..read.parts.len() {
         check.part(at)?;
     }
@@ -43,6 +38,7 @@ pub fn judge(types: &[Type], number: u64, body: &[u8]) -> Result<u64, Cause> {
 }
 
 pub struct Check<'a> {
+    pub all: &'a Joined,
     pub types: &'a [Type],
     /// Of the body.
     pub function: &'a Type,
@@ -59,7 +55,7 @@ pub struct Check<'a> {
 
 impl<'a> Check<'a> {
     fn new(
-        types: &'a [Type],
+        all: &'a Joined,
         function: &'a Type,
         parts: &'a [Placed<Item>],
         parameters: Vec<ValueType>,
@@ -75,7 +71,8 @@ impl<'a> Check<'a> {
             set_before: Vec::new(),
         };
         Check {
-            types,
+            all,
+            types: &all.types,
             function,
             parts,
             forgotten: vec![None; parameters.len()],
@@ -105,13 +102,13 @@ impl<'a> Check<'a> {
     /// A cause with another part of the body beside it.
     pub fn with_part(&self, cause: Cause, at: usize, remark: &str) -> Cause {
         let part = &self.parts[at];
-        cause.showing(Input::Body, &part.bytes, format!("{}{remark}", part.what))
+        cause.showing(Holder::Body, &part.bytes, format!("{}{remark}", part.what))
     }
 
     /// An entry of the locals: 6, then 4.
     fn entry(&mut self, at: usize, count: u32, value: ValueType) -> Result<(), Cause> {
         if let Some(number) = value.number().filter(|&number| self.absent(number)) {
-            return Err(self.cause(6, at, self.no_type(number)));
+            return Err(self.cause(6, at, self.all.lacks(number)));
         }
         let all = self.locals.len() as u64 + u64::from(count);
         if all > LOCALS {
@@ -126,10 +123,6 @@ impl<'a> Check<'a> {
 
     pub fn absent(&self, number: u32) -> bool {
         number as usize >= self.types.len()
-    }
-
-    pub fn no_type(&self, number: u32) -> String {
-        format!("there is no type {number}; the section has {}", counted(self.types.len(), "type"))
     }
 
     fn instruction(&mut self, at: usize, instruction: &Instruction) -> Result<(), Cause> {
@@ -251,16 +244,16 @@ impl<'a> Check<'a> {
 /// instruction begins there or an earlier one is refused.
 #[cfg(test)]
 pub fn operands_before(
-    types: &[Type],
+    all: &Joined,
     number: u64,
     body: &[u8],
     place: usize,
 ) -> Option<(Vec<String>, bool)> {
-    let function = types.get(number as usize)?;
+    let function = all.type_of(number)?;
     let Form::Function { parameters, results } = &function.form else { return None };
     let values = |entries: &[Placed<ValueType>]| entries.iter().map(|it| it.what).collect();
     let read = read::body::read(body);
-    let mut check = Check::new(types, function, &read.parts, values(parameters), values(results));
+    let mut check = Check::new(all, function, &read.parts, values(parameters), values(results));
     for at in 0..read.parts.len() {
         let instruction = matches!(read.parts[at].what, Item::Instruction(_));
         if instruction && read.parts[at].bytes.start == place {

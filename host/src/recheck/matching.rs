@@ -1,17 +1,17 @@
 //! Rule 2: a type beside its supertype.
 
 use super::order::{value_fit, Fit};
-use super::section::section_part;
-use super::{counted, Cause};
+use super::section::type_part;
+use super::{counted, Cause, Joined};
 use crate::syntax::{Field, Form, Placed, Type, ValueType};
 use std::ops::Range;
 
 /// 8: rule 2, forms are equal and what they hold matches.
-pub fn matches_supertype(types: &[Type], number: usize) -> Option<Cause> {
-    let own = &types[number];
+pub fn matches_supertype(all: &Joined, number: usize) -> Option<Cause> {
+    let own = &all.types[number];
     let supertype = own.supertype()? as usize;
-    let upper = &types[supertype];
-    let pair = Pair { types, number, supertype };
+    let upper = &all.types[supertype];
+    let pair = Pair { all, number, supertype };
     match (&own.form, &upper.form) {
         (Form::Struct(lower), Form::Struct(above)) => pair.fields(lower, above),
         (
@@ -28,8 +28,8 @@ pub fn matches_supertype(types: &[Type], number: usize) -> Option<Cause> {
                 Form::Struct(_) => ("struct", "function"),
                 Form::Function { .. } => ("function", "struct"),
             };
-            let words =
-                format!("type {number} is a {is} and its supertype, type {supertype}, a {is_not}");
+            let above = all.name(supertype);
+            let words = format!("type {number} is a {is} and its supertype, {above}, a {is_not}");
             let cause = pair.told(words, &own.head, is);
             Some(pair.beside(cause, &upper.head, is_not))
         }
@@ -38,19 +38,28 @@ pub fn matches_supertype(types: &[Type], number: usize) -> Option<Cause> {
 
 /// A type and its supertype.
 struct Pair<'a> {
-    types: &'a [Type],
+    all: &'a Joined,
     number: usize,
     supertype: usize,
 }
 
 impl Pair<'_> {
-    fn told(&self, words: String, own: &Range<usize>, text: impl std::fmt::Display) -> Cause {
-        let cause = Cause::new(8, self.number, words);
-        section_part(cause, own, format!("type {}: {text}", self.number))
+    fn own(&self) -> &Type {
+        &self.all.types[self.number]
     }
 
-    fn beside(&self, cause: Cause, of: &Range<usize>, text: impl std::fmt::Display) -> Cause {
-        section_part(cause, of, format!("type {}, its supertype: {text}", self.supertype))
+    fn upper(&self) -> &Type {
+        &self.all.types[self.supertype]
+    }
+
+    fn told(&self, words: String, bytes: &Range<usize>, text: impl std::fmt::Display) -> Cause {
+        let text = format!("{}: {text}", self.all.label(self.number));
+        type_part(Cause::new(8, self.number, words), self.own(), bytes, text)
+    }
+
+    fn beside(&self, cause: Cause, bytes: &Range<usize>, text: impl std::fmt::Display) -> Cause {
+        let text = format!("{}, its supertype: {text}", self.all.label(self.supertype));
+        type_part(cause, self.upper(), bytes, text)
     }
 
     fn counts(
@@ -59,15 +68,14 @@ impl Pair<'_> {
         (own, own_at): (usize, &Range<usize>),
         (upper, upper_at): (usize, &Range<usize>),
     ) -> Cause {
-        let (number, supertype) = (self.number, self.supertype);
+        let (number, supertype) = (self.number, self.all.name(self.supertype));
         let (has, above) = (counted(own, word), counted(upper, word));
-        let words =
-            format!("type {number} has {has} and its supertype, type {supertype}, has {above}");
+        let words = format!("type {number} has {has} and its supertype, {supertype}, has {above}");
         self.beside(self.told(words, own_at, has), upper_at, above)
     }
 
     fn fields(&self, lower: &[Placed<Field>], upper: &[Placed<Field>]) -> Option<Cause> {
-        let (own, above) = (&self.types[self.number], &self.types[self.supertype]);
+        let (own, above) = (self.own(), self.upper());
         if lower.len() < upper.len() {
             return Some(self.counts(
                 "field",
@@ -78,8 +86,11 @@ impl Pair<'_> {
         lower.iter().zip(upper).enumerate().find_map(|(at, (low, high))| {
             let why = self.field_fault(low.what, high.what)?;
             let words = format!(
-                "field {at} of type {} is {} and its supertype, type {}, has {} there: {why}",
-                self.number, low.what, self.supertype, high.what
+                "field {at} of type {} is {} and its supertype, {}, has {} there: {why}",
+                self.number,
+                low.what,
+                self.all.name(self.supertype),
+                high.what
             );
             let cause = self.told(words, &low.bytes, format!("field {at}: {}", low.what));
             Some(self.beside(cause, &high.bytes, format!("field {at}: {}", high.what)))
@@ -91,7 +102,7 @@ impl Pair<'_> {
             (true, true) if lower.value != upper.value => {
                 Some("mutable fields have identical types".to_string())
             }
-            (false, false) if value_fit(self.types, lower.value, upper.value) != Fit::Fits => {
+            (false, false) if value_fit(&self.all.types, lower.value, upper.value) != Fit::Fits => {
                 Some(format!("{} is not below {}", lower.value, upper.value))
             }
             (true, false) | (false, true) => Some("mutability is equal in both".to_string()),
@@ -115,13 +126,16 @@ impl Pair<'_> {
                 true => (high.what, low.what),
                 false => (low.what, high.what),
             };
-            if value_fit(self.types, below, above) == Fit::Fits {
+            if value_fit(&self.all.types, below, above) == Fit::Fits {
                 return None;
             }
             let words = format!(
-                "{word} {at} of type {} is {} and its supertype, type {}, has {} there: {below} is \
-                 not below {above}",
-                self.number, low.what, self.supertype, high.what
+                "{word} {at} of type {} is {} and its supertype, {}, has {} there: {below} is not \
+                 below {above}",
+                self.number,
+                low.what,
+                self.all.name(self.supertype),
+                high.what
             );
             let cause = self.told(words, &low.bytes, format!("{word} {at}: {}", low.what));
             Some(self.beside(cause, &high.bytes, format!("{word} {at}: {}", high.what)))

@@ -93,7 +93,7 @@ impl Check<'_> {
                 self.cause(OPERAND, at, format!("{name} wants {want} {where_}, and {has}"))
             }
         };
-        cause.operands = Some(self.operands_told(wanted, &[]));
+        cause.operands = Some(Box::new(self.operands_told(wanted, &[])));
         cause
     }
 
@@ -115,7 +115,7 @@ impl Check<'_> {
         let words = format!("{left} at `end` below its {}", counted(wanted.len(), "result"));
         let mut cause = self.cause(VALUES_LEFT, at, words);
         cause = self.with_part(cause, last.by, &format!(", which put {last} there"));
-        cause.operands = Some(self.operands_told(wanted, taken));
+        cause.operands = Some(Box::new(self.operands_told(wanted, taken)));
         Err(cause)
     }
 }

@@ -75,6 +75,7 @@ fn heap_below(types: &[Type], lower: Heap, upper: Heap) -> bool {
 }
 
 /// Whether one type fits another.
+#[allow(clippy::enum_variant_names)] // Document 02's words for the three outcomes.
 #[derive(Clone, Copy, Debug, PartialEq, Eq)]
 pub enum Fit {
     /// It is below the other.

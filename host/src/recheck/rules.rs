@@ -2,15 +2,15 @@
 
 use super::body::Check;
 use super::order::{reference_fit, top_of, Fit};
-use super::{counted, Input, Shown};
+use super::{counted, Holder, Shown};
 use crate::syntax::{BranchingCast, Field, Heap, Instruction, New, Placed, Type, ValueType};
 use std::ops::Range;
 
 /// The refusal's number, its words, and the parts that they speak of.
 type Broken = (u64, String, Vec<Shown>);
 
-fn in_section(bytes: &Range<usize>, text: String) -> Vec<Shown> {
-    vec![Shown { of: Input::Section, bytes: bytes.clone(), text }]
+fn of_type(own: &Type, bytes: &Range<usize>, text: String) -> Vec<Shown> {
+    vec![Shown { of: Holder::Section(own.input), bytes: bytes.clone(), text }]
 }
 
 impl Check<'_> {
@@ -26,7 +26,7 @@ impl Check<'_> {
 
     fn number_absent(&self, instruction: &Instruction) -> Option<Broken> {
         let number = instruction.numbers().into_iter().find(|&number| self.absent(number))?;
-        Some((6, self.no_type(number), Vec::new()))
+        Some((6, self.all.lacks(number), Vec::new()))
     }
 
     fn label_or_local_absent(&self, instruction: &Instruction) -> Option<Broken> {
@@ -107,16 +107,18 @@ impl Check<'_> {
         if own.fields().is_some() {
             return None;
         }
-        let words = format!("type {number} is a function, {name} takes a struct");
-        Some((23, words, in_section(&own.head, format!("type {number}: function"))))
+        let words = format!("{} is a function, {name} takes a struct", self.all.name(number));
+        let text = format!("{}: function", self.all.label(number));
+        Some((23, words, of_type(own, &own.head, text)))
     }
 
     fn unwanted_descriptor(&self, name: &str, number: u32) -> Option<Broken> {
-        let clause = self.type_of(number).descriptor.as_ref()?;
-        let words =
-            format!("type {number} has descriptor {}, {name} takes none that has", clause.what);
-        let text = format!("type {number}: descriptor {}", clause.what);
-        Some((23, words, in_section(&clause.bytes, text)))
+        let own = self.type_of(number);
+        let clause = own.descriptor.as_ref()?;
+        let (has, of) = (clause.what, self.all.name(number));
+        let words = format!("{of} has descriptor {has}, {name} takes none that has");
+        let text = format!("{}: descriptor {has}", self.all.label(number));
+        Some((23, words, of_type(own, &clause.bytes, text)))
     }
 
     fn lacks_descriptor(&self, name: &str, number: u32) -> Option<Broken> {
@@ -124,18 +126,21 @@ impl Check<'_> {
         if own.descriptor.is_some() {
             return None;
         }
-        let words = format!("type {number} has no descriptor, {name} takes a type that has one");
-        let text = format!("type {number}: no descriptor clause");
-        Some((23, words, in_section(&own.bytes, text)))
+        let of = self.all.name(number);
+        let words = format!("{of} has no descriptor, {name} takes a type that has one");
+        let text = format!("{}: no descriptor clause", self.all.label(number));
+        Some((23, words, of_type(own, &own.bytes, text)))
     }
 
     fn no_field(&self, number: u32, field: u32) -> Option<Broken> {
         if self.field(number, field).is_some() {
             return None;
         }
+        let own = self.type_of(number);
         let has = counted(self.fields(number).len(), "field");
-        let words = format!("type {number} has {has}, and no field {field}");
-        Some((23, words, in_section(&self.type_of(number).head, format!("type {number}: {has}"))))
+        let words = format!("{} has {has}, and no field {field}", self.all.name(number));
+        let text = format!("{}: {has}", self.all.label(number));
+        Some((23, words, of_type(own, &own.head, text)))
     }
 
     fn field_fixed(&self, instruction: &Instruction) -> Option<Broken> {
@@ -144,9 +149,9 @@ impl Check<'_> {
         if found.what.mutable {
             return None;
         }
-        let text = format!("type {number}: field {field}: {}, fixed", found.what);
-        let words = format!("field {field} of type {number} is fixed");
-        Some((24, words, in_section(&found.bytes, text)))
+        let text = format!("{}: field {field}: {}, fixed", self.all.label(number), found.what);
+        let words = format!("field {field} of {} is fixed", self.all.name(number));
+        Some((24, words, of_type(self.type_of(number), &found.bytes, text)))
     }
 
     /// 25: the label has types, source and target are of one hierarchy, the label's last type takes what is carried.
@@ -207,13 +212,13 @@ impl Check<'_> {
             Some(at) => {
                 let part = &self.parts[at];
                 let text = format!("{}, label {label}", part.what);
-                vec![Shown { of: Input::Body, bytes: part.bytes.clone(), text }]
+                vec![Shown { of: Holder::Body, bytes: part.bytes.clone(), text }]
             }
             None => {
                 let results: Vec<String> = frame.results.iter().map(ValueType::to_string).collect();
                 let text = format!("results of the function, label {label}: {}", listed(&results));
                 let bytes = self.function.results_head.start..self.function.bytes.end;
-                in_section(&bytes, text)
+                of_type(self.function, &bytes, text)
             }
         }
     }
@@ -222,9 +227,10 @@ impl Check<'_> {
         let Instruction::New(New { number, default: true, .. }) = *instruction else { return None };
         let fields = self.fields(number).iter().enumerate();
         let (at, field) = fields.into_iter().find(|(_, it)| !it.what.value.has_default())?;
-        let words = format!("field {at} of type {number}, {}, has no default", field.what.value);
-        let text = format!("type {number}: field {at}: {}", field.what);
-        Some((29, words, in_section(&field.bytes, text)))
+        let (of, value) = (self.all.name(number), field.what.value);
+        let words = format!("field {at} of {of}, {value}, has no default");
+        let text = format!("{}: field {at}: {}", self.all.label(number), field.what);
+        Some((29, words, of_type(self.type_of(number), &field.bytes, text)))
     }
 
     /// 22: where the local would have to be set.
@@ -250,7 +256,7 @@ impl Check<'_> {
         );
         let shown = [(opened, ""), (by, ""), (end, ", where the set is forgotten")];
         let shown = shown.map(|(at, remark)| Shown {
-            of: Input::Body,
+            of: Holder::Body,
             bytes: self.parts[at].bytes.clone(),
             text: format!("{}{remark}", self.parts[at].what),
         });

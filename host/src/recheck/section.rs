@@ -1,51 +1,87 @@
-//! The first fault of a section: its size, its bytes, then its types in two passes.
+//! The first fault of the types: the library by itself, its size, its bytes, then its types in two passes; then the add-on's
+//! section likewise, its rules asked over both.
 
+use super::clauses::{
+    clauses_agree, clauses_on_struct, described_follows, describes_earlier, descriptor_follows,
+};
 use super::matching::matches_supertype;
-use super::{counted, Cause, Input, INPUT_BYTES};
-use crate::read::section::{self, Section};
+use super::{counted, Cause, Holder, Joined, INPUT_BYTES};
+use crate::read::section::{read_addon, read_library, Section};
+use crate::read::{Fault, Padding};
+use crate::sections::Sections;
 use crate::syntax::{Form, Type};
+use chelbugan::Input;
 use std::ops::Range;
 
-/// Steps up a supertype chain.
+/// Steps up a supertype chain, over both sections.
 const CHAIN: usize = 63;
 
-pub fn judge(bytes: &[u8]) -> Result<Section, Cause> {
+pub fn judge(sections: &Sections) -> Result<Joined, Cause> {
+    let (library, addon) = read_both(sections);
+    readable(sections.library(), Input::Library, &library)?;
+    rules_kept(&Joined::library(&library, &addon))?;
+    readable(sections.addon(), Input::Addon, &addon)?;
+    let both = Joined::both(sections, library, addon);
+    rules_kept(&both)?;
+    Ok(both)
+}
+
+/// The types as far as they can be read; nothing is judged.
+pub fn read(sections: &Sections) -> Joined {
+    let (library, addon) = read_both(sections);
+    Joined::both(sections, library, addon)
+}
+
+fn read_both(sections: &Sections) -> (Section, Section) {
+    let library = read_library(sections.library(), Padding::Refused);
+    let addon = read_addon(sections.addon(), library.types.len(), Padding::Refused);
+    (library, addon)
+}
+
+/// Size, then bytes.
+fn readable(bytes: &[u8], input: Input, read: &Section) -> Result<(), Cause> {
     if bytes.len() > INPUT_BYTES {
-        return Err(Cause::new(4, 0, format!("a section has at most {INPUT_BYTES} bytes")));
+        let what = match input {
+            Input::Library => "a library",
+            Input::Addon => "a section",
+        };
+        let why = format!("{what} has at most {INPUT_BYTES} bytes");
+        return Err(Cause::at_byte(input, Fault::new(4, 0, why)));
     }
-    let read = section::read(bytes);
-    if let Some((_, fault)) = read.fault {
-        return Err(Cause::new(fault.number, fault.place, fault.why));
+    match &read.fault {
+        Some((_, fault)) => Err(Cause::at_byte(input, fault.clone())),
+        None => Ok(()),
     }
-    let types = &read.types;
-    for number in 0..types.len() {
-        first(types, number, &[in_reach, supertype_open, chain_short])?;
-    }
-    for number in 0..types.len() {
-        let rules: [Rule; 6] = [
+}
+
+/// Type by type 6, 7 and the chain, then type by type the others.
+fn rules_kept(all: &Joined) -> Result<(), Cause> {
+    let passes: [&[Rule]; 2] = [
+        &[in_reach, supertype_open, chain_short],
+        &[
             matches_supertype,
             clauses_on_struct,
             describes_earlier,
             clauses_agree,
             descriptor_follows,
             described_follows,
-        ];
-        first(types, number, &rules)?;
+        ],
+    ];
+    for rules in passes {
+        for number in all.judged() {
+            if let Some(cause) = rules.iter().find_map(|rule| rule(all, number)) {
+                return Err(cause);
+            }
+        }
     }
-    Ok(read)
+    Ok(())
 }
 
-type Rule = fn(&[Type], usize) -> Option<Cause>;
+type Rule = fn(&Joined, usize) -> Option<Cause>;
 
-fn first(types: &[Type], number: usize, rules: &[Rule]) -> Result<(), Cause> {
-    match rules.iter().find_map(|rule| rule(types, number)) {
-        None => Ok(()),
-        Some(cause) => Err(cause),
-    }
-}
-
-pub fn section_part(cause: Cause, bytes: &Range<usize>, text: String) -> Cause {
-    cause.showing(Input::Section, bytes, text)
+/// A part of a type beside the cause.
+pub fn type_part(cause: Cause, own: &Type, bytes: &Range<usize>, text: String) -> Cause {
+    cause.showing(Holder::Section(own.input), bytes, text)
 }
 
 /// A type's numbers with what names them and where.
@@ -73,31 +109,39 @@ fn named(own: &Type) -> Vec<(u32, &Range<usize>, String)> {
 }
 
 /// 6: a number may name any type up to the end of its own group.
-fn in_reach(types: &[Type], number: usize) -> Option<Cause> {
-    let own = &types[number];
-    let reach = own.reach;
-    let all = named(own);
-    let (far, bytes, what) = all.iter().find(|(far, ..)| *far as usize >= reach)?;
-    let why = match (*far as usize) < types.len() {
-        true => format!(
-            "type {far} stands in a later group; the last of its own group is {}",
-            reach - 1
-        ),
-        false => {
-            format!("there is no type {far}; the section has {}", counted(types.len(), "type"))
-        }
-    };
+fn in_reach(all: &Joined, number: usize) -> Option<Cause> {
+    let own = &all.types[number];
+    let names = named(own);
+    let (far, bytes, what) = names.iter().find(|(far, ..)| *far as usize >= own.reach)?;
+    let why = out_of_reach(all, own, *far as usize);
     let cause = Cause::new(6, number, format!("{what} of type {number} names type {far}: {why}"));
-    Some(section_part(cause, bytes, format!("type {number}: {what} names {far}")))
+    Some(type_part(cause, own, bytes, format!("{}: {what} names {far}", all.label(number))))
+}
+
+fn out_of_reach(all: &Joined, own: &Type, far: usize) -> String {
+    let count = all.types.len();
+    if far < count {
+        let last = own.reach - 1;
+        return format!("type {far} stands in a later group; the last of its own group is {last}");
+    }
+    match far - count < all.after {
+        true => format!(
+            "that would be the add-on's type {}, and the library cannot name the add-on's types; the \
+             library has {}",
+            far - count,
+            counted(count, "type")
+        ),
+        false => all.lacks(far),
+    }
 }
 
 /// 7: at most one supertype; it is earlier and open.
-fn supertype_open(types: &[Type], number: usize) -> Option<Cause> {
-    let own = &types[number];
+fn supertype_open(all: &Joined, number: usize) -> Option<Cause> {
+    let own = &all.types[number];
     let front = own.front.as_ref()?;
     let told = |words: String| {
-        let cause = Cause::new(7, number, words);
-        section_part(cause, &front.bytes, format!("type {number}: {}", front_text(own)))
+        let text = format!("{}: {}", all.label(number), front_text(own));
+        type_part(Cause::new(7, number, words), own, &front.bytes, text)
     };
     match own.supertypes() {
         [] => None,
@@ -105,12 +149,13 @@ fn supertype_open(types: &[Type], number: usize) -> Option<Cause> {
             Some(told(format!("type {number} has supertype {supertype}, which is not earlier")))
         }
         [supertype] => {
-            let upper = &types[*supertype as usize];
-            if upper.is_open() {
+            let supertype = *supertype as usize;
+            if all.types[supertype].is_open() {
                 return None;
             }
-            let cause = told(format!("type {supertype}, the supertype of type {number}, is final"));
-            Some(front_shown(cause, upper, *supertype as usize))
+            let upper = all.name(supertype);
+            let cause = told(format!("{upper}, the supertype of type {number}, is final"));
+            Some(front_shown(cause, all, supertype))
         }
         many => Some(told(format!("type {number} has {} supertypes; one is the most", many.len()))),
     }
@@ -121,173 +166,37 @@ fn front_text(own: &Type) -> String {
 }
 
 /// Openness and supertypes of another type; its first bytes where it says neither.
-fn front_shown(cause: Cause, other: &Type, number: usize) -> Cause {
+pub fn front_shown(cause: Cause, all: &Joined, number: usize) -> Cause {
+    let (other, label) = (&all.types[number], all.label(number));
     match &other.front {
         Some(front) => {
-            section_part(cause, &front.bytes, format!("type {number}: {}", front_text(other)))
+            type_part(cause, other, &front.bytes, format!("{label}: {}", front_text(other)))
         }
         None => {
-            let text =
-                format!("type {number}: neither 50 nor 4f before it, so final, no supertype");
-            section_part(cause, &other.head, text)
+            let text = format!("{label}: neither 50 nor 4f before it, so final, no supertype");
+            type_part(cause, other, &other.head, text)
         }
     }
 }
 
-/// 4: at most 63 steps from type to supertype.
-fn chain_short(types: &[Type], number: usize) -> Option<Cause> {
-    let mut steps = 0;
-    let mut step = types[number].supertype();
-    while let Some(supertype) = step {
+/// 4: at most 63 steps from type to supertype, and how many of them are taken inside the library.
+fn chain_short(all: &Joined, number: usize) -> Option<Cause> {
+    let (mut steps, mut in_library) = (0, 0);
+    let mut at = number;
+    while let Some(supertype) = all.types[at].supertype() {
         steps += 1;
-        step = types[supertype as usize].supertype();
+        in_library += (at < all.before) as usize;
+        at = supertype as usize;
     }
-    let words =
-        format!("{steps} steps up the supertype chain of type {number}; {CHAIN} are the most");
-    let cause = (steps > CHAIN).then(|| Cause::new(4, number, words))?;
-    Some(front_shown(cause, &types[number], number))
-}
-
-/// 9: clauses stand on structs only.
-fn clauses_on_struct(types: &[Type], number: usize) -> Option<Cause> {
-    let own = &types[number];
-    let clause = own.describes.as_ref().map(|it| (it, "describes"));
-    let (clause, word) = clause.or(own.descriptor.as_ref().map(|it| (it, "descriptor")))?;
-    if own.fields().is_some() {
+    if steps <= CHAIN {
         return None;
     }
-    let words = format!("type {number} is a function and says {word} {}", clause.what);
-    let cause = Cause::new(9, number, words);
-    let cause =
-        section_part(cause, &clause.bytes, format!("type {number}: {word} {}", clause.what));
-    Some(section_part(cause, &own.head, "function".to_string()))
-}
-
-/// 10: describes names an earlier type.
-fn describes_earlier(types: &[Type], number: usize) -> Option<Cause> {
-    let clause = types[number].describes.as_ref()?;
-    let described = clause.what;
-    if (described as usize) < number {
-        return None;
-    }
-    let words = format!("type {number} describes type {described}, which is not earlier");
-    let cause = Cause::new(10, number, words);
-    Some(section_part(cause, &clause.bytes, format!("type {number}: describes {described}")))
-}
-
-fn or_nothing(number: Option<u32>) -> String {
-    number.map_or("nothing".to_string(), |number| number.to_string())
-}
-
-fn or_none(number: Option<u32>) -> String {
-    number.map_or("none".to_string(), |number| number.to_string())
-}
-
-/// The clause of another type; its form where it has no such clause.
-fn clause_shown(cause: Cause, other: &Type, number: u32, word: &str) -> Cause {
-    let clause = if word == "describes" { &other.describes } else { &other.descriptor };
-    match clause {
-        Some(clause) => {
-            section_part(cause, &clause.bytes, format!("type {number}: {word} {}", clause.what))
-        }
-        None => section_part(cause, &other.bytes, format!("type {number}: no {word} clause")),
-    }
-}
-
-/// 11: if x has descriptor y then y describes x, and the reverse.
-fn clauses_agree(types: &[Type], number: usize) -> Option<Cause> {
-    let own = &types[number];
-    let this = Some(number as u32);
-    if let Some(clause) = &own.descriptor {
-        let other = &types[clause.what as usize];
-        if other.describes() != this {
-            let words = format!(
-                "type {number} has descriptor {}, but type {} describes {}",
-                clause.what,
-                clause.what,
-                or_nothing(other.describes())
-            );
-            let cause = Cause::new(11, number, words);
-            let text = format!("type {number}: descriptor {}", clause.what);
-            let cause = section_part(cause, &clause.bytes, text);
-            return Some(clause_shown(cause, other, clause.what, "describes"));
-        }
-    }
-    let clause = own.describes.as_ref()?;
-    let other = &types[clause.what as usize];
-    if other.descriptor() == this {
-        return None;
-    }
-    let words = format!(
-        "type {number} describes {}, but the descriptor of type {} is {}",
-        clause.what,
-        clause.what,
-        or_none(other.descriptor())
-    );
-    let cause = Cause::new(11, number, words);
-    let text = format!("type {number}: describes {}", clause.what);
-    let cause = section_part(cause, &clause.bytes, text);
-    Some(clause_shown(cause, other, clause.what, "descriptor"))
-}
-
-/// 12, rule 4: if the supertype has descriptor y, the type has a descriptor whose supertype is y.
-fn descriptor_follows(types: &[Type], number: usize) -> Option<Cause> {
-    let own = &types[number];
-    let supertype = own.supertype()?;
-    let upper = &types[supertype as usize];
-    let wanted = upper.descriptor()?;
-    let (words, other) = match own.descriptor() {
-        None => (format!("type {number} has none"), None),
-        Some(has) => {
-            let above = types[has as usize].supertype();
-            if above == Some(wanted) {
-                return None;
-            }
-            let words = format!(
-                "type {number} has descriptor {has}, whose supertype is {} and not {wanted}",
-                or_none(above)
-            );
-            (words, Some(has))
-        }
+    let of_them = match in_library {
+        0 => String::new(),
+        count => format!(", {count} of them in the library"),
     };
-    let words = format!("type {supertype}, its supertype, has descriptor {wanted}; {words}");
-    let cause = Cause::new(12, number, words);
-    let cause = clause_shown(cause, own, number as u32, "descriptor");
-    let cause = clause_shown(cause, upper, supertype, "descriptor");
-    Some(match other {
-        None => cause,
-        Some(has) => front_shown(cause, &types[has as usize], has as usize),
-    })
-}
-
-/// 13, rule 5: both describe or neither does; the described types stand as subtype and supertype too.
-fn described_follows(types: &[Type], number: usize) -> Option<Cause> {
-    let own = &types[number];
-    let supertype = own.supertype()?;
-    let upper = &types[supertype as usize];
-    let mut words = format!(
-        "type {number} describes {}; type {supertype}, its supertype, describes {}",
-        or_nothing(own.describes()),
-        or_nothing(upper.describes())
+    let words = format!(
+        "{steps} steps up the supertype chain of type {number}{of_them}; {CHAIN} are the most"
     );
-    let mut other = None;
-    match (own.describes(), upper.describes()) {
-        (None, None) => return None,
-        (Some(lower), Some(above)) => {
-            let has = types[lower as usize].supertype();
-            if has == Some(above) {
-                return None;
-            }
-            words += &format!(", but the supertype of type {lower} is {}", or_none(has));
-            other = Some(lower as usize);
-        }
-        _ => (),
-    }
-    let cause = Cause::new(13, number, words);
-    let cause = clause_shown(cause, own, number as u32, "describes");
-    let cause = clause_shown(cause, upper, supertype, "describes");
-    Some(match other {
-        None => cause,
-        Some(lower) => front_shown(cause, &types[lower], lower),
-    })
+    Some(front_shown(Cause::new(4, number, words), all, number))
 }

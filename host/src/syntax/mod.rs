@@ -7,6 +7,7 @@ mod numeric;
 pub use instruction::{BranchingCast, Instruction, Item, New, Plain, PLAIN};
 pub use numeric::Numeric;
 
+use chelbugan::Input;
 use std::fmt;
 use std::ops::Range;
 
@@ -141,6 +142,8 @@ pub enum Form {
 /// A definition with where its parts lie and how far its numbers reach.
 #[derive(Clone, Debug)]
 pub struct Type {
+    /// The section that holds it; all its places are offsets there.
+    pub input: Input,
     pub bytes: Range<usize>,
     /// 50 or 4F with the supertypes; none where neither stands.
     pub front: Option<Placed<Front>>,
@@ -151,7 +154,7 @@ pub struct Type {
     /// The count of results; empty for a struct.
     pub results_head: Range<usize>,
     pub form: Form,
-    /// The count of types up to the end of its own group.
+    /// The count of types up to the end of its own group, the library's among them.
     pub reach: usize,
 }
 

@@ -9,9 +9,10 @@ use std::collections::HashMap;
 /// Names of types by their numbers.
 pub type Names<'a> = HashMap<&'a str, u32>;
 
-pub fn section(text: &str) -> Result<Vec<u8>, Fault> {
+/// The first definition has the number after the library's last: so many come before it.
+pub fn section(text: &str, before: usize) -> Result<Vec<u8>, Fault> {
     let mut words = Words::new(text)?;
-    let names = type_names(&words)?;
+    let names = type_names(&words, before as u32)?;
     let mut types = Types { names, in_section: true };
     let (mut groups, mut bytes) = (0, Vec::new());
     while words.peek().is_some() {
@@ -41,9 +42,9 @@ pub fn body(text: &str) -> Result<Vec<u8>, Fault> {
 }
 
 /// Each definition's name, before any is read: a type may name a later one.
-fn type_names<'a>(words: &Words<'a>) -> Result<Names<'a>, Fault> {
+fn type_names<'a>(words: &Words<'a>, before: u32) -> Result<Names<'a>, Fault> {
     let mut names = HashMap::new();
-    let mut count = 0;
+    let mut count = before;
     for three in words.all().windows(3) {
         if three[0].text == "(" && three[1].text == "type" {
             let name = three[2];

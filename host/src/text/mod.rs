@@ -1,5 +1,7 @@
 //! Sections and bodies in WebAssembly's text: printed from bytes, and assembled back. Nothing is judged.
 //!
+//! A section's types are numbered on after the library's, which its text names by their numbers and does not define.
+//!
 //! The text says all that the bytes say but for padding of numbers, which the loader refuses: bytes without padding come
 //! back as they were, and padded ones mended.
 

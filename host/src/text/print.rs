@@ -3,6 +3,7 @@
 use crate::dump::{ends, opens};
 use crate::read::{self, Fault, Padding};
 use crate::syntax::{Abstract, Field, Form, Heap, Instruction, Item, Placed, Type, ValueType};
+use std::ops::Range;
 
 /// Blocks inside one another beyond these are not moved further to the right.
 const INDENT_AT_MOST: usize = 8;
@@ -10,17 +11,18 @@ const INDENT_AT_MOST: usize = 8;
 /// Entries of so many locals are written out; of others the count is.
 pub const WRITTEN_OUT: u32 = 16;
 
-pub fn section(bytes: &[u8]) -> Result<String, Fault> {
-    let read = read::section::read_with(bytes, Padding::Noted);
+/// A section whose types are numbered on after so many of the library, which its text names by their numbers.
+pub fn section(bytes: &[u8], before: usize) -> Result<String, Fault> {
+    let read = read::section::read_addon(bytes, before, Padding::Noted);
     if let Some((_, fault)) = read.fault {
         return Err(fault);
     }
-    let printer = Printer { bytes, count: read.types.len() };
-    let mut text = remark(!read.padded.is_empty()).to_string();
+    let printer = Printer { bytes, named: before..before + read.types.len() };
+    let mut text = remark(!read.padded.is_empty()).to_string() + &library_remark(before);
     for group in &read.groups {
         let members = group.members.clone();
         let lines: Vec<String> =
-            members.map(|number| printer.definition(number, &read.types[number])).collect();
+            members.map(|own| printer.definition(before + own, &read.types[own])).collect();
         text += &match (group.alone, lines.is_empty()) {
             (true, _) => format!("{}\n", lines.concat()),
             (false, true) => "(rec)\n".to_string(),
@@ -35,7 +37,7 @@ pub fn body(bytes: &[u8]) -> Result<String, Fault> {
     if let Some((_, fault)) = read.fault {
         return Err(fault);
     }
-    let printer = Printer { bytes, count: 0 };
+    let printer = Printer { bytes, named: 0..0 };
     let mut text = format!("{}(func\n", remark(!read.padded.is_empty()));
     let mut frames = 1;
     for (index, part) in read.parts.iter().enumerate() {
@@ -59,10 +61,19 @@ fn remark(padded: bool) -> &'static str {
     }
 }
 
+/// Whose numbers the text names without defining them.
+fn library_remark(before: usize) -> String {
+    match before {
+        0 => String::new(),
+        1 => ";; type 0 is the library's\n".to_string(),
+        _ => format!(";; types 0 to {} are the library's\n", before - 1),
+    }
+}
+
 struct Printer<'a> {
     bytes: &'a [u8],
-    /// Types that have a name.
-    count: usize,
+    /// The numbers of the types that the text defines, which have a name.
+    named: Range<usize>,
 }
 
 impl Printer<'_> {
@@ -85,7 +96,7 @@ impl Printer<'_> {
 
     /// By its name where the section has it.
     fn number(&self, number: u32) -> String {
-        match (number as usize) < self.count {
+        match self.named.contains(&(number as usize)) {
             true => format!("${number}"),
             false => number.to_string(),
         }

@@ -1,64 +1,129 @@
 //! The law of `print` and `assemble`, and the text's forms.
 
-use super::*;
+use super::{assemble_body, print_body};
 use crate::hex::read_text;
-use crate::read::Padding;
-use crate::{dump, read};
+use crate::read::section::{read_addon, read_library};
+use crate::read::{self, Padding};
+use crate::{dump, text};
 use plain::generate;
+use plain::lines::{read_request, Request};
 
-fn bytes(text: &str) -> Vec<u8> {
-    plain::lines::read_bytes(text).expect("hex")
+fn requests(seed: u64, count: usize, small: bool) -> impl Iterator<Item = Request> {
+    generate::requests(seed, count, small).map(|line| read_request(&line).expect("a request"))
 }
 
-type Print = fn(&[u8]) -> Result<String, read::Fault>;
+/// How many types of the library can be read.
+fn types_before(request: &Request) -> usize {
+    read_library(request.library(), Padding::Noted).types.len()
+}
+
+/// Without a library.
+fn print_section(bytes: &[u8]) -> Result<String, read::Fault> {
+    text::print_section(bytes, 0)
+}
+
+fn assemble_section(text: &str) -> Result<Vec<u8>, text::tokens::Fault> {
+    text::assemble_section(text, 0)
+}
+
+/// A section after so many types of a library, or a body.
+#[derive(Clone, Copy)]
+enum Kind {
+    Section(usize),
+    Body,
+}
+
+impl Kind {
+    fn print(self, bytes: &[u8]) -> Result<String, read::Fault> {
+        match self {
+            Kind::Section(before) => text::print_section(bytes, before),
+            Kind::Body => print_body(bytes),
+        }
+    }
+
+    fn assemble(self, text: &str) -> Result<Vec<u8>, text::tokens::Fault> {
+        match self {
+            Kind::Section(before) => text::assemble_section(text, before),
+            Kind::Body => assemble_body(text),
+        }
+    }
+
+    /// Whether the bytes can be read, and then whether the loader would say 32 of them, were it all that is wrong.
+    fn padded(self, bytes: &[u8]) -> Option<bool> {
+        let (fault, padded) = match self {
+            Kind::Section(before) => {
+                let read = read_addon(bytes, before, Padding::Noted);
+                (read.fault, read.padded)
+            }
+            Kind::Body => {
+                let read = read::body::read_with(bytes, Padding::Noted);
+                (read.fault, read.padded)
+            }
+        };
+        fault.is_none().then_some(!padded.is_empty())
+    }
+}
 
 /// Printed and assembled: the same bytes where no number is padded, bytes without padding where one is, and always the same
 /// text.
-fn held(bytes: &[u8], padded: bool, print: Print, is_section: bool) {
-    let text = print(bytes).expect("it can be read");
-    let assemble = if is_section { assemble_section } else { assemble_body };
-    let back = match assemble(&text) {
+fn held(kind: Kind, bytes: &[u8], padded: bool) {
+    let text = kind.print(bytes).expect("it can be read");
+    let back = match kind.assemble(&text) {
         Ok(back) => back,
         Err(fault) => panic!("{fault}\n{text}"),
     };
     if padded {
         assert!(back.len() < bytes.len());
-        assert!(!is_padded(&back, is_section));
-        let again = print(&back).expect("it can be read");
+        assert_eq!(kind.padded(&back), Some(false));
+        let again = kind.print(&back).expect("it can be read");
         assert_eq!(text.split_once('\n').map(|(_, rest)| rest), Some(again.as_str()));
     } else {
         assert_eq!(back, bytes, "{text}");
     }
 }
 
-/// Whether the loader would say 32 of it, were it all that is wrong.
-fn is_padded(bytes: &[u8], is_section: bool) -> bool {
-    let padded = match is_section {
-        true => read::section::read_with(bytes, Padding::Noted).padded,
-        false => read::body::read_with(bytes, Padding::Noted).padded,
-    };
-    !padded.is_empty()
-}
-
 #[test]
 fn printed_and_assembled_bytes_are_the_same() {
-    let mut counts = [0; 4];
-    for line in generate::requests(20_260_808, 6_000, false) {
-        let parts: Vec<&str> = line.split(' ').collect();
-        let section = bytes(parts[1]);
-        if read::section::read_with(&section, Padding::Noted).fault.is_none() {
-            let padded = is_padded(&section, true);
-            held(&section, padded, print_section, true);
-            counts[padded as usize] += 1;
+    let mut counts = [0; 6];
+    for request in requests(20_260_808, 6_000, false) {
+        let before = types_before(&request);
+        let section = Kind::Section(before);
+        if let Some(padded) = section.padded(&request.section) {
+            held(section, &request.section, padded);
+            counts[2 * (before > 0) as usize + padded as usize] += 1;
         }
-        let Some(body) = parts.get(3).map(|text| bytes(text)) else { continue };
-        if read::body::read_with(&body, Padding::Noted).fault.is_none() {
-            let padded = is_padded(&body, false);
-            held(&body, padded, print_body, false);
-            counts[2 + padded as usize] += 1;
+        let Some((_, body)) = request.body() else { continue };
+        if let Some(padded) = Kind::Body.padded(body) {
+            held(Kind::Body, body, padded);
+            counts[4 + padded as usize] += 1;
         }
     }
-    assert!(counts.iter().all(|&count| count > 30), "{counts:?}");
+    assert!(counts.iter().all(|&count| count > 2), "{counts:?}");
+}
+
+/// Numbers run on after the library's; its own types are named by number.
+#[test]
+fn a_section_after_a_library() {
+    let section = "02 4E 02 4F 01 00 4D 04 5F 01 63 02 00 4F 01 01 4C 03 5F 00 60 01 64 62 04 00";
+    let printed = "\
+;; types 0 to 2 are the library's
+(rec
+  (type $3 (sub final 0 (descriptor $4) (struct (field (ref null 2)))))
+  (type $4 (sub final 1 (describes $3) (struct)))
+)
+(type $5 (func (param (ref (exact $4)))))
+";
+    assert_eq!(text::print_section(&digits(section), 3).expect("it can be read"), printed);
+    let by_hand = "
+        (rec (type $ferry (sub final 0 (descriptor $kind) (struct (field $leg (ref null 2)))))
+             (type $kind (sub final 1 (describes $ferry) (struct))))
+        (type (func (param (ref (exact 4)))))";
+    for text in [printed, by_hand] {
+        assert_eq!(text::assemble_section(text, 3).expect("it can be read"), digits(section));
+    }
+    assert!(text::assemble_section("(type (sub $2 (struct)))", 3).is_err(), "it has no name");
+    let one = text::print_section(&digits("01 5F 00"), 1).expect("it can be read");
+    assert_eq!(one, ";; type 0 is the library's\n(type $1 (struct))\n");
 }
 
 fn section_of(text: &str) -> Vec<u8> {
@@ -240,7 +305,7 @@ fn hostile_bodies_stay_small() {
     let supertypes = [vec![0x01, 0x50, 0xF0, 0xFF, 0x01], vec![0x00; 32_752], vec![0x5F, 0x00]];
     let supertypes = supertypes.concat();
     for section in [supertypes, vec![0x4E; size], [0x7F, 0x4E, 0x00].repeat(10_000)] {
-        let listing = dump::text(&section, &dump::section(&section));
+        let listing = dump::text(&section, &dump::section(&section, 0));
         assert!(listing.len() < 2_200_000, "{}", listing.len());
         assert_eq!(listed(&listing), section);
     }
@@ -313,9 +378,9 @@ fn any_words_are_answered() {
         let soup = soup.join(" ");
         let _ = (assemble_section(&soup), assemble_body(&soup));
     }
-    for line in generate::requests(9, 400, true).filter(|line| line.starts_with("B ")) {
-        let parts: Vec<&str> = line.split(' ').collect();
-        let texts = [print_section(&bytes(parts[1])), print_body(&bytes(parts[3]))];
+    for request in requests(9, 400, true) {
+        let Some((_, body)) = request.body() else { continue };
+        let texts = [print_section(&request.section), print_body(body)];
         for text in texts.into_iter().flatten() {
             let words: Vec<&str> = text.split(' ').collect();
             let at = random.below(words.len());

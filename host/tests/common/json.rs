@@ -208,7 +208,7 @@ fn fits(text: &str, pattern: &str) -> bool {
     match rest.strip_prefix("[0-9a-f]") {
         Some(count) => {
             let count: usize = count.trim_matches(['{', '}']).parse().expect("a count");
-            number.len() == count && number.chars().all(|digit| digit.is_digit(16))
+            number.len() == count && number.chars().all(|digit| digit.is_ascii_hexdigit())
         }
         None => !number.is_empty() && number.chars().all(|digit| digit.is_ascii_digit()),
     }

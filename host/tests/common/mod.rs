@@ -3,6 +3,7 @@
 
 pub mod json;
 
+use plain::lines::Request;
 use std::io::Write;
 use std::path::PathBuf;
 use std::process::{Command, Stdio};
@@ -90,4 +91,22 @@ pub fn assert_marked(said: &str, bytes: &str, marked: &str) {
     let from = line.find(marked).expect("the marked bytes are on the line");
     let wanted = " ".repeat(from) + &vec!["^^"; marked.split(' ').count()].join(" ");
     assert_eq!(marks, wanted, "{said}");
+}
+
+/// Bytes as an argument; none at all is the empty one, since `-` is standard input.
+pub fn hex(bytes: &[u8]) -> String {
+    bytes.iter().map(|byte| format!("{byte:02x}")).collect()
+}
+
+/// The arguments that stand for a request's sections: the library where it has one, then the add-on's.
+pub fn section_arguments(request: &Request) -> Vec<String> {
+    let library = request.library.iter().map(|library| format!("--library={}", hex(library)));
+    library.chain([hex(&request.section)]).collect()
+}
+
+/// A command with arguments of both kinds.
+pub fn asked(command: &[&str], sections: &[String], rest: &[&str]) -> Said {
+    let sections = sections.iter().map(String::as_str);
+    let all = command.iter().copied().chain(sections).chain(rest.iter().copied());
+    chelbugan(&all.collect::<Vec<_>>())
 }
