@@ -7,7 +7,7 @@ use host_tests::requests::{self, Request};
 use host_tests::tally::Kind;
 
 const SEED: u64 = 20260101;
-const COUNT: usize = 16_000;
+const COUNT: usize = 40_000;
 
 /// What a section is refused by, at a byte too, and what a body is refused by besides; 14 is for tests/memory.rs.
 const OF_SECTIONS: [u64; 14] = [1, 2, 3, 4, 5, 6, 7, 8, 9, 10, 11, 12, 13, 32];
