@@ -44,9 +44,11 @@ bytes says which of the two sections holds them.",
     },
     Command {
         name: "explain",
-        uses: &["explain N", "explain"],
+        uses: &["explain N", "explain accepted", "explain"],
         does: "what a refusal or a trap means, with an example and its mend",
-        page: "Without N, all of them, a line each. --page prints docs/REFUSALS.md.",
+        page: "\
+Without N, all of them, a line each. explain accepted prints docs/ACCEPTED.md: every instruction, type and section that is \
+accepted, by its bytes, and what is not. --page prints docs/REFUSALS.md.",
     },
     Command {
         name: "dump",

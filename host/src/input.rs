@@ -1,7 +1,7 @@
 //! Inputs of the command line: hex digits, the name of a file, or standard input.
 
 use crate::recheck::INPUT_BYTES;
-use crate::{hex, Trouble};
+use crate::{hex, text, Trouble};
 use std::fs::File;
 use std::io::Read;
 use std::path::Path;
@@ -83,6 +83,10 @@ fn file(name: &str) -> Result<Vec<u8>, Trouble> {
 
 /// Bytes with a slip of the hand look like pairs apart from each other: then where it is.
 fn neither(name: &str) -> Trouble {
+    if text::is_meant(name) {
+        let why = "this is WebAssembly text: chelbugan assemble makes bytes of it";
+        return format!("{name}: no such file, and not hex digits; {why}");
+    }
     let slip = hex::read_text(name).err().filter(|_| name.contains([' ', ',']));
     let slip = slip.map_or(String::new(), |fault| format!(" ({fault})"));
     format!("{name}: no such file, and not hex digits{slip}")

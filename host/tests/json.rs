@@ -95,6 +95,7 @@ fn every_command_has_its_answer() {
         &["--version"],
         &["explain"],
         &["explain", "23"],
+        &["explain", "accepted"],
     ] {
         let said = chelbugan(&[arguments, &["--json"]].concat());
         assert_eq!((said.status, answers(&schema, &said).len()), (0, 1), "{}", said.out);

@@ -64,7 +64,7 @@ fn byte_faults_of_the_library_come_first() {
     let wrong = "01 7A";
     let said = refused("01 5F 01 7B 00", wrong, "3 at byte 3 of the library");
     assert_marked(&said, "01 5f 01 7b 00", "7b");
-    told(&said, "7b begins no value type", &[]);
+    told(&said, "7b is v128, which is not accepted yet", &[]);
     assert!(!said.contains("7a"), "{said}");
     let cases = [
         ("", "1 at byte 0", "the bytes end where the count of groups has to begin"),

@@ -136,7 +136,7 @@ fn a_section_is_listed_with_offsets() {
     let broken = no(&["dump", "section", "01 5F 01 7B 00"]);
     assert!(
         broken.ends_with(
-            "     3  the listing breaks off here: 7b begins no value type\n     3  7b 00\n"
+            "     3  the listing breaks off here: 7b is v128, which is not accepted yet\n     3  7b 00\n"
         ),
         "{broken}"
     );

@@ -2,6 +2,7 @@
 
 use super::{read_number, say, say_json};
 use crate::arguments::Arguments;
+use crate::explain::accepted::{self, Row};
 use crate::explain::refusals::{self, Entry, Example};
 use crate::json::Json;
 use crate::{help, Outcome, Trouble};
@@ -13,6 +14,12 @@ pub fn explain(arguments: &Arguments, words: &[&str]) -> Result<Outcome, Trouble
         return say(&refusals::page());
     }
     match words {
+        ["accepted"] if arguments.json => {
+            let rows = |rows: Vec<Row>| Json::List(rows.into_iter().map(row_json).collect());
+            let accepted = ("accepted", rows(accepted::accepted()));
+            say_json(NAME, vec![accepted, ("not_accepted", rows(accepted::not_accepted()))])
+        }
+        ["accepted"] => say(&accepted::page()),
         [] if arguments.json => {
             let all = refusals::ENTRIES.iter().map(|entry| Json::Object(members(entry)));
             say_json(NAME, vec![("numbers", Json::List(all.collect()))])
@@ -27,6 +34,15 @@ pub fn explain(arguments: &Arguments, words: &[&str]) -> Result<Outcome, Trouble
         }
         [_, extra, ..] => Err(help::too_many(NAME, extra)),
     }
+}
+
+fn row_json(row: Row) -> Json {
+    Json::Object(vec![
+        ("kind", row.kind.into()),
+        ("bytes", row.bytes.replace(' ', "").into()),
+        ("name", row.name.into()),
+        ("follows", row.follows.into()),
+    ])
 }
 
 fn unknown(number: &str) -> Trouble {

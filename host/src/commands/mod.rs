@@ -164,7 +164,7 @@ fn refusal_members(refusal: Refusal, told: &Told) -> Vec<(&'static str, Json)> {
     ];
     members.extend(told.own_number.map(|own| ("own_number", own.into())));
     members.push(("meaning", refusals::title(refusal.number).into()));
-    members.push(("cause", told.words.as_str().into()));
+    members.push(("cause", told.cause().into()));
     members
 }
 

@@ -1,6 +1,7 @@
 //! The bytes around a fault, with the fault marked.
 
-use crate::hex;
+use crate::read::module;
+use crate::{hex, text};
 use std::ops::Range;
 
 const NUMBER_PADDED: u64 = 32;
@@ -56,15 +57,57 @@ pub fn item_at(bytes: &[u8], place: usize, number: u64) -> Range<usize> {
     place..place + more + 1
 }
 
-/// Bytes that are likely another thing than a section or a body.
-pub fn byte_remark(bytes: &[u8]) -> &'static str {
-    if bytes.starts_with(b"\0asm") {
-        return "  this is a whole module; the loader reads the content of its type section\n";
-    }
-    match hex::is_text(bytes) {
-        true => {
-            "  these bytes are hex digits in text; a file of them has a name that ends in .hex\n"
+/// What is wanted of an input.
+#[derive(Clone, Copy, PartialEq, Eq)]
+pub enum Wanted {
+    Section,
+    Body,
+}
+
+impl Wanted {
+    fn word(self) -> &'static str {
+        match self {
+            Wanted::Section => "section",
+            Wanted::Body => "body",
         }
-        false => "",
+    }
+}
+
+/// Of bytes that are another thing than a section or a body: what they are, and what to do.
+pub fn remark(bytes: &[u8], wanted: Wanted) -> Option<String> {
+    if bytes.starts_with(module::MAGIC) {
+        return Some(of_module(bytes, wanted));
+    }
+    if hex::is_text(bytes) {
+        let why = "these bytes are hex digits in text; a file of them has a name that ends in .hex";
+        return Some(why.to_string());
+    }
+    let text = std::str::from_utf8(bytes).ok().filter(|text| text::is_meant(text));
+    text.map(|_| {
+        format!("this is WebAssembly text: chelbugan assemble {} makes bytes of it", wanted.word())
+    })
+}
+
+/// Where in a module the part lies that is wanted.
+fn of_module(bytes: &[u8], wanted: Wanted) -> String {
+    let reads = match wanted {
+        Wanted::Section => "the loader reads the content of its type section",
+        Wanted::Body => "the loader reads one function's body",
+    };
+    let part = match wanted {
+        Wanted::Section => module::type_section(bytes).map(|at| (at, String::new())),
+        Wanted::Body => {
+            module::first_body(bytes).map(|(at, count)| (at, format!(", the first of {count}")))
+        }
+    };
+    match part {
+        Some((at, which)) if !at.is_empty() => {
+            format!(
+                "this is a whole module; {reads}, its bytes {} to {}{which}",
+                at.start,
+                at.end - 1
+            )
+        }
+        _ => format!("this is a whole module; {reads}"),
     }
 }

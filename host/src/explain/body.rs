@@ -1,6 +1,6 @@
 //! The refusal of a body, or of its run, whose sections were accepted.
 
-use super::around::{around, byte_remark, item_at};
+use super::around::{around, item_at, remark, Wanted};
 use super::{reason, shown_text, stacked, wrapped, Told};
 use crate::ask::AddOn;
 use crate::dump;
@@ -55,10 +55,10 @@ pub fn body_refusal(add_on: &AddOn, refusal: Refusal) -> Told {
         text += &shown_text(cause, Holder::Body, body, before);
         text += &types_shown(cause, sections);
     }
-    text += byte_remark(body);
     let (place_is, at) = named(&parts, &place, refusal.place);
     let headline = format!("no: refusal {} at {at}", refusal.number);
-    Told { headline, of: "body", place_is, own_number: None, words, text }
+    let remark = remark(body, Wanted::Body);
+    Told { headline, of: "body", place_is, own_number: None, words, remark, text }
 }
 
 /// The parts of types that a cause speaks of, by the section that holds them.

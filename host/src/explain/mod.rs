@@ -1,6 +1,7 @@
 //! An answer told to a person. A refusal or a trap: its number, its place, its one cause, and the bytes that it speaks of. A
 //! run: how it ended, and its state.
 
+pub mod accepted;
 mod around;
 mod body;
 mod numbers;
@@ -30,17 +31,28 @@ pub struct Told {
     pub own_number: Option<usize>,
     /// The cause, on one line.
     pub words: String,
+    /// What the input is, where it is another thing than what was wanted.
+    pub remark: Option<String>,
     /// What stands below the headline.
     pub text: String,
 }
 
 impl Told {
     pub fn whole(&self) -> String {
-        format!("{}\n{}", self.headline, self.text)
+        let remark = self.remark.as_ref().map_or(String::new(), |remark| wrapped(remark));
+        format!("{}\n{}{remark}", self.headline, self.text)
     }
 
     pub fn line(&self) -> String {
-        format!("{}: {}", self.headline, self.words)
+        format!("{}: {}", self.headline, self.cause())
+    }
+
+    /// The cause and the remark, on one line.
+    pub fn cause(&self) -> String {
+        match &self.remark {
+            Some(remark) => format!("{}; {remark}", self.words),
+            None => self.words.clone(),
+        }
     }
 }
 

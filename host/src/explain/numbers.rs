@@ -79,7 +79,7 @@ pub const ENTRIES: &[Entry] = &[
     Entry {
         number: 3,
         title: "byte or FB number not listed, negative number as type",
-        means: "A byte stands where a form, a type, an instruction or a flag has to, and is none; or a type number is negative.",
+        means: "A byte stands where a form, a type, an instruction or a flag has to, and is none that the loader accepts; or a type number is negative. The explanation names what the byte is in WebAssembly. `chelbugan explain accepted` lists all that is accepted, and what is not.",
         place: "Byte: the item's first; of an instruction after FB, the number's.",
         rule: "Byte or FB number not listed, negative number as type. Listed are also i64.const (42), f32.const (43), f64.const (44) and the numeric codes 45 to C4. Heap: 62 x (exact x), an abstract code, or a type number as a non-negative s33.",
         examples: &[
@@ -100,7 +100,7 @@ pub const ENTRIES: &[Entry] = &[
             Example {
                 broken: Body(V, "00 04 0B", 0),
                 place: 1,
-                why: "04 begins no instruction that the loader reads",
+                why: "04 is if, which is not accepted yet",
                 mended: Body(V, "00 01 0B", 0),
                 mend: "01, nop",
             },

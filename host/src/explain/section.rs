@@ -1,6 +1,6 @@
 //! The refusal of a library or of an add-on's section.
 
-use super::around::{around, byte_remark, item_at};
+use super::around::{around, item_at, remark, Wanted};
 use super::{of_types, reason, shown_text, wrapped, Told};
 use crate::recheck::{self, Cause, Joined, INPUT_BYTES};
 use crate::sections::{self, Sections};
@@ -27,7 +27,6 @@ pub fn section_refusal(sections: &Sections, refusal: Refusal) -> Told {
     if let Some(cause) = &cause {
         text += &shown(sections, cause, holder);
     }
-    text += holder.map_or("", |input| byte_remark(sections.of(input)));
     let (place_is, at) = named(sections, &all, place);
     Told {
         headline: format!("no: refusal {} at {at}", refusal.number),
@@ -41,6 +40,7 @@ pub fn section_refusal(sections: &Sections, refusal: Refusal) -> Told {
             _ => None,
         },
         words,
+        remark: holder.and_then(|input| remark(sections.of(input), Wanted::Section)),
         text,
     }
 }

@@ -2,7 +2,9 @@
 
 use super::reader::{Fault, Reader, NOT_LISTED};
 use super::types;
-use crate::syntax::{BranchingCast, Instruction, New, Numeric, Reference, ValueType, PLAIN};
+use crate::syntax::{
+    others, BranchingCast, Instruction, New, Numeric, Reference, ValueType, PLAIN,
+};
 
 const LABEL: &str = "a label";
 const LOCAL: &str = "a local's number";
@@ -32,10 +34,19 @@ pub fn instruction(reader: &mut Reader) -> Result<Instruction, Fault> {
         0x44 => Instruction::Float64(u64::from_le_bytes(reader.bytes("a float")?)),
         0xD0 => Instruction::Null(types::heap(reader)?),
         0xFB => after_fb(reader)?,
-        _ => {
-            return Err(Fault::new(NOT_LISTED, start, format!("{code:02x} begins no instruction")))
-        }
+        _ => return Err(Fault::new(NOT_LISTED, start, unlisted(reader, code))),
     })
+}
+
+/// What a code is in WebAssembly, where it is something; of FC with the number behind it.
+fn unlisted(reader: &Reader, code: u8) -> String {
+    let number = reader.peek().filter(|_| code == 0xFC);
+    let after = number.and_then(|number| Some((number, others::name(&others::AFTER_FC, number)?)));
+    match (after, others::name(&others::INSTRUCTIONS, code)) {
+        (Some((number, name)), _) => others::not_yet(format!("{code:02x} {number:02x}"), name),
+        (None, Some(name)) => others::not_yet(format!("{code:02x}"), name),
+        (None, None) => format!("{code:02x} begins no instruction"),
+    }
 }
 
 fn after_fb(reader: &mut Reader) -> Result<Instruction, Fault> {
@@ -60,7 +71,10 @@ fn after_fb(reader: &mut Reader) -> Result<Instruction, Fault> {
         0x25 => branching(reader, true, false)?,
         0x26 => branching(reader, true, true)?,
         _ => {
-            let why = format!("no instruction has the number {number:x} after FB");
+            let why = match others::name(&others::AFTER_FB, number) {
+                Some(name) => others::not_yet(format!("fb {number:02x}"), name),
+                None => format!("no instruction has the number {number:x} after FB"),
+            };
             return Err(Fault::new(NOT_LISTED, start, why));
         }
     })

@@ -2,6 +2,7 @@
 
 pub mod body;
 mod instruction;
+pub mod module;
 mod reader;
 pub mod section;
 mod types;

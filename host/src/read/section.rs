@@ -2,7 +2,7 @@
 
 use super::reader::{Fault, Padded, Padding, Reader, BYTES_END, NOT_LISTED, SIZE_EXCEEDED};
 use super::types;
-use crate::syntax::{Form, Front, Placed, Type};
+use crate::syntax::{others, Form, Front, Placed, Type};
 use chelbugan::Input;
 use std::fmt::Display;
 use std::ops::Range;
@@ -220,7 +220,10 @@ impl Parts<'_> {
             byte => Err(Fault::new(
                 NOT_LISTED,
                 start,
-                format!("{byte:02x} is neither 5f, a struct, nor 60, a function"),
+                match others::name(&others::FORMS, byte) {
+                    Some(name) => others::not_yet(format!("{byte:02x}"), name),
+                    None => format!("{byte:02x} is neither 5f, a struct, nor 60, a function"),
+                },
             )),
         }
     }

@@ -1,7 +1,7 @@
 //! Heap types, value types and fields, read from their bytes.
 
 use super::reader::{Fault, Reader, NOT_LISTED};
-use crate::syntax::{Abstract, Field, Heap, Reference, ValueType, NUMBERS};
+use crate::syntax::{others, Abstract, Field, Heap, Reference, ValueType, NUMBERS};
 
 pub const EXACT: u8 = 0x62;
 pub const NULLABLE: u8 = 0x63;
@@ -16,10 +16,22 @@ pub fn heap(reader: &mut Reader) -> Result<Heap, Fault> {
         return Ok(Heap::Abstract(heap));
     }
     let start = reader.place;
+    let met = reader.peek();
     let number = reader.signed(33, "a heap type")?;
-    u32::try_from(number).map(Heap::Defined).map_err(|_| {
-        Fault::new(NOT_LISTED, start, format!("{number} is a negative number as a type's number"))
-    })
+    u32::try_from(number)
+        .map(Heap::Defined)
+        .map_err(|_| Fault::new(NOT_LISTED, start, no_heap(met, number)))
+}
+
+/// A negative number is an abstract heap type's code, a number type's, or nothing's.
+fn no_heap(met: Option<u8>, number: i64) -> String {
+    let met = met.unwrap_or(0);
+    let value = NUMBERS.iter().find(|row| row.1 == met).map(|row| row.2);
+    match (others::name(&others::HEAPS, met), value) {
+        (Some(name), _) => others::not_yet(format!("{met:02x}"), name),
+        (None, Some(name)) => format!("{met:02x} is {name}, and a heap type is wanted"),
+        (None, None) => format!("{number} is a negative number as a type's number"),
+    }
 }
 
 pub fn value(reader: &mut Reader) -> Result<ValueType, Fault> {
@@ -34,7 +46,11 @@ pub fn value(reader: &mut Reader) -> Result<ValueType, Fault> {
         _ => Abstract::of_code(byte)
             .map(|heap| ValueType::nullable(Heap::Abstract(heap)))
             .ok_or_else(|| {
-                Fault::new(NOT_LISTED, start, format!("{byte:02x} begins no value type"))
+                let why = match others::name(&others::VALUES, byte) {
+                    Some(name) => others::not_yet(format!("{byte:02x}"), name),
+                    None => format!("{byte:02x} begins no value type"),
+                };
+                Fault::new(NOT_LISTED, start, why)
             }),
     }
 }

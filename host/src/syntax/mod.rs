@@ -2,7 +2,9 @@
 
 pub mod float;
 mod instruction;
+pub mod listed;
 mod numeric;
+pub mod others;
 
 pub use instruction::{BranchingCast, Instruction, Item, New, Plain, PLAIN};
 pub use numeric::Numeric;

@@ -203,6 +203,16 @@ impl Numeric {
         }
     }
 
+    /// Whether a trial run does it; at any other it traps with 46.
+    pub fn is_run(self) -> bool {
+        let (kind, operation) = self.parts();
+        let of_kind: &[&str] = match kind {
+            ValueType::F32 | ValueType::F64 => &["neg", "add", "sub", "mul", "div"],
+            _ => &["add", "sub"],
+        };
+        TRUTHS.contains(&operation) || of_kind.contains(&operation)
+    }
+
     pub fn result(self) -> ValueType {
         let (kind, operation) = self.parts();
         if TRUTHS.contains(&operation) {

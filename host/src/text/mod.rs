@@ -14,5 +14,16 @@ mod tokens;
 pub use assemble::{body as assemble_body, section as assemble_section};
 pub use print::{body as print_body, section as print_section};
 
+/// Whether something is meant as text: it is none but characters, and behind comments it begins with a parenthesis.
+pub fn is_meant(text: &str) -> bool {
+    if text.chars().any(|it| it.is_control() && !it.is_whitespace()) {
+        return false;
+    }
+    match tokens::tokens(text) {
+        Ok(tokens) => tokens.first().is_some_and(|first| first.text == "("),
+        Err(_) => text.trim_start().starts_with(['(', ';']),
+    }
+}
+
 #[cfg(test)]
 mod tests;
