@@ -15,23 +15,25 @@ use Rattle.scope.specs.declared.Ran
 use Rattle.scope.specs.Layout.{rowsSize, codesSize, workSize, endsSize, countsSize, objectsSize, cellsSize, localsSize, operandsSize, blocksSize}
 use Rattle.scope.specs.declared.Asked.{Asked}
 use Rattle.scope.specs.declared.Asked
-use Rattle.scope.specs.Refusals.{bufferTooSmall, outOfReach, describesNotEarlier, badStruct}
+use Rattle.scope.specs.Refusals.{bufferTooSmall, outOfReach, describesNotEarlier, badStruct, oversize}
 use Rattle.scope.specs.Syntax.{struct, Definition}
 use Rattle.scope.specs.Judging.{plain, accepted, Joined, judgeJoined}
-use Rattle.scope.specs.Bodies.{judgeBody}
+use Rattle.scope.specs.Bodies.{Body, judgeBody}
 use Rattle.scope.specs.Memory.{wiped, joinedRows, joinedShared, joinedCodes}
 use Rattle.scope.specs.Answers.{lentAfter, sectionCall, SectionJudged, askTable, TypeAsked, TypeHanded, BodyJudged, RunMemory, runCall, ranOf, stateAfter, RunTried}
 use Rattle.scope.proofs.Computes.{computes}
+use Rattle.scope.proofs.Soundness.{RanSoundly}
 use Rattle.facts_sections.specs.FirstFault.{Refused}
 use Rattle.facts_sections.specs.Writing.{WritesDefinition}
 use Rattle.facts_sections.proofs.Exactly.{accepted-exactly}
 use Rattle.facts_bodies.specs.Premises.{of-none}
-use Rattle.facts_runs.specs.Samples.{F1, twoObjects, sample}
+use Rattle.facts_runs.specs.Samples.{F1, twoObjects, nullDescriptor, sample}
 use Rattle.facts_runs.specs.Counting.{taken, takenBy}
 use Rattle.facts_refusals.specs.Bodies.{BodySaysNo}
+use Rattle.facts_calls.specs.Zero.{Zero}
 use Rattle.facts_calls.specs.Lent.{TableSuffices, TableShort, BodySuffices, BodyShort, RunSuffices}
-use Rattle.facts_calls.specs.Meant.{SectionOf, BodyOf, CanRun}
-use Rattle.facts_calls.specs.Calls.{RowTells, Stops}
+use Rattle.facts_calls.specs.Meant.{SectionOf, BodyOf, CanRun, RunSaysNo}
+use Rattle.facts_calls.specs.Calls.{RowTells, Stops, Wiped, ended-at-trap}
 use Rattle.facts_calls.specs.Asked.{LiesIn, library-holds, addon-holds, TypeOf, Lies, AskSaysNo}
 use Rattle.facts_calls.proofs.Placed.{accepted-body}
 use Rattle.facts_calls.proofs.OfAsked.{of-asked, of-handed}
@@ -207,6 +209,58 @@ pub two-stops : Stops 3 (Ran.the-variants.Done 3 1)
 unfolding computes
 two-stops = runs two-run .loopless (sample twoObjects) memory-suffices two-can-run refl (omega arith)
 
+-- spent: with a budget of 2 the last `end` is left
+
+pub two-can-start : CanRun emptyLibrary F1 twoObjects 2 2 (sample twoObjects)
+unfolding computes
+two-can-start = record { isBody = accepted-body emptyLibrary F1 twoObjects 2 two-judged; withinBudget = omega arith; defaults = of-none }
+
+spent-run : RunTried emptyLibrary F1 twoObjects 2 2 memory (later twoObjects 2) (Ran.the-variants.Spent 2)
+unfolding computes
+spent-run = tried twoObjects 2 _ refl
+
+pub two-spent : RanSoundly twoObjects (sample twoObjects) 2 memory (later twoObjects 2) (Ran.the-variants.Spent 2)
+two-spent = runs spent-run .ran (sample twoObjects) memory-suffices two-can-start
+
+-- a trap: a null descriptor, 43 at byte 4 in the second step; the operands are as the first step left them
+
+null-judged : judgeBody emptyLibrary F1 nullDescriptor 2 ≡ accepted (sample nullDescriptor)
+unfolding computes
+null-judged = refl
+
+pub null-can-run : CanRun emptyLibrary F1 nullDescriptor 2 9 (sample nullDescriptor)
+unfolding computes
+null-can-run = record { isBody = accepted-body emptyLibrary F1 nullDescriptor 2 null-judged; withinBudget = omega arith; defaults = of-none }
+
+trap-run : RunTried emptyLibrary F1 nullDescriptor 2 9 memory (later nullDescriptor 9) (Ran.the-variants.Trapped 43 4 2)
+unfolding computes
+trap-run = tried nullDescriptor 9 _ refl
+
+pub null-trapped : RanSoundly nullDescriptor (sample nullDescriptor) 9 memory (later nullDescriptor 9) (Ran.the-variants.Trapped 43 4 2)
+null-trapped = runs trap-run .ran (sample nullDescriptor) memory-suffices null-can-run
+
+pub only-a-body-that-can-run : RunSuffices memory × ((b : Body) × CanRun emptyLibrary F1 nullDescriptor 2 9 b)
+only-a-body-that-can-run = runs trap-run .onlyThen ended-at-trap
+
+-- refused: a budget of 1,000,001, and a body that is refused by itself; the state is zero
+
+over-run : RunTried emptyLibrary F1 twoObjects 2 1_000_001 memory (later twoObjects 1_000_001) (Ran.the-variants.Refused oversize (plain 0))
+unfolding computes
+over-run = tried twoObjects 1_000_001 _ refl
+
+pub over-refused : RunSaysNo emptyLibrary F1 twoObjects 2 1_000_001 oversize (plain 0)
+over-refused = runs over-run .refused oversize (plain 0) memory-suffices .0 refl
+
+pub over-wiped : Wiped (memory .state) (later twoObjects 1_000_001 .state)
+over-wiped = runs over-run .wipes oversize (plain 0) refl
+
+unwanted-run : RunTried emptyLibrary F1 unwanted 2 9 memory (later unwanted 9) (Ran.the-variants.Refused badStruct (plain 1))
+unfolding computes
+unwanted-run = tried unwanted 9 _ refl
+
+pub unwanted-not-run : RunSaysNo emptyLibrary F1 unwanted 2 9 badStruct (plain 1)
+unwanted-not-run = runs unwanted-run .refused badStruct (plain 1) memory-suffices .0 refl
+
 -- asking: a library of one type and a section of one below it. Type 1 is `4F 01 00 5F 00`, from byte 1 to byte 6 of the section; type 0
 -- is `50 00 5F 00`, from byte 1 to byte 5 of the library; there is no type 2
 
@@ -299,3 +353,12 @@ first-told = sections both-promise .tells firstAndSecond (pair-accepted .0) (fir
 pub second-told : RowTells bothRows firstAndSecond 1
 unfolding first-type
 second-told = sections both-promise .tells firstAndSecond (pair-accepted .0) (first-type .allowed) 1 (omega arith)
+
+-- handed out and refused: no bytes, and the table is zero
+
+third-handed : handedOut 2 []
+unfolding computes
+third-handed = record { bytes = refl; rowsAfter = refl; sharedAfter = refl; codesAfter = refl }
+
+pub third-zero : Zero rows (lentAfter joinedRows rows (askTable openStruct belowIt 2 rows shared codes))
+third-zero = of-handed third-handed .wipes outOfReach (plain 2) third-refused .0

@@ -1,3 +1,7 @@
+pub mod VeryBytes
+pub mod Zero
+pub mod RowTells
+pub mod Room
 pub mod Lent
 pub mod Placed
 pub mod Verdicts
@@ -5,8 +9,6 @@ pub mod Fourteen
 pub mod OfSection
 pub mod OfBody
 pub mod OfRun
-pub mod VeryBytes
-pub mod RowTells
 pub mod OfAsked
 pub mod Holds
 pub mod Examples

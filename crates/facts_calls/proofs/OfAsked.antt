@@ -28,6 +28,8 @@ use Rattle.facts_sections.proofs.Exactly.{accepted-exactly}
 use Rattle.facts_sections.proofs.FaultOrder.{refused-exactly}
 use Rattle.facts_calls.specs.Lent.{TableSuffices}
 use Rattle.facts_calls.specs.Asked.{LiesIn, HeldBy, library-holds, addon-holds, TypeOf, Lies, NoType, AskSaysNo, by-memory, by-section, by-number, beginsAt, endsAt, OfAsked, OfHanded}
+use Rattle.facts_calls.proofs.Zero.{wiped-zero}
+use Rattle.facts_calls.proofs.Room.{table-beyond}
 use Rattle.facts_calls.proofs.Lent.{table-suffices, table-lent, table-is-short, short-table}
 use Rattle.facts_calls.proofs.Verdicts.{same-accepted, accepted-is-not-rejected, lent-yes, lent-call, short-call}
 use Rattle.facts_calls.proofs.VeryBytes.{present-among, cut-out, Handed, handed, first-entry, second-entry, both-rows-say}
@@ -216,8 +218,8 @@ module _ {library s : List ℕ} {x : ℕ} {rows shared codes rows′ shared′ c
         inLibrary = λ from to. (found true from to, tells true from to);
         inAddon = λ from to. (found false from to, tells false from to);
         refused = λ number place. (said, λ no′. promise .answer ∙ ap askedOf (says-no library s x no′));
-        table = λ j d t a e. after (table-said library s x t a e);
-        wipes = λ number place e. after (table-no library s x (said e));
+        table = λ j d t a e. let (p, q, r) = after (table-said library s x t a e) in table-beyond j t a p q r;
+        wipes = λ number place e. let (p, q, r) = after (table-no library s x (said e)) in (wiped-zero p, wiped-zero q, wiped-zero r);
       }
 
 -- the writing of a definition, in the section that holds it
@@ -263,4 +265,6 @@ module _ {library s : List ℕ} {x : ℕ} {rows shared codes rows′ shared′ c
         lies = lies-there;
         row = row-says;
         empty = λ number place no′. promise .bytes ∙ ap (partOf library s) (says-no library s x no′);
+        table = λ j d t a e. let call = table-said library s x t a e in table-beyond j t a (promise .rowsAfter ∙ ap (lentAfter joinedRows rows) call) (promise .sharedAfter ∙ ap (lentAfter joinedShared shared) call) (promise .codesAfter ∙ ap (lentAfter joinedCodes codes) call);
+        wipes = λ number place no′. let call = table-no library s x no′ in (wiped-zero (promise .rowsAfter ∙ ap (lentAfter joinedRows rows) call), wiped-zero (promise .sharedAfter ∙ ap (lentAfter joinedShared shared) call), wiped-zero (promise .codesAfter ∙ ap (lentAfter joinedCodes codes) call));
       }

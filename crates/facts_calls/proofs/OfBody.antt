@@ -19,6 +19,7 @@ use Rattle.facts_refusals.proofs.Places.{body-refusals}
 use Rattle.facts_calls.specs.Lent.{BodySuffices, BodyShort}
 use Rattle.facts_calls.specs.Meant.{BodyOf}
 use Rattle.facts_calls.specs.Calls.{OfBody}
+use Rattle.facts_calls.proofs.Zero.{wiped-zero}
 use Rattle.facts_calls.proofs.Lent.{body-suffices, body-lent, body-is-short, short-body}
 use Rattle.facts_calls.proofs.Placed.{accepted-body, derived-body}
 use Rattle.facts_calls.proofs.Verdicts.{accepted-is-not-rejected, verdict-yes, verdict-no, lent-yes, lent-call, short-call, lent-no}
@@ -87,5 +88,5 @@ module _ {library section s : List ℕ} {x : ℕ} {rows shared codes work rows�
         only = fourteen;
         refused = λ number place t. (λ e. body-no-exactly library section s x number place .0 (sym (own-call t) ∙ said e), λ e. says (own-call t ∙ body-no-exactly library section s x number place .1 e));
         places = λ number place t e. body-refusals .places library section s x number place (sym (own-call t) ∙ said e);
-        wipes = (promise .rowsAfter, promise .sharedAfter, promise .codesAfter, promise .workAfter);
+        wipes = (wiped-zero (promise .rowsAfter), wiped-zero (promise .sharedAfter), wiped-zero (promise .codesAfter), wiped-zero (promise .workAfter));
       }

@@ -22,6 +22,7 @@ use Rattle.scope.specs.Machine.{Machine}
 use Rattle.scope.specs.Running.{Ending, run, startOf, programOf, Trial, trialOf, withParameters, trialRun}
 use Rattle.scope.specs.Memory.{StateWords, filled, stateWords}
 use Rattle.scope.specs.Answers.{runLent, machineOf, ranAs, ranOf, runCall, stateAfter, RunMemory, RunTried}
+use Rattle.scope.proofs.Impossible.{contradiction}
 use Rattle.scope.proofs.Soundness.{Runs, EndsWell, isDone, isTrapped, isSpent, RanSoundly}
 use Rattle.scope.proofs.SoundnessHolds.{soundness}
 use Rattle.facts_bodies.specs.Premises.{Each, Default}
@@ -33,10 +34,11 @@ use Rattle.facts_runs.proofs.Loopless.{loopless-stops, loopless-steps}
 use Rattle.facts_refusals.proofs.Bodies.{body-no, no-body}
 use Rattle.facts_calls.specs.Lent.{RunSuffices, RunShort}
 use Rattle.facts_calls.specs.Meant.{IsBody, CanRun, RunSaysNo, by-body, by-budget, by-parameters}
-use Rattle.facts_calls.specs.Calls.{Stops, stops-done, stops-at-trap, Wiped, OfRun}
-use Rattle.facts_calls.proofs.Lent.{run-lent, run-is-short, short-run}
+use Rattle.facts_calls.specs.Calls.{Stops, stops-done, stops-at-trap, Wiped, HoldsState, Ended, ended-done, ended-at-trap, ended-spent, OfRun}
+use Rattle.facts_calls.proofs.Zero.{wiped-zero, filled-holds}
+use Rattle.facts_calls.proofs.Lent.{run-suffices, run-lent, run-is-short, short-run}
 use Rattle.facts_calls.proofs.Placed.{accepted-body, body-accepted}
-use Rattle.facts_calls.proofs.Verdicts.{accepted-is-not-rejected, ran-no, lent-call, short-call, lent-no}
+use Rattle.facts_calls.proofs.Verdicts.{accepted-is-not-rejected, ran-no, lent-yes, lent-call, short-call, lent-no}
 use Rattle.facts_calls.proofs.Fourteen.{body-never-14}
 
 -- the verdict on a run
@@ -75,6 +77,26 @@ module _ (library section s : List ℕ) (x budget : ℕ) where
         go (rejected n p) judged f = let (a, b) = rejected-one f in as-said (by-body (body-no library section s x judged)) a b
         go (accepted b) judged f = budget-no (accepted-body library section s x judged) (ltb mostBudget budget) refl f
 
+  -- a run that is let in
+  run-yes : {t : Trial} → trialRun library section s x budget ≡ accepted t → (b : Body) × CanRun library section s x budget b
+  unfolding trialRun
+  run-yes {t} e = go (judgeBody library section s x) refl e
+    where
+      by-parameters-yes : (b : Body) → IsBody library section s x b → budget ≤ mostBudget → (d : Bool) → every hasDefault (b .function .parameters) ≡ d
+          → cond d (accepted (trialOf b budget)) (rejected noDefault (plain 0)) ≡ accepted t → (b : Body) × CanRun library section s x budget b
+      by-parameters-yes b is small true all f = (b, record { isBody = is; withinBudget = small; defaults = tested-defaults _ all })
+      by-parameters-yes b is small false all f = absurd (accepted-is-not-rejected (sym f))
+
+      by-budget-yes : (b : Body) → IsBody library section s x b → (large : Bool) → ltb mostBudget budget ≡ large
+          → cond large (rejected oversize (plain 0)) (withParameters b budget) ≡ accepted t → (b : Body) × CanRun library section s x budget b
+      by-budget-yes b is true q f = absurd (accepted-is-not-rejected (sym f))
+      by-budget-yes b is false q f = by-parameters-yes b is (ltb-false _ _ q) (every hasDefault (b .function .parameters)) refl f
+
+      go : (j : Judged Body) → judgeBody library section s x ≡ j → andThen j (λ b. cond (ltb mostBudget budget) (rejected oversize (plain 0)) (withParameters b budget)) ≡ accepted t
+          → (b : Body) × CanRun library section s x budget b
+      go (rejected n p) judged f = absurd (accepted-is-not-rejected (sym f))
+      go (accepted b) judged f = by-budget-yes b (accepted-body library section s x judged) (ltb mostBudget budget) refl f
+
   no-defaults : (b : Body) → ¬ Each Default (b .function .parameters) → every hasDefault (b .function .parameters) ≡ false
   no-defaults b none-there = go (every hasDefault (b .function .parameters)) refl
     where
@@ -102,6 +124,12 @@ stopped : (s : List ℕ) {b : Body} {budget most : ℕ} (e : Ending) → EndsWel
 stopped s e (isDone few reaches ends typed) f within = stops-done within
 stopped s e (isTrapped few reaches traps trap typed) f within = stops-at-trap trap within
 stopped s e (isSpent reaches typed) f within = absurd (false≢true (sym f))
+
+-- no refusal
+ended-no : {r : Ran} → Ended r → {n : ℕ} {p : Place} → r ≡ Ran.the-variants.Refused n p → ⊥
+ended-no ended-done e = contradiction cc
+ended-no ended-at-trap e = contradiction cc
+ended-no ended-spent e = contradiction cc
 
 -- the second of the counts
 second-count : (s : List ℕ) (m : Machine) (buffer : List ℕ) → getElem? (filled buffer (stateWords s m .counts)) 1 ≡ some (length (m .heap))
@@ -148,6 +176,17 @@ module _ {library section s : List ℕ} {x budget : ℕ} {m m′ : RunMemory} {r
           blocks = promise .blocks ∙ held (λ w. w .blocks);
         }
 
+    state-held : HoldsState (stateWords s (machineOf (ran-soundly .ending))) (m′ .state)
+    state-held =
+        record {
+          counts = filled-holds (m .state .counts) (ran-soundly .counts);
+          objects = filled-holds (m .state .objects) (ran-soundly .objects);
+          cells = filled-holds (m .state .cells) (ran-soundly .cells);
+          locals = filled-holds (m .state .locals) (ran-soundly .locals);
+          operands = filled-holds (m .state .operands) (ran-soundly .operands);
+          blocks = filled-holds (m .state .blocks) (ran-soundly .blocks);
+        }
+
     objects-made : getElem? (m′ .state .counts) 1 ≡ some (allocations (programOf b) (taken (programOf b) budget (startOf b)))
     unfolding ran-soundly run
     objects-made =
@@ -162,21 +201,32 @@ module _ {library section s : List ℕ} {x budget : ℕ} {m m′ : RunMemory} {r
         let all = stopped s ending (ran-soundly .endsWell) (loopless-stops library section s x judged free budget enough) (loopless-steps library section s x judged free budget) in
         rw (ran-soundly .answer) all
 
+  only-then : Ended r → RunSuffices m × ((b : Body) × CanRun library section s x budget b)
+  only-then ended = go (runCall library section s x budget m) refl
+    where
+      go : (v : Judged Trial) → runCall library section s x budget m ≡ v → RunSuffices m × ((b : Body) × CanRun library section s x budget b)
+      go (rejected n p) e = absurd (ended-no ended (says e))
+      go (accepted t) e =
+          let (lent, verdict) = lent-yes (runLent m) (trialRun library section s x budget) e in
+          (run-suffices m lent, run-yes library section s x budget verdict)
+
   all-wiped : {number : ℕ} {place : Place} → runCall library section s x budget m ≡ rejected number place → Wiped (m .state) (m′ .state)
   all-wiped e =
       record {
-        counts = promise .counts ∙ ap (stateAfter s (λ w. w .counts) m) e;
-        objects = promise .objects ∙ ap (stateAfter s (λ w. w .objects) m) e;
-        cells = promise .cells ∙ ap (stateAfter s (λ w. w .cells) m) e;
-        locals = promise .locals ∙ ap (stateAfter s (λ w. w .locals) m) e;
-        operands = promise .operands ∙ ap (stateAfter s (λ w. w .operands) m) e;
-        blocks = promise .blocks ∙ ap (stateAfter s (λ w. w .blocks) m) e;
+        counts = wiped-zero (promise .counts ∙ ap (stateAfter s (λ w. w .counts) m) e);
+        objects = wiped-zero (promise .objects ∙ ap (stateAfter s (λ w. w .objects) m) e);
+        cells = wiped-zero (promise .cells ∙ ap (stateAfter s (λ w. w .cells) m) e);
+        locals = wiped-zero (promise .locals ∙ ap (stateAfter s (λ w. w .locals) m) e);
+        operands = wiped-zero (promise .operands ∙ ap (stateAfter s (λ w. w .operands) m) e);
+        blocks = wiped-zero (promise .blocks ∙ ap (stateAfter s (λ w. w .blocks) m) e);
       }
 
   pub of-run : OfRun promise
   of-run =
       record {
         ran = ran-soundly;
+        state = state-held;
+        onlyThen = only-then;
         objects = objects-made;
         loopless = without-loop;
         never = λ b number place t c e. accepted-is-not-rejected (sym (called t c) ∙ said e);
@@ -184,5 +234,5 @@ module _ {library section s : List ℕ} {x budget : ℕ} {m m′ : RunMemory} {r
         only = fourteen;
         refused = λ number place t. (λ e. run-no library section s x budget (sym (own-call t) ∙ said e), λ e. says (own-call t ∙ no-run library section s x budget e));
         wipes = λ number place e. all-wiped (said e);
-        scratch = (promise .rowsAfter, promise .sharedAfter, promise .codesAfter, promise .workAfter, promise .endsAfter);
+        scratch = (wiped-zero (promise .rowsAfter), wiped-zero (promise .sharedAfter), wiped-zero (promise .codesAfter), wiped-zero (promise .workAfter), wiped-zero (promise .endsAfter));
       }

@@ -18,6 +18,8 @@ use Rattle.facts_refusals.proofs.Sections.{says-no}
 use Rattle.facts_calls.specs.Lent.{TableSuffices, TableShort}
 use Rattle.facts_calls.specs.Meant.{SectionOf}
 use Rattle.facts_calls.specs.Calls.{OfSection}
+use Rattle.facts_calls.proofs.Zero.{wiped-zero}
+use Rattle.facts_calls.proofs.Room.{table-beyond}
 use Rattle.facts_calls.proofs.Lent.{table-suffices, table-lent, table-is-short, short-table}
 use Rattle.facts_calls.proofs.Verdicts.{accepted-is-not-rejected, verdict-yes, verdict-no, lent-yes, lent-call, short-call, lent-no}
 use Rattle.facts_calls.proofs.RowTells.{row-tells}
@@ -60,7 +62,7 @@ module _ {library s rows shared codes rows′ shared′ codes′ : List ℕ} {r 
         accepted = λ n. (yes-allowed n, allowed-yes n);
         table = λ j t a.
             let call = called j t a in
-            (promise .rowsAfter ∙ ap (lentAfter joinedRows rows) call, promise .sharedAfter ∙ ap (lentAfter joinedShared shared) call, promise .codesAfter ∙ ap (lentAfter joinedCodes codes) call);
+            table-beyond j t a (promise .rowsAfter ∙ ap (lentAfter joinedRows rows) call) (promise .sharedAfter ∙ ap (lentAfter joinedShared shared) call) (promise .codesAfter ∙ ap (lentAfter joinedCodes codes) call);
         tells = λ j t a x inside.
             let after = promise .rowsAfter ∙ ap (lentAfter joinedRows rows) (called j t a) in
             rw after (row-tells j a x inside _);
@@ -69,5 +71,5 @@ module _ {library s rows shared codes rows′ shared′ codes′ : List ℕ} {r 
         only = fourteen;
         refused = λ number place t. (λ e. refused-exactly library s number place .0 (sym (own-call t) ∙ said e), λ e. says (own-call t ∙ refused-exactly library s number place .1 e));
         places = λ number place t e. says-no library s number place (sym (own-call t) ∙ said e);
-        wipes = λ number place e. (promise .rowsAfter ∙ ap (lentAfter joinedRows rows) (said e), promise .sharedAfter ∙ ap (lentAfter joinedShared shared) (said e), promise .codesAfter ∙ ap (lentAfter joinedCodes codes) (said e));
+        wipes = λ number place e. (wiped-zero (promise .rowsAfter ∙ ap (lentAfter joinedRows rows) (said e)), wiped-zero (promise .sharedAfter ∙ ap (lentAfter joinedShared shared) (said e)), wiped-zero (promise .codesAfter ∙ ap (lentAfter joinedCodes codes) (said e)));
       }

@@ -113,7 +113,7 @@ written-few (a-section {w = w} {u = u} number groups) small =
     let all = length-append w u in
     omega arith
 
-section-long : {first : ℕ} {s : List ℕ} {gs : List Group} → Section first s gs → length (tableCodes (joined gs)) < codesSize
+pub section-long : {first : ℕ} {s : List ℕ} {gs : List Group} → Section first s gs → length (tableCodes (joined gs)) < codesSize
 section-long section = written-few (section .writing) (section .sizes .bytes)
 
 -- where a row says that its codes begin

@@ -16,11 +16,12 @@ use Rattle.scope.specs.Refusals.{bufferTooSmall, outOfReach}
 use Rattle.scope.specs.declared.Place.{Place}
 use Rattle.scope.specs.Syntax.{Definition}
 use Rattle.scope.specs.Judging.{plain, Joined}
-use Rattle.scope.specs.Memory.{filled, wiped, joinedRows, joinedShared, joinedCodes}
+use Rattle.scope.specs.Memory.{joinedRows, joinedShared, joinedCodes}
 use Rattle.scope.specs.Answers.{TypeAsked, TypeHanded}
 use Rattle.facts_sections.specs.Allowed.{Allowed}
 use Rattle.facts_sections.specs.FirstFault.{Refused}
 use Rattle.facts_sections.specs.Writing.{WritesDefinition}
+use Rattle.facts_calls.specs.Zero.{Zero, ZeroBeyond}
 use Rattle.facts_calls.specs.Lent.{TableSuffices, TableShort}
 
 -- the part lies in the input between these places
@@ -77,8 +78,8 @@ module _ {library s : List ℕ} {x : ℕ} {rows shared codes rows′ shared′ c
     pub refused : (number : ℕ) (place : Place) → (r ≡ Asked.the-variants.Refused number place) ↔ AskSaysNo library s x rows shared codes number place
     -- lent memory is as after the sections alone; zero after a refusal
     pub table : (j : Joined) (d : Definition) → TableSuffices rows shared codes → Allowed library s j → getElem? (j .types) x ≡ some d
-        → (rows′ ≡ filled rows (joinedRows j)) × (shared′ ≡ filled shared (joinedShared j)) × (codes′ ≡ filled codes (joinedCodes j))
-    pub wipes : (number : ℕ) (place : Place) → r ≡ Asked.the-variants.Refused number place → (rows′ ≡ wiped rows) × (shared′ ≡ wiped shared) × (codes′ ≡ wiped codes)
+        → ZeroBeyond (joinedRows j) rows rows′ × ZeroBeyond (joinedShared j) shared shared′ × ZeroBeyond (joinedCodes j) codes codes′
+    pub wipes : (number : ℕ) (place : Place) → r ≡ Asked.the-variants.Refused number place → Zero rows rows′ × Zero shared shared′ × Zero codes codes′
 
 -- the very bytes: the call that hands them back
 module _ {library s : List ℕ} {x : ℕ} {rows shared codes rows′ shared′ codes′ part : List ℕ} where
@@ -91,3 +92,7 @@ module _ {library s : List ℕ} {x : ℕ} {rows shared codes rows′ shared′ c
     pub row : (ofLibrary : Bool) (d : Definition) → TableSuffices rows shared codes → TypeOf library s x ofLibrary d
         → (getElem? rows′ (beginsAt x) ≡ some (d .from)) × (getElem? rows′ (endsAt x) ≡ some (d .to))
     pub empty : (number : ℕ) (place : Place) → AskSaysNo library s x rows shared codes number place → part ≡ []
+    -- lent memory is as after the sections alone; zero after a refusal
+    pub table : (j : Joined) (d : Definition) → TableSuffices rows shared codes → Allowed library s j → getElem? (j .types) x ≡ some d
+        → ZeroBeyond (joinedRows j) rows rows′ × ZeroBeyond (joinedShared j) shared shared′ × ZeroBeyond (joinedCodes j) codes codes′
+    pub wipes : (number : ℕ) (place : Place) → AskSaysNo library s x rows shared codes number place → Zero rows rows′ × Zero shared shared′ × Zero codes codes′

@@ -1,5 +1,5 @@
 -- Demand 2, whole, over the public calls: what each call answers, from its own promise alone (scope's specs/Answers.antt).
--- This page is read with scope/specs, specs/Lent.antt and specs/Meant.antt, and the relations that these name: Allowed
+-- This page is read with scope/specs, specs/Zero.antt, specs/Lent.antt and specs/Meant.antt, and the relations that these name: Allowed
 -- (facts_sections), Derivation (facts_bodies), BodySaysNo (facts_refusals), EndsWell (scope's proofs/Soundness.antt).
 -- proofs/Holds.antt proves it.
 use Prim.Native.Nat.{ℕ, _≤_, _+_, _*_, _<_}
@@ -19,14 +19,15 @@ use Rattle.scope.specs.declared.Place.{Place}
 use Rattle.scope.specs.Judging.{plain, Joined}
 use Rattle.scope.specs.Bodies.{Body, instructions}
 use Rattle.scope.specs.Running.{startOf, programOf}
-use Rattle.scope.specs.Memory.{filled, wiped, joinedRows, joinedShared, joinedCodes, StateWords}
-use Rattle.scope.specs.Answers.{SectionJudged, BodyJudged, RunMemory, RunTried}
+use Rattle.scope.specs.Memory.{joinedRows, joinedShared, joinedCodes, StateWords, stateWords}
+use Rattle.scope.specs.Answers.{machineOf, SectionJudged, BodyJudged, RunMemory, RunTried}
 use Rattle.scope.proofs.Soundness.{Trap, RanSoundly}
 use Rattle.facts_sections.specs.Allowed.{Allowed}
 use Rattle.facts_sections.specs.FirstFault.{Refused}
 use Rattle.facts_runs.specs.Counting.{taken, allocations, hasLoop}
 use Rattle.facts_refusals.specs.Sections.{SaysNo}
 use Rattle.facts_refusals.specs.Bodies.{BodySaysNo, BodyPlace}
+use Rattle.facts_calls.specs.Zero.{Zero, Holds, ZeroBeyond}
 use Rattle.facts_calls.specs.Lent.{TableSuffices, TableShort, BodySuffices, BodyShort, RunSuffices, RunShort}
 use Rattle.facts_calls.specs.Meant.{SectionOf, BodyOf, CanRun, RunSaysNo}
 
@@ -48,7 +49,7 @@ module _ {library s rows shared codes rows′ shared′ codes′ : List ℕ} {r 
     pub accepted : (n : ℕ) → (r ≡ Verdict.the-variants.Accepted n) ↔ (TableSuffices rows shared codes × SectionOf library s n)
     -- "An accepted section gives its type count and its table .., zero beyond."
     pub table : (j : Joined) → TableSuffices rows shared codes → Allowed library s j
-        → (rows′ ≡ filled rows (joinedRows j)) × (shared′ ≡ filled shared (joinedShared j)) × (codes′ ≡ filled codes (joinedCodes j))
+        → ZeroBeyond (joinedRows j) rows rows′ × ZeroBeyond (joinedShared j) shared shared′ × ZeroBeyond (joinedCodes j) codes codes′
     pub tells : (j : Joined) → TableSuffices rows shared codes → Allowed library s j → (x : ℕ) → x < length (j .types) → RowTells rows′ j x
     -- Never no to an allowed section: "Demand 2 shuts out the loader that refuses all."
     pub never : (n number : ℕ) (place : Place) → TableSuffices rows shared codes → SectionOf library s n → ¬ (r ≡ Verdict.the-variants.Refused number place)
@@ -61,7 +62,7 @@ module _ {library s rows shared codes rows′ shared′ codes′ : List ℕ} {r 
     -- length; 4 and 6 to 13 at the number of a type
     pub places : (number : ℕ) (place : Place) → TableSuffices rows shared codes → r ≡ Verdict.the-variants.Refused number place → SaysNo library s number place
     -- "Every refusal zeroes all memory lent for writing."
-    pub wipes : (number : ℕ) (place : Place) → r ≡ Verdict.the-variants.Refused number place → (rows′ ≡ wiped rows) × (shared′ ≡ wiped shared) × (codes′ ≡ wiped codes)
+    pub wipes : (number : ℕ) (place : Place) → r ≡ Verdict.the-variants.Refused number place → Zero rows rows′ × Zero shared shared′ × Zero codes codes′
 
 -- judging a body
 
@@ -80,7 +81,7 @@ module _ {library section s : List ℕ} {x : ℕ} {rows shared codes work rows�
     -- "Places are byte offsets; .. An instruction's place is its first byte."
     pub places : (number : ℕ) (place : Place) → BodySuffices rows shared codes work → r ≡ Verdict.the-variants.Refused number place → BodyPlace library section s x number place
     -- "An accepted body .. leaves scratch zero. Every refusal zeroes all memory lent for writing."
-    pub wipes : (rows′ ≡ wiped rows) × (shared′ ≡ wiped shared) × (codes′ ≡ wiped codes) × (work′ ≡ wiped work)
+    pub wipes : Zero rows rows′ × Zero shared shared′ × Zero codes codes′ × Zero work work′
 
 -- the trial run
 
@@ -91,18 +92,37 @@ pub data Stops (most : ℕ) : Ran → Type 0 where
 
 -- the six buffers of the state are zero
 pub record Wiped (w w′ : StateWords) : Type 0 where
-  pub counts : w′ .counts ≡ wiped (w .counts)
-  pub objects : w′ .objects ≡ wiped (w .objects)
-  pub cells : w′ .cells ≡ wiped (w .cells)
-  pub locals : w′ .locals ≡ wiped (w .locals)
-  pub operands : w′ .operands ≡ wiped (w .operands)
-  pub blocks : w′ .blocks ≡ wiped (w .blocks)
+  pub counts : Zero (w .counts) (w′ .counts)
+  pub objects : Zero (w .objects) (w′ .objects)
+  pub cells : Zero (w .cells) (w′ .cells)
+  pub locals : Zero (w .locals) (w′ .locals)
+  pub operands : Zero (w .operands) (w′ .operands)
+  pub blocks : Zero (w .blocks) (w′ .blocks)
+
+-- the six buffers hold the words of this state, and zero beyond
+pub record HoldsState (words after : StateWords) : Type 0 where
+  pub counts : Holds (words .counts) (after .counts)
+  pub objects : Holds (words .objects) (after .objects)
+  pub cells : Holds (words .cells) (after .cells)
+  pub locals : Holds (words .locals) (after .locals)
+  pub operands : Holds (words .operands) (after .operands)
+  pub blocks : Holds (words .blocks) (after .blocks)
+
+-- an answer that is no refusal
+pub data Ended : Ran → Type 0 where
+  ended-done : {steps results : ℕ} → Ended (Ran.the-variants.Done steps results)
+  ended-at-trap : {number place steps : ℕ} → Ended (Ran.the-variants.Trapped number place steps)
+  ended-spent : {steps : ℕ} → Ended (Ran.the-variants.Spent steps)
 
 module _ {library section s : List ℕ} {x budget : ℕ} {m m′ : RunMemory} {r : Ran} where
   pub record OfRun (promise : RunTried library section s x budget m m′ r) : Type 1 where
     -- The answer and the six buffers are those of the written steps: of a run that is done, at a trap or spent after exactly the
     -- steps that it says, each of them a `step` from `startOf b` on.
     pub ran : (b : Body) → RunSuffices m → CanRun library section s x budget b → RanSoundly s b budget m m′ r
+    -- "Lent memory then holds the heap, .. and zero beyond"
+    pub state : (b : Body) (t : RunSuffices m) (c : CanRun library section s x budget b) → HoldsState (stateWords s (machineOf (ran b t c .ending))) (m′ .state)
+    -- and done, at a trap or spent only where the buffers suffice and the body can be run
+    pub onlyThen : Ended r → RunSuffices m × ((b : Body) × CanRun library section s x budget b)
     -- "the number of objects equals the number of allocation steps that didn't trap": the second of `counts`
     pub objects : (b : Body) → RunSuffices m → CanRun library section s x budget b
         → getElem? (m′ .state .counts) 1 ≡ some (allocations (programOf b) (taken (programOf b) budget (startOf b)))
@@ -117,4 +137,4 @@ module _ {library section s : List ℕ} {x budget : ℕ} {m m′ : RunMemory} {r
     pub refused : (number : ℕ) (place : Place) → RunSuffices m → (r ≡ Ran.the-variants.Refused number place) ↔ RunSaysNo library section s x budget number place
     -- "Every refusal zeroes all memory lent for writing"; the five scratch buffers are zero after every answer
     pub wipes : (number : ℕ) (place : Place) → r ≡ Ran.the-variants.Refused number place → Wiped (m .state) (m′ .state)
-    pub scratch : (m′ .rows ≡ wiped (m .rows)) × (m′ .shared ≡ wiped (m .shared)) × (m′ .codes ≡ wiped (m .codes)) × (m′ .work ≡ wiped (m .work)) × (m′ .ends ≡ wiped (m .ends))
+    pub scratch : Zero (m .rows) (m′ .rows) × Zero (m .shared) (m′ .shared) × Zero (m .codes) (m′ .codes) × Zero (m .work) (m′ .work) × Zero (m .ends) (m′ .ends)

@@ -1,3 +1,4 @@
+pub mod Zero
 pub mod Lent
 pub mod Meant
 pub mod Calls
