@@ -69,6 +69,38 @@ fn causes_have_the_loaders_number_and_place() {
     assert!(lies.iter().all(|&count| count > 50), "{lies:?}");
 }
 
+/// The mend of 31 does what it says: the loader goes past that operand. Another of the same instruction may be next.
+#[test]
+fn the_mend_of_31_is_one() {
+    let mut loader = Loader::new();
+    let (mut mended, mut below) = (0, 0);
+    for request in requests(31, 6_000, true) {
+        let Some(mut add_on) = add_on(&request) else { continue };
+        if section::judge(&add_on.sections).is_err() {
+            continue;
+        }
+        while let Err(refusal) = ask::body(&mut loader, &add_on) {
+            let told = crate::explain::body_refusal(&add_on, refusal);
+            let Some(body) = told.mended else { break };
+            assert_eq!(refusal.number, 31, "{request}");
+            assert_eq!(body.len(), add_on.body.len() + 1);
+            add_on.body = body;
+            mended += 1;
+            below += told.words.contains("below the top") as usize;
+            match ask::body(&mut loader, &add_on) {
+                Ok(_) => break,
+                Err(next) => {
+                    let again = crate::explain::body_refusal(&add_on, next).words;
+                    let later = next.place > refusal.place + 1;
+                    let lower = next.place == refusal.place + 1 && again != told.words;
+                    assert!(later || lower, "{request}: {refusal}, then {next}");
+                }
+            }
+        }
+    }
+    assert!(mended > 20 && below > 5, "{mended} mended, {below} of them below the top");
+}
+
 /// The operands that an explanation shows are the plain checker's.
 #[test]
 fn operands_are_the_plain_checkers() {

@@ -252,55 +252,105 @@ fn operands() {
     );
 }
 
-/// 31: what 20 tells, and that only null is wrong; the operand is marked as 20 marks it.
+/// A function of nothing to a struct's reference and a number; its types' section.
+const WITH_NUMBER: &str = "02 5F 00 60 00 02 64 00 7F";
+
+/// 31: what 20 tells, that only null is wrong, and the byte after which ref.as_non_null belongs: the last of the instruction
+/// that put the operand there. The mended body is the loader's, to the next fault or to a yes.
 #[test]
 fn only_null() {
     const ONLY_NULL: &str =
-        "only null is wrong: this operand may be null, a non-null one is wanted; \
-                             ref.as_non_null before it would do";
+        "only null is wrong: this operand may be null, a non-null one is wanted";
     let of_two = "02 5F 00 60 00 02 64 00 64 00";
     let fields = "03 5F 00 5F 01 64 00 01 60 00 00";
+    let one = "02 5F 00 60 00 01 64 00";
     let cases = [
         (
-            ("02 5F 00 60 00 01 64 00", "00 D0 00 0B", "1"),
+            (one, "00 D0 00 0B", "1"),
             "end wants (ref 0) on top and finds (ref null 0)",
             "1 d0 00 ref.null 0, which put (ref null 0) there",
+            (2, "00 d0 00 d4 0b"),
         ),
         (
-            ("02 5F 00 60 00 01 64 00", "00 D0 71 0F 0B", "1"),
+            (one, "00 D0 71 0F 0B", "1"),
             "return wants (ref 0) on top and finds (ref null none)",
             "1 d0 71 ref.null none, which put (ref null none) there",
+            (2, "00 d0 71 d4 0f 0b"),
         ),
         (
-            ("02 5F 00 60 00 01 64 00", "00 D0 00 41 00 0D 00 0B", "1"),
+            (one, "00 D0 00 41 00 0D 00 0B", "1"),
             "br_if wants (ref 0) below the top and finds (ref null 0)",
             "its block has, the top last: (ref null 0), i32",
+            (2, "00 d0 00 d4 41 00 0d 00 0b"),
         ),
         (
             (of_two, "00 D0 00 FB 01 00 0B", "1"),
             "end wants (ref 0) below the top and finds (ref null 0)",
             "1 d0 00 ref.null 0, which put (ref null 0) there",
+            (2, "00 d0 00 d4 fb 01 00 0b"),
         ),
         (
             (fields, "00 D0 01 D0 00 FB 05 01 00 0B", "2"),
             "struct.set wants (ref 0) on top and finds (ref null 0)",
             "3 d0 00 ref.null 0, which put (ref null 0) there",
+            (4, "00 d0 01 d0 00 d4 fb 05 01 00 0b"),
         ),
         (
-            ("02 5F 00 60 00 01 64 00", "00 00 D0 00 0B", "1"),
+            (one, "00 00 D0 00 0B", "1"),
             "end wants (ref 0) on top and finds (ref null 0)",
             "its block has, the top last: unknowns (unreachable), (ref null 0)",
+            (3, "00 00 d0 00 d4 0b"),
+        ),
+        // The block's `end` puts its result there, and the number covers it.
+        (
+            (WITH_NUMBER, "00 02 63 00 D0 00 0B 41 07 0B", "1"),
+            "end wants (ref 0) below the top and finds (ref null 0)",
+            "6 0b end, which put (ref null 0) there",
+            (6, "00 02 63 00 d0 00 0b d4 41 07 0b"),
         ),
     ];
-    for (of, found, shown) in cases {
+    for (of, found, shown, (after, mended)) in cases {
         let said = no(&["check", of.0, of.1, of.2]);
         assert!(said.starts_with("no: refusal 31 at byte "), "{said}");
-        told(&said, &format!("{found}; {ONLY_NULL}"), &[shown]);
+        let hint = format!("ref.as_non_null after byte {after} would do");
+        told(&said, &format!("{found}; {ONLY_NULL}; {hint}"), &[shown]);
+        let heading = format!("  mended, with d4 at byte {}:\n", after + 1);
+        let (_, below) = said.split_once(&heading).unwrap_or_else(|| panic!("no mend in\n{said}"));
+        assert!(below.starts_with(&format!("       0  {mended}\n")), "{said}");
+        yes(&["check", of.0, mended, of.2]);
+        let json = no(&["check", "--json", of.0, of.1, of.2]);
+        assert!(json.contains(&format!("\"mended\":\"{}\"", mended.replace(' ', ""))), "{json}");
     }
     // Heap and null: 20, and not a word of null.
     let both = no(&["check", "02 50 00 5F 00 60 00 01 64 62 00", "00 D0 00 0B", "1"]);
     assert!(both.starts_with("no: refusal 20 at byte 3 of the body\n"), "{both}");
-    assert!(!both.contains("only null"), "{both}");
+    assert!(!both.contains("only null") && !both.contains("mended"), "{both}");
+}
+
+/// br_if to the function's label gives back all its operands at once: nothing can be put between them.
+#[test]
+fn only_null_below_what_came_at_once() {
+    // Type 1 gives (ref null 0) twice; type 2 has two fields of (ref 0). Bytes 7 and 8 are br_if 0.
+    let section = "03 5F 00 60 00 02 63 00 63 00 5F 02 64 00 00 64 00 00";
+    let body = "00 D0 00 D0 00 41 01 0D 00 FB 00 02 1A D0 00 D0 00 0B";
+    let said = no(&["check", section, body, "1"]);
+    assert!(said.starts_with("no: refusal 31 at byte 9 of the body\n"), "{said}");
+    assert!(
+        said.replace("\n  ", " ").contains("; ref.as_non_null after byte 8 would do "),
+        "{said}"
+    );
+    // With the top mended, the one below it is at fault, and no byte is told: D4 after byte 8 would meet the top again.
+    let body = "00 D0 00 D0 00 41 01 0D 00 D4 FB 00 02 1A D0 00 D0 00 0B";
+    let said = no(&["check", section, body, "1"]);
+    assert!(said.starts_with("no: refusal 31 at byte 10 of the body\n"), "{said}");
+    let words = "struct.new wants (ref 0) below the top and finds (ref null 0); only null is wrong: this operand may be \
+                 null, a non-null one is wanted; br_if of byte 7 put 1 operand above it at once: they have to go to locals, \
+                 and back after a ref.as_non_null";
+    told(&said, words, &["7 0d 00 br_if 0, which put (ref null 0) there"]);
+    assert!(!said.contains("mended, with"), "{said}");
+    // As it says: local 0 takes the top, D4 meets the one below, and local 0 gives the top back.
+    let body = "01 01 64 00 D0 00 D0 00 41 01 0D 00 D4 21 00 D4 20 00 FB 00 02 1A D0 00 D0 00 0B";
+    yes(&["check", section, body, "1"]);
 }
 
 /// 32: the number's bytes are marked, and its shortest writing is told.

@@ -43,16 +43,16 @@ fn an_accepted_pair_is_described() {
     let said = yes(&["check", "--library", OPEN, "02 60 00 00 4F 01 00 5F 00"]);
     let wanted = "\
 yes: 3 types, 1 of the library
-  type 0 of the library: struct (), open, bytes 1 to 5
-  type 1, the add-on's type 0: function () -> (), final, bytes 1 to 4
-  type 2, the add-on's type 1: struct (), final, supertype 0, bytes 4 to 9
+  type 0 of the library: struct (), open, bytes 1 to 4
+  type 1, the add-on's type 0: function () -> (), final, bytes 1 to 3
+  type 2, the add-on's type 1: struct (), final, supertype 0, bytes 4 to 8
 ";
     assert_eq!(said, wanted);
     // A library of no types moves no number; without one nothing is said of it.
     let empty = yes(&["check", "--library", "00", FINAL]);
-    assert_eq!(empty, "yes: 1 type, 0 of the library\n  type 0: struct (), final, bytes 1 to 3\n");
+    assert_eq!(empty, "yes: 1 type, 0 of the library\n  type 0: struct (), final, bytes 1 to 2\n");
     let none = yes(&["check", FINAL]);
-    assert_eq!(none, "yes: 1 type\n  type 0: struct (), final, bytes 1 to 3\n");
+    assert_eq!(none, "yes: 1 type\n  type 0: struct (), final, bytes 1 to 2\n");
     // A library alone: an add-on without types of its own.
     let alone = yes(&["check", "--library", FINAL, "00"]);
     assert!(alone.starts_with("yes: 1 type, 1 of the library\n"), "{alone}");

@@ -11,9 +11,9 @@ fn an_accepted_section_is_described() {
     let said = yes(&["check", F1]);
     for words in [
         "yes: 3 types",
-        "type 0: struct (), final, descriptor 1, bytes 3 to 7",
-        "type 1: struct (), final, describes 0, bytes 7 to 11",
-        "type 2: function () -> ((ref (exact 0))), final, bytes 11 to 17",
+        "type 0: struct (), final, descriptor 1, bytes 3 to 6",
+        "type 1: struct (), final, describes 0, bytes 7 to 10",
+        "type 2: function () -> ((ref (exact 0))), final, bytes 11 to 16",
     ] {
         assert!(said.contains(words), "{words:?} is not in\n{said}");
     }

@@ -101,9 +101,10 @@ fn the_instruction_and_its_operands_are_told() {
     assert!(told > 50 && unreachable > 3, "{told}, {unreachable} of them unreachable");
 }
 
-/// How many bytes are marked.
+/// How many bytes are marked, above a mend.
 fn marked(said: &str) -> usize {
-    let marks = said.lines().filter(|line| line.trim_start().starts_with('^'));
+    let fault = said.split("  mended, with").next().unwrap_or("");
+    let marks = fault.lines().filter(|line| line.trim_start().starts_with('^'));
     marks.map(|line| line.matches("^^").count()).sum()
 }
 

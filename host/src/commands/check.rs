@@ -123,7 +123,8 @@ fn of_library(table: &Table) -> usize {
     table.rows().filter(|row| row.input() == Input::Library).count()
 }
 
-fn types(table: &Table, has_library: bool) -> String {
+/// "3 types, 1 of the library"
+pub fn types(table: &Table, has_library: bool) -> String {
     let all = match table.count() {
         1 => "1 type".to_string(),
         count => format!("{count} types"),
@@ -163,7 +164,7 @@ fn described(row: &Row) -> String {
         parts.extend(number.map(|number| format!("{what} {number}")));
     }
     let bytes = row.bytes();
-    format!("{}, {}, bytes {} to {}", form(row), parts.join(", "), bytes.start, bytes.end)
+    format!("{}, {}, bytes {} to {}", form(row), parts.join(", "), bytes.start, bytes.end - 1)
 }
 
 fn form(row: &Row) -> String {

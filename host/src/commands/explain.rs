@@ -50,7 +50,7 @@ fn unknown(number: &str) -> Trouble {
 }
 
 fn members(entry: &Entry) -> Vec<(&'static str, Json)> {
-    let examples = entry.examples.iter().map(|example| example_json(entry, example));
+    let examples = entry.examples.iter().map(example_json);
     vec![
         ("number", entry.number.into()),
         ("kind", entry.kind().into()),
@@ -62,10 +62,10 @@ fn members(entry: &Entry) -> Vec<(&'static str, Json)> {
     ]
 }
 
-fn example_json(entry: &Entry, example: &Example) -> Json {
+fn example_json(example: &Example) -> Json {
     Json::Object(vec![
         ("call", example.broken.command().into()),
-        ("answer", example.answer(entry).into()),
+        ("answer", example.broken.answer().into()),
         ("why", example.why.into()),
         ("mended", example.mended.command().into()),
         ("mend", example.mend.into()),

@@ -6,7 +6,7 @@ mod lines;
 mod run;
 mod show;
 
-pub use check::table_members;
+pub use check::{table_members, types};
 pub use run::members as run_members;
 
 use crate::arguments::Arguments;
@@ -165,6 +165,7 @@ fn refusal_members(refusal: Refusal, told: &Told) -> Vec<(&'static str, Json)> {
     members.extend(told.own_number.map(|own| ("own_number", own.into())));
     members.push(("meaning", refusals::title(refusal.number).into()));
     members.push(("cause", told.cause().into()));
+    members.extend(told.mended.as_ref().map(|bytes| ("mended", hex::plain(bytes).into())));
     members
 }
 

@@ -8,7 +8,7 @@ use crate::read;
 use crate::read::section::Line;
 use crate::recheck::{self, Cause, Holder, Joined, Operands, INPUT_BYTES};
 use crate::sections::Sections;
-use crate::syntax::{Form, Item, Placed};
+use crate::syntax::{Form, Item, Placed, Plain, PLAIN};
 use chelbugan::{Input, Refusal};
 
 const SIZE_EXCEEDED: u64 = 4;
@@ -58,7 +58,21 @@ pub fn body_refusal(add_on: &AddOn, refusal: Refusal) -> Told {
     let (place_is, at) = named(&parts, &place, refusal.place);
     let headline = format!("no: refusal {} at {at}", refusal.number);
     let remark = remark(body, Wanted::Body);
-    Told { headline, of: "body", place_is, own_number: None, words, remark, text }
+    let non_null_at = cause.and_then(|cause| cause.non_null_at);
+    let mended = non_null_at.map(|at| with_non_null(body, at));
+    if let (Some(at), Some(mended)) = (non_null_at, &mended) {
+        text += &format!("  mended, with {:02x} at byte {at}:\n", AS_NON_NULL);
+        text += &around(mended, at..at + 1);
+    }
+    Told { headline, of: "body", place_is, own_number: None, words, remark, text, mended }
+}
+
+const AS_NON_NULL: u8 = PLAIN[Plain::AsNonNull as usize].1;
+
+/// The body with ref.as_non_null at a place.
+fn with_non_null(body: &[u8], at: usize) -> Vec<u8> {
+    let (before, behind) = body.split_at(at);
+    [before, &[AS_NON_NULL], behind].concat()
 }
 
 /// The parts of types that a cause speaks of, by the section that holds them.

@@ -35,6 +35,8 @@ pub struct Told {
     pub remark: Option<String>,
     /// What stands below the headline.
     pub text: String,
+    /// The whole input with the mend that the cause speaks of.
+    pub mended: Option<Vec<u8>>,
 }
 
 impl Told {
@@ -190,10 +192,12 @@ mod tests {
         assert_eq!(
             told.words,
             "end wants (ref 0) on top and finds (ref null 0); only null is wrong: this operand may be \
-             null, a non-null one is wanted; ref.as_non_null before it would do"
+             null, a non-null one is wanted; ref.as_non_null after byte 2 would do"
         );
         let put = "     1  d0 00                   ref.null 0, which put (ref null 0) there\n";
         assert!(told.text.contains(put), "{}", told.text);
         assert!(told.text.contains("00 d0 00 0b\n                   ^^\n"), "{}", told.text);
+        assert!(told.text.contains("00 d0 00 d4 0b\n                   ^^\n"), "{}", told.text);
+        assert_eq!(told.mended, Some(vec![0x00, 0xD0, 0x00, 0xD4, 0x0B]));
     }
 }

@@ -500,9 +500,9 @@ pub const ENTRIES: &[Entry] = &[
     Entry {
         number: 31,
         title: "operand would fit if it couldn't be null",
-        means: "Only null is wrong: the operand may be null, and a non-null one is wanted. ref.as_non_null behind the instruction that put it there would do; the run then traps where it is null.",
+        means: "Only null is wrong: the operand may be null, and a non-null one is wanted. Put ref.as_non_null (D4) right after the instruction that put the operand there, while it is on top of the stack: the explanation names that byte and shows the mended body. Where the operand is null the run then traps with 42. Where it never is null, a local or a field of a non-null type needs no ref.as_non_null.",
         place: "Instruction: the offset of its first byte in the body.",
-        rule: "The test whether one type fits another should have three outcomes: fits, would fit if it couldn't be null, doesn't fit. Wherever that test serves an operand, the second outcome gives new refusal 31 at the same place, and 20 keeps the third and the missing operand.",
+        rule: "An operand fits, or would fit if it could not be null, or does not fit. The second is 31. The third is 20, and so is an operand that is missing.",
         examples: &[
             Example {
                 broken: Body("02 5F 00 60 00 01 64 00", "00 D0 00 0B", 1),
@@ -518,14 +518,21 @@ pub const ENTRIES: &[Entry] = &[
                 mended: Body(S, "02 01 63 00 01 64 00 20 00 D4 21 01 0B", 1),
                 mend: "ref.as_non_null between local.get and local.set",
             },
+            Example {
+                broken: Body("02 5F 00 60 00 02 64 00 7F", "00 D0 00 41 07 0B", 1),
+                place: 5,
+                why: "the operand lies below the top: ref.null 0, then i32.const 7, where (ref 0) and i32 are the results",
+                mended: Body("02 5F 00 60 00 02 64 00 7F", "00 D0 00 D4 41 07 0B", 1),
+                mend: "ref.as_non_null after byte 2, before i32.const covers the operand; before the `end` it would meet the i32",
+            },
         ],
     },
     Entry {
         number: 32,
         title: "LEB number with more bytes than it needs",
-        means: "A number is padded: one byte fewer says the same. Its last byte is 00, or 7F of a negative number, and says nothing that the byte before it does not say. The explanation shows the shortest writing. print and then assemble writes every number so.",
+        means: "A number is padded: one byte fewer says the same. Its last byte is 00, or 7F of a negative number, and says nothing that the byte before it does not say. The explanation shows the shortest writing. Compilers and linkers write numbers in five bytes where a relocation may change them later, so that object files, and files linked from them, are full of padding. Re-encode before the add-on is handed over: link with `wasm-ld --compress-relocations`, or let a tool that writes numbers anew, such as wasm-opt, read and write the module. Of a section or body alone, `chelbugan print` and then `chelbugan assemble` writes every number in as few bytes as it needs.",
         place: "Byte: the number's first.",
-        rule: "New refusal 32, at its first byte, for any LEB number with more bytes than it needs, looked at after 1 and 2 and before 3 for the same number. Document 01's leave to pad is withdrawn.",
+        rule: "Every LEB128 number stands in as few bytes as it needs. For one number, 1 and 2 are said before 32, and 32 before 3.",
         examples: &[
             Example {
                 broken: Section("80 00"),

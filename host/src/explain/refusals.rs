@@ -1,7 +1,10 @@
 //! `chelbugan explain` and docs/REFUSALS.md, both made from the list of numbers. A test runs every example and every mend of
 //! it through the loader.
 
-use chelbugan::Input;
+use crate::ask::{self, AddOn};
+use crate::commands::types;
+use crate::sections::Sections;
+use chelbugan::{calls, Loader, Refusal};
 
 pub struct Entry {
     pub number: u64,
@@ -17,7 +20,8 @@ pub struct Entry {
 
 pub struct Example {
     pub broken: Case,
-    /// The refusal's place, or the trap's.
+    /// The refusal's place, or the trap's: what the loader is held to.
+    #[cfg_attr(not(test), allow(dead_code))]
     pub place: u64,
     pub why: &'static str,
     pub mended: Case,
@@ -88,32 +92,70 @@ impl Case {
     }
 }
 
-impl Example {
-    /// "no 23 1", "no 3 1 addon", "trap 44 3": as a request in lines is answered, with the input where a library is named.
-    pub fn answer(&self, entry: &Entry) -> String {
-        let word = if entry.is_trap() { "trap" } else { "no" };
-        let lies = match (self.broken, self.input(entry)) {
-            (After(..) | Library(..), Some(input)) => format!(" {input}"),
-            _ => String::new(),
-        };
-        format!("{word} {} {}{lies}", entry.number, self.place)
-    }
-
-    /// The section that the place is a byte of; byte faults alone have such a place.
-    fn input(&self, entry: &Entry) -> Option<Input> {
-        match (self.broken, entry.number) {
-            (Library(..), 1..=5 | 32) => Some(Input::Library),
-            (Section(_) | After(..), 1..=5 | 32) => Some(Input::Addon),
-            _ => None,
+impl Case {
+    /// The first line that the program says, as it asks the loader; of a call that the program cannot make, the refusal.
+    pub fn answer(&self) -> String {
+        let mut loader = Loader::new();
+        match *self {
+            Section(section) => section_answer(&mut loader, Sections::new(None, bytes(section))),
+            After(library, section) | Library(library, section) => {
+                let sections = Sections::new(Some(bytes(library)), bytes(section));
+                section_answer(&mut loader, sections)
+            }
+            Body(section, body, number) => {
+                let add_on = add_on(section, body, number);
+                match ask::body(&mut loader, &add_on) {
+                    Ok(count) => format!("yes: {}", super::counted(count, "instruction")),
+                    Err(refusal) => super::body_refusal(&add_on, refusal).headline,
+                }
+            }
+            Run(section, body, number, budget) => {
+                let add_on = add_on(section, body, number);
+                match ask::run(&mut loader, &add_on, budget) {
+                    Ok(run) => first_line(&super::ended(&add_on.body, &run)),
+                    Err(refusal) => super::body_refusal(&add_on, refusal).headline,
+                }
+            }
+            Rows(section, words) => {
+                let (mut rows, mut shared) = (vec![0; words], vec![0; calls::SHARED]);
+                let mut codes = vec![0; calls::CODES];
+                let library = calls::EMPTY_LIBRARY;
+                let judged = calls::judge_section(
+                    library,
+                    &bytes(section),
+                    &mut rows,
+                    &mut shared,
+                    &mut codes,
+                );
+                match judged {
+                    Ok(_) => "yes".to_string(),
+                    Err(Refusal { number, place, .. }) => {
+                        format!("no: refusal {number} at {place}")
+                    }
+                }
+            }
         }
     }
+}
 
-    fn mended_answer(&self) -> &'static str {
-        match self.mended {
-            Run(..) => "done",
-            _ => "yes",
-        }
+fn section_answer(loader: &mut Loader, sections: Sections) -> String {
+    match ask::section(loader, &sections) {
+        Ok(table) => format!("yes: {}", types(&table, sections.has_library())),
+        Err(refusal) => super::section_refusal(&sections, refusal).headline,
     }
+}
+
+fn first_line(text: &str) -> String {
+    text.lines().next().unwrap_or("").to_string()
+}
+
+/// Of the examples, which are hex digits.
+fn bytes(text: &str) -> Vec<u8> {
+    crate::hex::read_text(text).unwrap_or_default()
+}
+
+fn add_on(section: &str, body: &str, number: u64) -> AddOn {
+    AddOn { sections: Sections::new(None, bytes(section)), body: bytes(body), number }
 }
 
 /// For a terminal.
@@ -127,10 +169,10 @@ pub fn text(entry: &Entry) -> String {
             "\nexample: {}\n  {}\n  {}\nmended: {}\n  {}\n  {}\n",
             example.why,
             example.broken.command(),
-            example.answer(entry),
+            example.broken.answer(),
             example.mend,
             example.mended.command(),
-            example.mended_answer()
+            example.mended.answer()
         );
     }
     text
@@ -186,10 +228,10 @@ fn section_text(entry: &Entry) -> String {
             "\nExample, {}:\n\n    {}\n    {}\n\nMended, {}:\n\n    {}\n    {}\n",
             example.why,
             example.broken.command(),
-            example.answer(entry),
+            example.broken.answer(),
             example.mend,
             example.mended.command(),
-            example.mended_answer()
+            example.mended.answer()
         );
     }
     text
@@ -198,17 +240,7 @@ fn section_text(entry: &Entry) -> String {
 #[cfg(test)]
 mod tests {
     use super::*;
-    use crate::ask::{self, AddOn};
-    use crate::sections::Sections;
-    use chelbugan::{calls, Ended, Loader, Refusal};
-
-    fn bytes(text: &str) -> Vec<u8> {
-        crate::hex::read_text(text).expect("hex")
-    }
-
-    fn add_on(section: &str, body: &str, number: u64) -> AddOn {
-        AddOn { sections: Sections::new(None, bytes(section)), body: bytes(body), number }
-    }
+    use chelbugan::{Ended, Input};
 
     /// The loader's answer: Ok with the trap's number and place, or 0 where nothing stopped it.
     fn answer(case: Case) -> Result<(u64, u64), Refusal> {
@@ -243,12 +275,22 @@ mod tests {
         }
     }
 
+    /// The section that a place is a byte of; byte faults alone have such a place.
+    fn input(case: Case, number: u64) -> Option<Input> {
+        match (case, number) {
+            (Library(..), 1..=5 | 32) => Some(Input::Library),
+            (Section(_) | After(..), 1..=5 | 32) => Some(Input::Addon),
+            _ => None,
+        }
+    }
+
     #[test]
     fn every_example_and_every_mend_is_the_loaders() {
         for entry in ENTRIES {
             assert!(!entry.examples.is_empty());
             for example in entry.examples {
-                let (number, place, input) = (entry.number, example.place, example.input(entry));
+                let (number, place) = (entry.number, example.place);
+                let input = input(example.broken, number);
                 let wanted = match entry.is_trap() {
                     true => Ok((number, place)),
                     false => Err(Refusal { number, place, input }),

@@ -42,6 +42,7 @@ pub fn section_refusal(sections: &Sections, refusal: Refusal) -> Told {
         words,
         remark: holder.and_then(|input| remark(sections.of(input), Wanted::Section)),
         text,
+        mended: None,
     }
 }
 

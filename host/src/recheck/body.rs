@@ -163,8 +163,12 @@ impl<'a> Check<'a> {
     }
 
     fn push(&mut self, by: usize, values: impl IntoIterator<Item = ValueType>) {
-        self.operands
-            .extend(values.into_iter().map(|value| Operand { kind: Kind::Known(value), by }));
+        let values: Vec<ValueType> = values.into_iter().collect();
+        let above = (0..values.len()).rev();
+        let operands = values.iter().zip(above);
+        let operands =
+            operands.map(|(&value, above)| Operand { kind: Kind::Known(value), by, above });
+        self.operands.extend(operands);
     }
 
     /// What an instruction does once its operands are taken.
@@ -190,7 +194,7 @@ impl<'a> Check<'a> {
                     }
                     _ => Kind::UnknownHeap,
                 };
-                self.operands.push(Operand { kind, by: at });
+                self.operands.push(Operand { kind, by: at, above: 0 });
             }
             Instruction::GetDescriptor(number) => {
                 let exact = ValueType::nullable(Heap::Exact(number));

@@ -32,6 +32,8 @@ pub struct Cause {
     pub shown: Vec<Shown>,
     /// What an instruction takes and finds, where that is the cause.
     pub operands: Option<Box<Operands>>,
+    /// Of 31: where in the body ref.as_non_null would mend it.
+    pub non_null_at: Option<usize>,
 }
 
 /// Bytes of an input with what they say.
@@ -62,7 +64,7 @@ impl Cause {
     /// At a type's number, or at a place in a body.
     pub fn new(number: u64, place: usize, words: impl Into<String>) -> Cause {
         let refusal = Refusal { number, place: place as u64, input: None };
-        Cause { refusal, words: words.into(), shown: Vec::new(), operands: None }
+        Cause { refusal, words: words.into(), shown: Vec::new(), operands: None, non_null_at: None }
     }
 
     /// At a byte of a section.

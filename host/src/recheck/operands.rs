@@ -5,15 +5,14 @@ use super::body::Check;
 use super::order::Fit;
 use super::stack::Operand;
 use super::{counted, Cause, Operands, Wanted};
-use crate::syntax::{Instruction, Plain};
+use crate::syntax::{Instruction, Item, Plain};
 
 const OPERAND: u64 = 20;
 const VALUES_LEFT: u64 = 28;
 const ONLY_NULL: u64 = 31;
 
 /// What is said of 31, behind what was wanted and found.
-const WITHOUT_NULL: &str = "only null is wrong: this operand may be null, a non-null one is wanted; ref.as_non_null before \
-                            it would do";
+const WITHOUT_NULL: &str = "only null is wrong: this operand may be null, a non-null one is wanted";
 
 impl Check<'_> {
     /// With those that were taken already.
@@ -71,9 +70,7 @@ impl Check<'_> {
             Some(found) => {
                 let words = format!("{name} wants {want} {where_} and finds {found}");
                 let cause = match fit {
-                    Fit::ButForNull => {
-                        self.cause(ONLY_NULL, at, format!("{words}; {WITHOUT_NULL}"))
-                    }
+                    Fit::ButForNull => self.but_for_null(at, found, words),
                     Fit::Fits | Fit::DoesNotFit => self.cause(OPERAND, at, words),
                 };
                 self.with_part(cause, found.by, &format!(", which put {found} there"))
@@ -95,6 +92,31 @@ impl Check<'_> {
         };
         cause.operands = Some(Box::new(self.operands_told(wanted, &[])));
         cause
+    }
+
+    /// 31, with where ref.as_non_null has to stand: right behind what put the operand there, while it is on top.
+    fn but_for_null(&self, at: usize, found: Operand, words: String) -> Cause {
+        let by = &self.parts[found.by];
+        let mend = match found.above {
+            0 => format!("ref.as_non_null after byte {} would do", by.bytes.end - 1),
+            above => format!(
+                "{} of byte {} put {} above it at once: they have to go to locals, and back after a \
+                 ref.as_non_null",
+                self.name_of(found.by),
+                by.bytes.start,
+                counted(above, "operand")
+            ),
+        };
+        let mut cause = self.cause(ONLY_NULL, at, format!("{words}; {WITHOUT_NULL}; {mend}"));
+        cause.non_null_at = (found.above == 0).then_some(by.bytes.end);
+        cause
+    }
+
+    fn name_of(&self, at: usize) -> &'static str {
+        match self.parts[at].what {
+            Item::Instruction(instruction) => instruction.name(),
+            Item::Entries(_) | Item::Locals(..) => "a local",
+        }
     }
 
     /// 28: what is left at `end`.

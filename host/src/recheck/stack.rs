@@ -10,6 +10,8 @@ pub struct Operand {
     pub kind: Kind,
     /// The part of the body that put it there.
     pub by: usize,
+    /// How many that part put above it at once.
+    pub above: usize,
 }
 
 #[derive(Clone, Copy, Debug, PartialEq, Eq)]
