@@ -73,7 +73,8 @@ assemble makes the same bytes of it; where numbers are padded, which the loader 
         does: "make bytes of WebAssembly's text; judges nothing",
         page: "\
 TEXT is the name of a file, - for standard input, or the text itself: it begins with a parenthesis or has white space in it. A section is a list of \
-(rec ..) and (type ..), a body a (func ..) with flat or folded instructions. A float is decimal or hex digits, inf, nan, or nan:0x and its payload. The bytes are written in hex, or as they are with --raw. With --library \
+(rec ..) and (type ..), a body a (func ..) with flat or folded instructions. A (module ..) holds both, types and one function, \
+and then the function names types and fields: assemble section and assemble body of the same text. A float is decimal or hex digits, inf, nan, or nan:0x and its payload. The bytes are written in hex, or as they are with --raw. With --library \
 the first (type ..) has the number after the library's last, and the library's types are named by their numbers.",
     },
     Command {

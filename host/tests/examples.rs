@@ -176,6 +176,13 @@ fn examples_in_text_are_the_same_bytes() {
         let wanted = bytes(&content(&file("hex"))).to_lowercase();
         assert_eq!(said.out.split_whitespace().collect::<String>(), wanted);
     }
+    // One text that holds both.
+    let module = folder().join("20-incident.wat");
+    for (kind, name) in [("section", "1-routes.hex"), ("body", "6-incident.hex")] {
+        let said = asked(&["assemble", kind], &[], &[module.to_str().expect("a name")]);
+        let wanted = bytes(&content(&folder().join(name))).to_lowercase();
+        assert_eq!(said.out.split_whitespace().collect::<String>(), wanted, "{}", said.err);
+    }
     for example in examples().iter().map(|file| read(file)) {
         let kind = if example.is_body { "body" } else { "section" };
         let options = options(&example);

@@ -148,7 +148,10 @@ fn bad_usage_is_told_in_two_lines() {
         (&["dump", "--library", "00"], "dump needs section or body and its bytes"),
         (&["dump", "body", "--library", "00", "000b"], "dump body takes no library"),
         (&["print", "body", "--library", "00", "000b"], "print body takes no library"),
-        (&["assemble", "body", "--library", "00", "nop"], "assemble body takes no library"),
+        (
+            &["assemble", "body", "--library", "00", "(func nop)"],
+            "assemble body takes a library with a (module ..) alone",
+        ),
         (&["lines", "--library", "-"], "lines reads its requests from standard input"),
         (&["lines", "--library", "hex:-"], "lines reads its requests from standard input"),
     ];
@@ -165,8 +168,8 @@ fn bad_usage_is_told_in_two_lines() {
         (&["explain", "1", "2"], "explain takes no further argument: `2`"),
         (&["assemble", "body", "no-such"], "no-such: no such file\n"),
         (
-            &["assemble", "section", "(module)"],
-            "`(type` or `(rec` is wanted here, and not `(module`",
+            &["assemble", "section", "(memory 1)"],
+            "`(type` or `(rec` is wanted here, and not `(memory`",
         ),
         (&["explain", "x"], "x: a number is decimal digits"),
         (&["print", "--quiet", "section", "00"], "print has no option --quiet"),

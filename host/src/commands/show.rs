@@ -18,7 +18,7 @@ fn chosen<'w>(
     match words {
         [] => Err(help::missing(command, &[], &["section or body", "its bytes"])),
         ["section"] => Err(help::missing(command, &["section"], &[of_section])),
-        ["body", ..] if arguments.library.is_some() => Err(format!(
+        ["body", ..] if arguments.library.is_some() && command != "assemble" => Err(format!(
             "{command} body takes no library: a body defines no types\n{}",
             help::use_of(command)
         )),
@@ -180,9 +180,13 @@ pub fn assemble(arguments: &Arguments, words: &[&str]) -> Result<Outcome, Troubl
     let before = types_before(arguments)?
         .map_err(|fault| format!("byte {} of the library: {}", fault.place, fault.why))?;
     let read = input::words(input)?;
+    if !is_section && arguments.library.is_some() && !text::is_module(&read) {
+        let why = "assemble body takes a library with a (module ..) alone: a body defines no types";
+        return Err(format!("{why}\n{}", help::use_of("assemble")));
+    }
     let bytes = match is_section {
         true => text::assemble_section(&read, before),
-        false => text::assemble_body(&read),
+        false => text::assemble_body(&read, before),
     };
     let bytes = bytes.map_err(|fault| fault.to_string())?;
     match (arguments.json, arguments.raw) {

@@ -57,7 +57,7 @@ impl Width {
             Some(text) => (self.sign(), text),
             None => (0, text.strip_prefix('+').unwrap_or(text)),
         };
-        Some(sign + self.magnitude(&text.replace('_', ""))?)
+        Some(sign + self.magnitude(&without_underscores(text)?)?)
     }
 
     fn magnitude(&self, text: &str) -> Option<u64> {
@@ -68,7 +68,8 @@ impl Width {
             return Some(self.infinite() + self.canonical());
         }
         if let Some(payload) = text.strip_prefix("nan:0x") {
-            let payload = u64::from_str_radix(payload, 16).ok()?;
+            let digits = payload.starts_with(|first: char| first.is_ascii_hexdigit());
+            let payload = u64::from_str_radix(payload, 16).ok().filter(|_| digits)?;
             return (1..1 << self.fraction).contains(&payload).then(|| self.infinite() + payload);
         }
         // What Rust reads beyond digits, as "infinity", is no number of the text.
@@ -125,6 +126,18 @@ impl Width {
         let field = last.saturating_sub(least).min(1 << self.exponent) as u64;
         (field << self.fraction).saturating_add(significand).min(self.infinite())
     }
+}
+
+/// A number's text without its underscores; none where one of them does not stand between two digits.
+pub fn without_underscores(text: &str) -> Option<String> {
+    let radix = if text.contains("0x") { 16 } else { 10 };
+    let digit = |at: Option<usize>| {
+        let character = at.and_then(|at| text.as_bytes().get(at)).copied();
+        character.is_some_and(|character| char::from(character).is_digit(radix))
+    };
+    let between = |at: usize| digit(at.checked_sub(1)) && digit(Some(at + 1));
+    let all = text.match_indices('_').all(|(at, _)| between(at));
+    all.then(|| text.replace('_', ""))
 }
 
 #[cfg(test)]
@@ -190,6 +203,19 @@ mod tests {
             assert_eq!(F32.read(text), None, "{text}");
         }
         assert_eq!(F64.read("nan:0x8000000000000").map(|bits| F64.text(bits)), Some("nan".into()));
+    }
+
+    #[test]
+    fn underscores_stand_between_digits() {
+        for text in ["1_000.5", "1_0e1_0", "0x1_0.8_0p1_0", "nan:0x40_0001"] {
+            assert!(F32.read(text).is_some(), "{text}");
+        }
+        for text in
+            ["1_", "_1", "1__0", "1_.5", "1._5", "1_e5", "1e_5", "0x_1", "0x1_p3", "nan:0x_1"]
+        {
+            assert_eq!(F32.read(text), None, "{text}");
+        }
+        assert_eq!(F32.read("nan:0x+1"), None);
     }
 
     /// Both ways, for patterns of every kind.

@@ -6,66 +6,137 @@ use super::tokens::{Fault, Words};
 use crate::syntax::{Heap, Reference, ValueType, ABSTRACT, NUMBERS};
 use std::collections::HashMap;
 
-/// Names of types by their numbers.
+/// Names by their numbers: of types, and of a type's fields.
 pub type Names<'a> = HashMap<&'a str, u32>;
 
 /// The first definition has the number after the library's last: so many come before it.
 pub fn section(text: &str, before: usize) -> Result<Vec<u8>, Fault> {
     let mut words = Words::new(text)?;
-    let names = type_names(&words, before as u32)?;
-    let mut types = Types { names, in_section: true };
-    let (mut groups, mut bytes) = (0, Vec::new());
-    while words.peek().is_some() {
-        if words.takes_open("rec") {
-            let (mut count, mut members) = (0, Vec::new());
-            while !words.takes(")") {
-                types.definition(&mut words, &mut members)?;
-                count += 1;
-            }
-            bytes.push(0x4E);
-            encode::unsigned(&mut bytes, count);
-            bytes.extend(members);
-        } else {
-            types.definition(&mut words, &mut bytes)?;
-        }
-        groups += 1;
-    }
-    let mut section = Vec::new();
-    encode::unsigned(&mut section, groups);
-    section.extend(bytes);
-    Ok(section)
+    let in_module = words.takes_open(MODULE);
+    let (types, bytes, _) = Types::read(&mut words, before as u32, in_module)?;
+    drop(types);
+    Ok(bytes)
 }
 
-pub fn body(text: &str) -> Result<Vec<u8>, Fault> {
+/// A body alone, or that of the function in a module.
+pub fn body(text: &str, before: usize) -> Result<Vec<u8>, Fault> {
     let mut words = Words::new(text)?;
-    Code::new(&mut words).body()
+    if !words.takes_open(MODULE) {
+        return Code::new(&mut words, Types::default()).body();
+    }
+    let opened = words.at();
+    let (types, _, function) = Types::read(&mut words, before as u32, true)?;
+    let Some(function) = function else {
+        return Err(words.fault_at(opened - 1, "this module has no function"));
+    };
+    words.go_to(function);
+    Code::new(&mut words, types).function()
 }
 
-/// Each definition's name, before any is read: a type may name a later one.
-fn type_names<'a>(words: &Words<'a>, before: u32) -> Result<Names<'a>, Fault> {
+const MODULE: &str = "module";
+
+/// Whether a text is a module.
+pub fn is_module(text: &str) -> bool {
+    Words::new(text).is_ok_and(|words| words.opens() == Some(MODULE))
+}
+
+/// Types by number and name. A body alone has no definitions: there `$0` is type 0.
+#[derive(Default)]
+pub struct Types<'a> {
+    names: Names<'a>,
+    /// Where the text defines types: how many, the library's among them.
+    defined: Option<u32>,
+    /// Of each struct that the text defines, its fields' names.
+    fields: HashMap<u32, Names<'a>>,
+    /// Of each function type that the text defines, parameters and results.
+    functions: HashMap<u32, [Vec<ValueType>; 2]>,
+    /// The number of the definition that is being read.
+    next: u32,
+}
+
+/// The definitions' names, each with its number, before any definition is read: a type may name a later one. They stand beside
+/// one another or in a `(rec ..)`.
+fn type_names<'a>(words: &Words<'a>, before: u32, in_module: bool) -> Result<Names<'a>, Fault> {
     let mut names = HashMap::new();
-    let mut count = before;
-    for three in words.all().windows(3) {
-        if three[0].text == "(" && three[1].text == "type" {
-            let name = three[2];
-            if name.text.starts_with('$') && names.insert(name.text, count).is_some() {
-                let why = format!("{} is the name of an earlier type too", name.text);
-                return Err(Fault { line: name.line, column: name.column, why });
+    let (mut count, mut depth, mut in_group) = (before, 0, false);
+    let outside = in_module as usize;
+    for (at, token) in words.all().iter().enumerate() {
+        let word = |further: usize| words.all().get(at + further).map(|token| token.text);
+        match token.text {
+            "(" => {
+                if depth == outside {
+                    in_group = word(1) == Some("rec");
+                }
+                let holds = depth == outside || depth == outside + 1 && in_group;
+                if holds && word(1) == Some("type") {
+                    let name = word(2).filter(|name| name.starts_with('$'));
+                    if name.is_some_and(|name| names.insert(name, count).is_some()) {
+                        let why =
+                            format!("{} is the name of an earlier type too", word(2).unwrap_or(""));
+                        return Err(words.fault_at(at + 2, why));
+                    }
+                    count += 1;
+                }
+                depth += 1;
             }
-            count += 1;
+            ")" => depth = depth.saturating_sub(1),
+            _ => (),
         }
     }
     Ok(names)
 }
 
-pub struct Types<'a> {
-    pub names: Names<'a>,
-    /// A body has no definitions: there `$0` is type 0.
-    pub in_section: bool,
-}
+impl<'a> Types<'a> {
+    /// All definitions and their section; and in a module where its one function begins.
+    fn read(
+        words: &mut Words<'a>,
+        before: u32,
+        in_module: bool,
+    ) -> Result<(Types<'a>, Vec<u8>, Option<usize>), Fault> {
+        let names = type_names(words, before, in_module)?;
+        let mut types = Types { names, defined: Some(before), next: before, ..Types::default() };
+        let (mut groups, mut bytes, mut function) = (0, Vec::new(), None);
+        if in_module {
+            words.name();
+        }
+        while words.peek().is_some_and(|text| !(in_module && text == ")")) {
+            if in_module && words.opens() == Some("func") {
+                if function.replace(words.at()).is_some() {
+                    return Err(words.fault("a module has one function here, and this is another"));
+                }
+                words.pass_over()?;
+                continue;
+            }
+            if words.takes_open("rec") {
+                let (mut count, mut members) = (0, Vec::new());
+                while !words.takes(")") {
+                    types.definition(words, &mut members)?;
+                    count += 1;
+                }
+                bytes.push(0x4E);
+                encode::unsigned(&mut bytes, count);
+                bytes.extend(members);
+            } else if in_module && words.opens() != Some("type") {
+                return Err(words.unexpected("`(type`, `(rec` or `(func`"));
+            } else {
+                types.definition(words, &mut bytes)?;
+            }
+            groups += 1;
+        }
+        if in_module {
+            words.wants(")")?;
+            if words.peek().is_some() {
+                return Err(words.unexpected("nothing more"));
+            }
+        }
+        types.defined = Some(types.next);
+        let mut section = Vec::new();
+        encode::unsigned(&mut section, groups);
+        section.extend(bytes);
+        Ok((types, section, function))
+    }
 
-impl Types<'_> {
-    fn definition(&mut self, words: &mut Words, to: &mut Vec<u8>) -> Result<(), Fault> {
+    fn definition(&mut self, words: &mut Words<'a>, to: &mut Vec<u8>) -> Result<(), Fault> {
         if !words.takes_open("type") {
             return Err(words.unexpected("`(type` or `(rec`"));
         }
@@ -91,26 +162,32 @@ impl Types<'_> {
         if front {
             words.wants(")")?;
         }
+        self.next = self.next.saturating_add(1);
         words.wants(")")
     }
 
-    fn form(&mut self, words: &mut Words, to: &mut Vec<u8>) -> Result<(), Fault> {
+    fn form(&mut self, words: &mut Words<'a>, to: &mut Vec<u8>) -> Result<(), Fault> {
         if words.takes_open("struct") {
             to.push(0x5F);
-            let (mut count, mut fields) = (0, Vec::new());
+            let (mut count, mut fields, mut names) = (0, Vec::new(), HashMap::new());
             while words.takes_open("field") {
-                words.name();
+                let named = named(words, &mut names, count, "field of this type")?;
+                let first = count;
                 while !words.takes(")") {
+                    one_of_a_name(words, named, count - first)?;
                     self.field(words, &mut fields)?;
                     count += 1;
                 }
+                some_of_a_name(words, named, count - first)?;
             }
+            self.fields.insert(self.next, names);
             encode::unsigned(to, count);
             to.extend(fields);
         } else if words.takes_open("func") {
             to.push(0x60);
-            self.values(words, to, "param")?;
-            self.values(words, to, "result")?;
+            let taken = self.values(words, to, "param")?;
+            let given = self.values(words, to, "result")?;
+            self.functions.insert(self.next, [taken, given]);
         } else {
             return Err(words.unexpected("`(struct`, `(func` or a clause before them"));
         }
@@ -127,34 +204,72 @@ impl Types<'_> {
         Ok(())
     }
 
-    fn values(&mut self, words: &mut Words, to: &mut Vec<u8>, word: &str) -> Result<(), Fault> {
-        let (mut count, mut values) = (0, Vec::new());
+    fn values(
+        &mut self,
+        words: &mut Words<'a>,
+        to: &mut Vec<u8>,
+        word: &str,
+    ) -> Result<Vec<ValueType>, Fault> {
+        let (mut values, mut names, mut bytes) = (Vec::new(), HashMap::new(), Vec::new());
         while words.takes_open(word) {
-            words.name();
+            let named = match word {
+                "param" => named(words, &mut names, values.len() as u32, "parameter of this type")?,
+                _ => None,
+            };
+            let first = values.len();
             while !words.takes(")") {
-                encode::value(&mut values, self.value(words)?);
-                count += 1;
+                one_of_a_name(words, named, (values.len() - first) as u32)?;
+                let value = self.value(words)?;
+                encode::value(&mut bytes, value);
+                values.push(value.value);
             }
+            some_of_a_name(words, named, (values.len() - first) as u32)?;
         }
-        encode::unsigned(to, count);
-        to.extend(values);
-        Ok(())
+        encode::unsigned(to, values.len() as u32);
+        to.extend(bytes);
+        Ok(values)
     }
 
     /// A type by its number or name.
     pub fn number(&self, words: &mut Words) -> Result<u32, Fault> {
-        let fault = words.peek().map(|text| words.fault(format!("no type is named {text}")));
-        match words.name() {
-            None => words.number("a type's number or name"),
-            Some(name) if self.in_section => {
-                self.names.get(name).copied().ok_or_else(|| fault.expect("a name is there"))
-            }
-            Some(name) => name[1..].parse().map_err(|_| {
-                let mut fault = fault.expect("a name is there");
-                fault.why = "in a body a type is named by its number, as 0 or $0".to_string();
-                fault
+        let at = words.at();
+        match (words.name(), self.defined) {
+            (None, _) => words.number("a type's number or name"),
+            (Some(name), Some(_)) => self
+                .names
+                .get(name)
+                .copied()
+                .ok_or_else(|| words.fault_at(at, format!("no type is named {name}"))),
+            (Some(name), None) => name[1..].parse().map_err(|_| {
+                let why = "in a body alone a type is named by its number, as 0 or $0; a (module ..) has names";
+                words.fault_at(at, why)
             }),
         }
+    }
+
+    /// A field of a type by its number or name.
+    pub fn field_number(&self, words: &mut Words, of: u32) -> Result<u32, Fault> {
+        let at = words.at();
+        let Some(name) = words.name() else { return words.number("a field's number or name") };
+        let found = self.fields.get(&of).and_then(|names| names.get(name)).copied();
+        found.ok_or_else(|| {
+            let why = match self.defined {
+                None => "in a body alone a field is named by its number; a (module ..) has names"
+                    .to_string(),
+                Some(_) => format!("type {of} has no field that is named {name}"),
+            };
+            words.fault_at(at, why)
+        })
+    }
+
+    /// Parameters and results of a function type that the text defines.
+    pub fn function(&self, number: u32) -> Option<&[Vec<ValueType>; 2]> {
+        self.functions.get(&number)
+    }
+
+    /// Whether the text defines types, and this is none of them and none of the library's.
+    pub fn lacks(&self, number: u32) -> bool {
+        self.defined.is_some_and(|count| number >= count)
     }
 
     pub fn heap(&self, words: &mut Words) -> Result<Heap, Fault> {
@@ -196,5 +311,40 @@ impl Types<'_> {
             ValueType::Ref(reference) => Ok(reference),
             _ => Err(fault),
         }
+    }
+}
+
+/// A name that stands here, which is kept with its number; what has it once already is told.
+pub fn named<'a>(
+    words: &mut Words<'a>,
+    names: &mut Names<'a>,
+    number: u32,
+    what: &str,
+) -> Result<Option<&'a str>, Fault> {
+    let at = words.at();
+    let Some(name) = words.name() else { return Ok(None) };
+    match names.insert(name, number) {
+        Some(_) => Err(words.fault_at(at, format!("{name} is the name of an earlier {what} too"))),
+        None => Ok(Some(name)),
+    }
+}
+
+/// A name is that of one: before each type.
+pub fn one_of_a_name(words: &Words, name: Option<&str>, before: u32) -> Result<(), Fault> {
+    match name {
+        Some(name) if before > 0 => {
+            Err(words.fault(format!("{name} names one, and this is a second type behind it")))
+        }
+        _ => Ok(()),
+    }
+}
+
+/// A name is that of one: behind the last.
+pub fn some_of_a_name(words: &Words, name: Option<&str>, count: u32) -> Result<(), Fault> {
+    match name {
+        Some(name) if count == 0 => {
+            Err(words.fault_at(words.at() - 1, format!("{name} needs its type before this")))
+        }
+        _ => Ok(()),
     }
 }

@@ -1,13 +1,16 @@
 //! From text to bytes: a body's locals and instructions, flat or folded.
 
-use super::assemble::Types;
+use super::assemble::{named, one_of_a_name, some_of_a_name, Types};
 use super::encode::{self, Written};
-use super::tokens::{Fault, Words};
+use super::tokens::{read_unsigned, Fault, Words};
 use crate::syntax::{float, BranchingCast, Instruction, New, Numeric, Plain, PLAIN};
 use std::collections::HashMap;
 
 /// Folded instructions inside one another.
 const FOLDED_AT_MOST: usize = 500;
+
+/// Before the count of an entry of locals that is not written out.
+pub const TIMES: &str = "times=";
 
 pub struct Code<'w, 'a> {
     words: &'w mut Words<'a>,
@@ -20,14 +23,34 @@ pub struct Code<'w, 'a> {
 }
 
 impl<'w, 'a> Code<'w, 'a> {
-    pub fn new(words: &'w mut Words<'a>) -> Code<'w, 'a> {
-        let types = Types { names: HashMap::new(), in_section: false };
+    pub fn new(words: &'w mut Words<'a>, types: Types<'a>) -> Code<'w, 'a> {
         Code { words, types, locals: HashMap::new(), count: 0, labels: Vec::new(), folded: 0 }
     }
 
-    /// A `(func ..)`, whose closing parenthesis is the last `end`, or what would stand in one.
+    /// A `(func ..)`, whose closing parenthesis is the last `end`, or what would stand in one; and nothing more.
     pub fn body(&mut self) -> Result<Vec<u8>, Fault> {
-        let wrapped = self.words.takes_open("func");
+        let bytes = match self.words.opens() {
+            Some("func") => self.function()?,
+            _ => self.inside()?,
+        };
+        match self.words.peek() {
+            None => Ok(bytes),
+            Some(_) => Err(self.words.unexpected("nothing more")),
+        }
+    }
+
+    /// A `(func ..)` that stands here.
+    pub fn function(&mut self) -> Result<Vec<u8>, Fault> {
+        if !self.words.takes_open("func") {
+            return Err(self.words.unexpected("`(func`"));
+        }
+        let bytes = self.inside()?;
+        self.words.wants(")")?;
+        Ok(bytes)
+    }
+
+    /// What stands in a `(func ..)`.
+    fn inside(&mut self) -> Result<Vec<u8>, Fault> {
         self.header()?;
         let mut bytes = self.entries()?;
         let mut ended = false;
@@ -43,61 +66,77 @@ impl<'w, 'a> Code<'w, 'a> {
         if !ended {
             bytes.push(0x0B);
         }
-        if wrapped {
-            self.words.wants(")")?;
-        }
-        match self.words.peek() {
-            None => Ok(bytes),
-            Some(_) => Err(self.words.unexpected("nothing more")),
-        }
+        Ok(bytes)
     }
 
-    /// A name, a type, parameters and results: the body's bytes do not say them. Parameters are counted as locals.
+    /// A name, a type, parameters and results: the body's bytes do not say them. Parameters are counted as locals; where they
+    /// are not written, those of the type are, if the text defines it.
     fn header(&mut self) -> Result<(), Fault> {
         self.words.name();
+        let at = self.words.at();
+        let mut of_type = None;
         if self.words.takes_open("type") {
-            self.types.number(self.words)?;
+            let number = self.types.number(self.words)?;
+            if self.types.lacks(number) {
+                return Err(self.words.fault_at(at + 2, format!("there is no type {number}")));
+            }
+            of_type = self.types.function(number).cloned();
             self.words.wants(")")?;
         }
+        let (mut taken, mut given) = (Vec::new(), Vec::new());
         while self.words.takes_open("param") {
-            self.declared()?;
+            taken.extend(self.declared("param")?.into_iter().map(|written| written.value));
         }
         while self.words.takes_open("result") {
             while !self.words.takes(")") {
-                self.types.value(self.words)?;
+                given.push(self.types.value(self.words)?.value);
             }
         }
-        Ok(())
+        match of_type {
+            Some([parameters, _]) if taken.is_empty() && given.is_empty() => {
+                self.count = parameters.len() as u32;
+                Ok(())
+            }
+            Some(of_type) if of_type != [taken, given] => {
+                Err(self.words.fault_at(at, "parameters and results are not those of this type"))
+            }
+            _ => Ok(()),
+        }
     }
 
     /// The types up to a closing parenthesis, or one behind a name.
-    fn declared(&mut self) -> Result<Vec<Written>, Fault> {
-        let name = self.words.name();
-        if let Some(name) = name {
-            self.locals.insert(name, self.count);
-        }
+    fn declared(&mut self, word: &str) -> Result<Vec<Written>, Fault> {
+        let what = match word {
+            "param" => "parameter",
+            _ => "parameter or local",
+        };
+        let name = named(self.words, &mut self.locals, self.count, what)?;
         let mut values = Vec::new();
         while !self.words.takes(")") {
+            one_of_a_name(self.words, name, values.len() as u32)?;
             values.push(self.types.value(self.words)?);
         }
+        some_of_a_name(self.words, name, values.len() as u32)?;
         self.count = self.count.saturating_add(values.len() as u32);
         Ok(values)
     }
 
-    /// Locals: a run of one type in one `(local ..)` is an entry.
+    /// Locals: a run of one type in one `(local ..)` is an entry. An entry of none, or of very many, is written by its count,
+    /// which no other tool reads.
     fn entries(&mut self) -> Result<Vec<u8>, Fault> {
         let mut entries: Vec<(u32, Written)> = Vec::new();
         while self.words.takes_open("local") {
-            if self.words.takes_open("@times") {
-                let times = self.words.number("a count of locals")?;
-                self.words.wants(")")?;
+            if let Some(times) = self.words.peek().and_then(|text| text.strip_prefix(TIMES)) {
+                let unread = self.words.unexpected("times= and a count of locals");
+                let times = read_unsigned(times).ok_or(unread)?;
+                self.words.take();
                 entries.push((times, self.types.value(self.words)?));
                 self.words.wants(")")?;
                 self.count = self.count.saturating_add(times);
                 continue;
             }
             let first = entries.len();
-            for value in self.declared()? {
+            for value in self.declared("local")? {
                 match entries[first..].last_mut() {
                     Some((times, last)) if *last == value => *times += 1,
                     _ => entries.push((1, value)),
@@ -123,9 +162,10 @@ impl<'w, 'a> Code<'w, 'a> {
             Some("block" | "loop") => self.open(to)?,
             Some("end") => {
                 self.words.take();
-                self.words.name();
+                let open = self.labels.pop();
+                self.end_name(open.flatten())?;
                 to.push(0x0B);
-                return Ok(self.labels.pop().is_none());
+                return Ok(open.is_none());
             }
             _ => {
                 let plain = self.plain()?;
@@ -133,6 +173,23 @@ impl<'w, 'a> Code<'w, 'a> {
             }
         }
         Ok(false)
+    }
+
+    /// Behind `end` a block's own name may stand, and no other.
+    fn end_name(&mut self, own: Option<&str>) -> Result<(), Fault> {
+        let at = self.words.at();
+        match (self.words.name(), own) {
+            (None, _) => Ok(()),
+            (Some(name), Some(own)) if name == own => Ok(()),
+            (Some(name), Some(own)) => Err(self
+                .words
+                .fault_at(at, format!("this `end` is that of {own}, and not of {name}"))),
+            (Some(name), None) => {
+                let why =
+                    format!("this `end` is that of a block without a name, and not of {name}");
+                Err(self.words.fault_at(at, why))
+            }
+        }
     }
 
     fn open(&mut self, to: &mut Vec<u8>) -> Result<(), Fault> {
@@ -224,8 +281,14 @@ impl<'w, 'a> Code<'w, 'a> {
             "struct.new_default" => self.new_struct(true, false)?,
             "struct.new_desc" => self.new_struct(false, true)?,
             "struct.new_default_desc" => self.new_struct(true, true)?,
-            "struct.get" => Instruction::GetField(self.types.number(self.words)?, self.field()?),
-            "struct.set" => Instruction::SetField(self.types.number(self.words)?, self.field()?),
+            "struct.get" => {
+                let number = self.types.number(self.words)?;
+                Instruction::GetField(number, self.types.field_number(self.words, number)?)
+            }
+            "struct.set" => {
+                let number = self.types.number(self.words)?;
+                Instruction::SetField(number, self.types.field_number(self.words, number)?)
+            }
             "ref.get_desc" => Instruction::GetDescriptor(self.types.number(self.words)?),
             "ref.test" => Instruction::Test(self.types.reference(self.words)?),
             "ref.cast" => Instruction::Cast(self.types.reference(self.words)?),
@@ -236,10 +299,6 @@ impl<'w, 'a> Code<'w, 'a> {
             "br_on_cast_desc_eq_fail" => self.branching(true, true)?,
             _ => return Err(unlisted),
         })
-    }
-
-    fn field(&mut self) -> Result<u32, Fault> {
-        self.words.number("a field's number")
     }
 
     fn new_struct(&mut self, default: bool, by_descriptor: bool) -> Result<Instruction, Fault> {

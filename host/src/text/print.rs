@@ -1,5 +1,6 @@
 //! From bytes to text.
 
+use super::instruction::TIMES;
 use crate::dump::{ends, opens};
 use crate::read::{self, Fault, Padding};
 use crate::syntax::{Abstract, Field, Form, Heap, Instruction, Item, Placed, Type, ValueType};
@@ -8,8 +9,8 @@ use std::ops::Range;
 /// Blocks inside one another beyond these are not moved further to the right.
 const INDENT_AT_MOST: usize = 8;
 
-/// Entries of so many locals are written out; of others the count is.
-pub const WRITTEN_OUT: u32 = 16;
+/// So many locals are written out, as many as the loader accepts; behind them, and of an entry of none, the count is.
+pub const WRITTEN_OUT: u64 = 256;
 
 /// A section whose types are numbered on after so many of the library, which its text names by their numbers.
 pub fn section(bytes: &[u8], before: usize) -> Result<String, Fault> {
@@ -39,12 +40,15 @@ pub fn body(bytes: &[u8]) -> Result<String, Fault> {
     }
     let printer = Printer { bytes, named: 0..0 };
     let mut text = format!("{}(func\n", remark(!read.padded.is_empty()));
-    let mut frames = 1;
+    let (mut frames, mut locals) = (1, 0);
     for (index, part) in read.parts.iter().enumerate() {
+        if let Item::Locals(count, _) = part.what {
+            locals += u64::from(count);
+        }
         frames -= ends(part) as usize;
         // The last `end` is the closing parenthesis.
         if index + 1 < read.parts.len() {
-            if let Some(line) = printer.part(part) {
+            if let Some(line) = printer.part(part, locals) {
                 text += &format!("{}{line}\n", "  ".repeat(frames.clamp(1, INDENT_AT_MOST)));
             }
         }
@@ -154,17 +158,15 @@ impl Printer<'_> {
         }
     }
 
-    /// The count of entries is not written: they are there to be counted.
-    fn part(&self, part: &Placed<Item>) -> Option<String> {
+    /// The count of entries is not written: they are there to be counted. With so many locals up to this one.
+    fn part(&self, part: &Placed<Item>, locals: u64) -> Option<String> {
         match part.what {
             Item::Entries(_) => None,
             Item::Locals(count, value) => {
                 let written = self.value(value, self.past_number(part.bytes.start));
-                Some(match count {
-                    1..=WRITTEN_OUT => {
-                        format!("(local{})", format!(" {written}").repeat(count as usize))
-                    }
-                    _ => format!("(local (@times {count}) {written})"),
+                Some(match count > 0 && locals <= WRITTEN_OUT {
+                    true => format!("(local{})", format!(" {written}").repeat(count as usize)),
+                    false => format!("(local {TIMES}{count} {written})"),
                 })
             }
             Item::Instruction(Instruction::Block(Some(value)) | Instruction::Loop(Some(value))) => {

@@ -1,6 +1,6 @@
 //! The law of `print` and `assemble`, and the text's forms.
 
-use super::{assemble_body, print_body};
+use super::print_body;
 use crate::hex::read_text;
 use crate::read::section::{read_addon, read_library};
 use crate::read::{self, Padding};
@@ -24,6 +24,10 @@ fn print_section(bytes: &[u8]) -> Result<String, read::Fault> {
 
 fn assemble_section(text: &str) -> Result<Vec<u8>, text::tokens::Fault> {
     text::assemble_section(text, 0)
+}
+
+fn assemble_body(text: &str) -> Result<Vec<u8>, text::tokens::Fault> {
+    text::assemble_body(text, 0)
 }
 
 /// A section after so many types of a library, or a body.
@@ -172,8 +176,8 @@ fn forms_of_bodies() {
 (func
   (local i32)
   (local anyref anyref)
-  (local (@times 0) i64)
-  (local (@times 300) (ref null eq))
+  (local times=0 i64)
+  (local times=300 (ref null eq))
   block (result (ref null any))
     i32.const -5
     br_if 0
@@ -239,7 +243,7 @@ fn text_by_hand() {
     let wanted =
         "02 4E 02 50 00 4D 01 5F 03 7F 00 7E 00 7D 01 50 00 4C 00 5F 00 60 02 7F 7E 01 64 00";
     assert_eq!(section_of(section), digits(wanted));
-    let folded = "(func $f (type 2) (param $a i32) (result i32) (local $b i32 i64)
+    let folded = "(func $f (type 2) (param $a i32) (result i32) (local $b i32) (local i64)
         (block $out (result i32)
           (br_if $out (local.get $a) (i32.const 0x10)))
         (local.set $b) (drop (ref.test anyref (ref.null any))) local.get $b)";
@@ -270,6 +274,126 @@ fn text_that_goes_wrong_is_told_by_line_and_column() {
     assert!(of_body("br $x").contains("line 1, column 4"));
     assert!(of_body("i32.const 4294967296").contains("a number of 32 bits"));
     assert!(of_body(&"(drop ".repeat(10_000)).contains("too many folded"));
+}
+
+/// What would be read with another meaning than the one meant: line and column of the word that is amiss.
+#[test]
+fn the_assembler_is_strict() {
+    let of_section = |text: &str| assemble_section(text).expect_err(text).to_string();
+    let of_body = |text: &str| assemble_body(text).expect_err(text).to_string();
+    let bodies = [
+        (
+            "(func (local $a i32) (local $a i64))",
+            "1, column 29: $a is the name of an earlier parameter or local",
+        ),
+        ("(func (param $a i32)\n(local $a i32))", "2, column 8: $a is the name of an earlier"),
+        (
+            "(func (param $a i32) (param $a i32))",
+            "1, column 29: $a is the name of an earlier parameter",
+        ),
+        ("(func (local $a i32 i64))", "1, column 21: $a names one, and this is a second type"),
+        ("(func (local $a))", "1, column 16: $a needs its type"),
+        ("block $a end $b", "1, column 14: this `end` is that of $a, and not of $b"),
+        ("block end $b", "1, column 11: this `end` is that of a block without a name"),
+        ("nop end $f", "1, column 9: this `end` is that of a block without a name"),
+        ("i32.const 1__000", "1, column 11: a number of 32 bits is wanted here"),
+        ("i32.const 1_", "1, column 11: "),
+        ("i32.const _1", "1, column 11: "),
+        ("i32.const 0x_1", "1, column 11: "),
+        ("i32.const 0x+1", "1, column 11: "),
+        ("f64.const 1_.5", "1, column 11: a float is wanted here"),
+        ("br 0_", "1, column 4: a label is wanted here"),
+        ("(func (local (@times 3) i32))", "1, column 14: a value type is wanted here"),
+        ("(func (local times=x i32))", "1, column 14: times= and a count"),
+        ("struct.get 0 $x", "1, column 14: in a body alone a field is named by its number"),
+        ("struct.new $x", "1, column 12: in a body alone a type is named by its number"),
+    ];
+    for (text, fault) in bodies {
+        assert!(of_body(text).starts_with(&format!("line {fault}")), "{text}: {}", of_body(text));
+    }
+    let sections = [
+        ("(type (struct (field $a i32 i64)))", "1, column 29: $a names one"),
+        (
+            "(type (struct (field $a i32) (field $a i32)))",
+            "1, column 37: $a is the name of an earlier field",
+        ),
+        ("(type (struct (field $a)))", "1, column 24: $a needs its type"),
+        ("(type (func (param $a i32 i64)))", "1, column 27: $a names one"),
+    ];
+    for (text, fault) in sections {
+        assert!(
+            of_section(text).starts_with(&format!("line {fault}")),
+            "{text}: {}",
+            of_section(text)
+        );
+    }
+    assert_eq!(
+        body_of("block $a end $a i32.const 1_000 drop"),
+        digits("00 02 40 0B 41 E8 07 1A 0B")
+    );
+}
+
+/// Types and a function in one text: the incident's, by names; the function may stand before the types.
+#[test]
+fn a_module_has_names() {
+    let types = "(rec (type $kind (sub (descriptor $of) (struct (field $id i32) (field $length (mut i64)))))
+                      (type $of (sub (describes $kind) (struct))))
+                 (type $reader (func (param $at (ref null $kind)) (result i64)))";
+    let function = "(func $read (type $reader) (local $end i64)
+                      (struct.set $kind $length (local.get 0) (local.get $end))
+                      (struct.get $kind $length (ref.cast (ref (exact $kind)) (local.get 0))))";
+    let section = "02 4E 02 50 00 4D 01 5F 02 7F 00 7E 01 50 00 4C 00 5F 00 60 01 63 00 01 7E";
+    // One local of i64, which is local 1: the parameter is the type's.
+    let body = "01 01 7E 20 00 20 01 FB 05 00 01 20 00 FB 16 62 00 FB 02 00 01 0B";
+    for text in [format!("(module $m {types} {function})"), format!("(module {function} {types})")]
+    {
+        assert_eq!(section_of(&text), digits(section), "{text}");
+        assert_eq!(body_of(&text), digits(body), "{text}");
+    }
+    // After a library of three types.
+    let text = format!("(module {types} {function})");
+    let after = text::assemble_body(&text, 3).expect("it can be read");
+    assert_eq!(after, digits("01 01 7E 20 00 20 01 FB 05 03 01 20 00 FB 16 62 03 FB 02 03 01 0B"));
+}
+
+#[test]
+fn a_module_that_goes_wrong_is_told() {
+    let of_body = |text: &str| assemble_body(text).expect_err(text).to_string();
+    let cases = [
+        ("(module (type $a (struct)))", "1, column 2: this module has no function"),
+        ("(module (func) (func))", "1, column 16: a module has one function here"),
+        (
+            "(module (memory 1) (func))",
+            "1, column 9: `(type`, `(rec` or `(func` is wanted here, and not `(memory`",
+        ),
+        ("(module (func) nop)", "1, column 16: "),
+        ("(module (func)) (func)", "1, column 17: nothing more is wanted here"),
+        ("(module (func", "1, column 9: this parenthesis is not closed"),
+        ("(module (func (type $t)))", "1, column 21: no type is named $t"),
+        ("(module (func (type 3)))", "1, column 21: there is no type 3"),
+        (
+            "(module (type $t (func)) (func (type $t) (param i32)))",
+            "1, column 32: parameters and results are not",
+        ),
+        (
+            "(module (type $a (struct (field $x i32))) (func (struct.get $a $y)))",
+            "1, column 64: type 0 has no field that is named $y",
+        ),
+    ];
+    for (text, fault) in cases {
+        assert!(of_body(text).starts_with(&format!("line {fault}")), "{text}: {}", of_body(text));
+    }
+    assert_eq!(section_of("(module)"), [0x00]);
+}
+
+/// As many locals as the loader takes are written as any tool reads them; behind them, and of none, by a word that no tool reads.
+#[test]
+fn locals_are_written_out() {
+    let many = print_body(&digits("01 80 02 7F 0B")).expect("it can be read");
+    assert_eq!(many, format!("(func\n  (local{})\n)\n", " i32".repeat(256)));
+    let more = print_body(&digits("02 01 7F 80 02 7F 0B")).expect("it can be read");
+    assert_eq!(more, "(func\n  (local i32)\n  (local times=256 i32)\n)\n");
+    assert!(!more.contains('@'));
 }
 
 /// A body of 32 KB never gives more than some 2 MB, however deep, and each byte is in the listing.
@@ -348,7 +472,8 @@ fn any_words_are_answered() {
         "0",
         "-1",
         "(local",
-        "(@times",
+        "times=3",
+        "(module",
         "block",
         "loop",
         "end",

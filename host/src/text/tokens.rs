@@ -1,6 +1,6 @@
 //! Text as parentheses and words, with where each stands.
 
-use crate::syntax::float::Width;
+use crate::syntax::float::{without_underscores, Width};
 use std::fmt;
 
 #[derive(Debug)]
@@ -131,9 +131,40 @@ impl<'a> Words<'a> {
     }
 
     pub fn fault(&self, why: impl Into<String>) -> Fault {
-        let token = self.tokens.get(self.at).or(self.tokens.last());
+        self.fault_at(self.at, why)
+    }
+
+    /// At a word that was taken.
+    pub fn fault_at(&self, at: usize, why: impl Into<String>) -> Fault {
+        let token = self.tokens.get(at).or(self.tokens.last());
         let (line, column) = token.map_or((1, 1), |token| (token.line, token.column));
         Fault { line, column, why: why.into() }
+    }
+
+    /// Where the next word stands among all.
+    pub fn at(&self) -> usize {
+        self.at
+    }
+
+    pub fn go_to(&mut self, at: usize) {
+        self.at = at;
+    }
+
+    /// Past a part in parentheses that opens here; what is in it is not looked at.
+    pub fn pass_over(&mut self) -> Result<(), Fault> {
+        let opened = self.at;
+        let mut depth = 0;
+        loop {
+            match self.take() {
+                Some("(") => depth += 1,
+                Some(")") => depth -= 1,
+                Some(_) => (),
+                None => return Err(self.fault_at(opened, "this parenthesis is not closed")),
+            }
+            if depth == 0 {
+                return Ok(());
+            }
+        }
     }
 
     /// What stands here instead of what is wanted.
@@ -201,20 +232,22 @@ impl<'a> Words<'a> {
     }
 }
 
-fn read_unsigned(text: &str) -> Option<u32> {
+pub fn read_unsigned(text: &str) -> Option<u32> {
     read_digits(text).and_then(|number| u32::try_from(number).ok())
 }
 
-/// Decimal, or hex digits behind 0x; an underscore may stand between digits.
+/// Decimal, or hex digits behind 0x.
 fn read_digits(text: &str) -> Option<u64> {
-    if !text.starts_with(|first: char| first.is_ascii_digit()) {
+    let digits = without_underscores(text)?;
+    let (digits, radix) = match digits.strip_prefix("0x") {
+        Some(hex) => (hex, 16),
+        None => (&digits[..], 10),
+    };
+    // No sign, which Rust would read.
+    if !digits.starts_with(|first: char| first.is_digit(radix)) {
         return None;
     }
-    let digits = text.replace('_', "");
-    match digits.strip_prefix("0x") {
-        Some(hex) => u64::from_str_radix(hex, 16).ok(),
-        None => digits.parse().ok(),
-    }
+    u64::from_str_radix(digits, radix).ok()
 }
 
 /// Of 32 bits from -2^31 to 2^32 - 1, of 64 likewise.
