@@ -3,12 +3,13 @@
 # built; the proofs in target/ stay.
 # demo: judge the sections and bodies of examples/ by the program and run some of them, then answer the requests of
 # examples/requests.txt by computing the definitions.
+# test: what can be tested without proving anything: the pages, the plain checker, the program, the archive from outside.
 # check: run the gate. compare: the library against the plain checker on COUNT requests. floats: its float operations against
 # the processor's own on PAIRS pairs each. valgrind: the library under it.
 # bench: times, to docs/BENCH.md.
 # The library needs the Rattle toolchain's rt, all else cargo, on x86-64 or Arm. With CHELBUGAN_LIB_DIR, a folder with a
 # libchelbugan.a that is there, nothing is proved and rt is not needed.
-.PHONY: all library cargo install uninstall clean demo check compare floats valgrind bench
+.PHONY: all library cargo install uninstall clean demo test check compare floats valgrind bench
 
 REQUESTS := examples/requests.txt
 SEED := 1
@@ -25,6 +26,7 @@ ARCHIVE := $(if $(CHELBUGAN_LIB_DIR),$(CHELBUGAN_LIB_DIR),build)/libchelbugan.a
 HEADER := include/chelbugan.h
 VERSION := $(shell sed -n 's/^.define CHELBUGAN_VERSION_TEXT "\(.*\)"/\1/p' $(HEADER))
 INTO := $(DESTDIR)$(PREFIX)
+TEST = CHELBUGAN_LIB_DIR=$(abspath $(dir $(ARCHIVE))) cargo test --release --quiet --manifest-path
 
 all: library cargo
 	@cargo build --release --quiet --manifest-path host/Cargo.toml
@@ -74,6 +76,18 @@ demo: all
 	@echo 'Requests in lines, answered by computing the definitions:'
 	@answers=$$(cargo run --release --quiet --manifest-path tests/definitions/Cargo.toml -- . < $(REQUESTS)) && \
 	printf '%s\n' "$$answers" | sed 's/^/    /' | paste -d '\n' $(REQUESTS) -
+
+# The archive that is there is tested as it is: cargo is told its folder, so that no build script begins to prove.
+test: cargo
+	@[ -f $(ARCHIVE) ] || { echo 'make: there is no $(ARCHIVE) to test: make library proves and builds it, or CHELBUGAN_LIB_DIR names' >&2; \
+	    echo 'make: a folder that has a libchelbugan.a. make test itself proves nothing.' >&2; exit 1; }
+	@$(if $(CHELBUGAN_LIB_DIR),,[ -z "$$(find crates crates.txt -type f -newer $(ARCHIVE) | head -n 1)" ] || \
+	    echo 'make: files of crates/ are newer than $(ARCHIVE); what is tested is the archive as it was built')
+	@echo '== what the pages name' && tests/pages/check
+	@echo '== plain checker' && $(TEST) tests/plain/Cargo.toml
+	@echo '== the program' && $(TEST) host/Cargo.toml
+	@echo '== the archive from outside' && $(TEST) tests/host/Cargo.toml
+	@echo 'every test passed with $(ARCHIVE); nothing was proved (make check does that)'
 
 check:
 	.ci/run
