@@ -17,7 +17,7 @@ For whoever asks what the proofs cost in speed. `make bench` measures anew and w
 
 Machine: {machine}.
 
-The proved loader and the plain checker of `tests/plain` judge the same inputs, one after the other in turn. A time is the least of 45 samples of 3 ms each (of one call where that takes longer), in three rounds: other work on the machine only adds to it. Buffers are cleared first. The loader clears what it is lent in each call, and that is in its time: 163,840 bytes at the start for a section, 180,224 at the start and again at the end for a body; a run's eleven buffers are 332,202 bytes. The plain checker allocates its tree and its lists, which is in its time. A ratio below 1 means that the loader is the faster one. In the tables lower is better but for steps a second.
+The proved loader and the plain checker of `tests/plain` judge the same inputs, one after the other in turn. A time is the least of 45 samples of 3 ms each (of one call where that takes longer), in three rounds: other work on the machine only adds to it. Buffers are cleared first. The loader clears what it is lent in each call, and that is in its time: 163,840 bytes for a section, 229,376 for a body, 648,020 for a run (DECISIONS, on what is cleared); a refused section is cleared twice. The plain checker allocates its tree and its lists, which is in its time. A ratio below 1 means that the loader is the faster one. In the tables lower is better but for steps a second.
 
 ## Sections
 

@@ -208,13 +208,23 @@ fn a_body_is_listed_with_offsets() {
     }
 }
 
-/// Each command of the page, after its prompt, and what stands below it up to the next command or line that is not indented.
 #[test]
-fn the_readme_shows_what_is_printed() {
+fn the_pages_show_what_is_printed() {
+    for page in ["README.md", "docs/INCIDENT.md"] {
+        let commands = commands_shown(page);
+        for command in ["check", "run"] {
+            assert!(commands.iter().any(|shown| shown == command), "{page}: {command} is not shown");
+        }
+    }
+}
+
+/// Each command of a page, after its prompt, and what stands below it up to the next command or line that is not indented: the
+/// commands, once all of them printed what the page says.
+fn commands_shown(page: &str) -> Vec<String> {
     let root = std::path::Path::new(env!("CARGO_MANIFEST_DIR")).join("..");
-    let readme = std::fs::read_to_string(root.join("README.md")).expect("the README");
+    let text = std::fs::read_to_string(root.join(page)).expect("the page");
     let mut commands = Vec::new();
-    for shown in readme.split("    $ build/chelbugan ").skip(1) {
+    for shown in text.split("    $ build/chelbugan ").skip(1) {
         let (command, below) = shown.split_once('\n').expect("what is printed");
         let printed = below.lines().take_while(|line| line.is_empty() || line.starts_with("    "));
         let printed: Vec<&str> = printed.map(|line| line.get(4..).unwrap_or("")).collect();
@@ -223,9 +233,7 @@ fn the_readme_shows_what_is_printed() {
         assert_eq!(chelbugan(&arguments).out.trim_end(), printed.join("\n").trim_end());
         commands.push(arguments[0].to_string());
     }
-    for command in ["check", "run"] {
-        assert!(commands.iter().any(|shown| shown == command), "{command} is not shown");
-    }
+    commands
 }
 
 /// A command's words; a part between quotes is one, and the repository's files are named as from here.
