@@ -12,6 +12,8 @@ pub struct Arguments {
     pub version: bool,
     pub raw: bool,
     pub page: bool,
+    pub fail_on_trap: bool,
+    pub trace: bool,
     /// Of `--library`: an input like any other.
     pub library: Option<String>,
 }
@@ -32,6 +34,8 @@ impl Arguments {
                 "--version" | "-V" => arguments.version = true,
                 "--raw" => arguments.raw = true,
                 "--page" => arguments.page = true,
+                "--fail-on-trap" => arguments.fail_on_trap = true,
+                "--trace" => arguments.trace = true,
                 LIBRARY => arguments.set_library(given.next().map(String::as_str))?,
                 option if option.starts_with("--library=") => {
                     arguments.set_library(option.split_once('=').map(|(_, value)| value))?;
@@ -61,11 +65,16 @@ impl Arguments {
         if self.quiet && self.json {
             return Err("--quiet and --json cannot both be obeyed".to_string());
         }
+        if self.quiet && self.trace {
+            return Err("--quiet and --trace cannot both be obeyed".to_string());
+        }
         let command = self.words.first().map_or("", String::as_str);
         let meant = [
             (self.quiet, "--quiet", &["check", "run", "type", "dump"][..]),
             (self.raw, "--raw", &["assemble"][..]),
             (self.page, "--page", &["explain"][..]),
+            (self.fail_on_trap, "--fail-on-trap", &["run"][..]),
+            (self.trace, "--trace", &["run"][..]),
             (self.library.is_some(), LIBRARY, &help::WITH_LIBRARY[..]),
         ];
         for (given, option, commands) in meant {

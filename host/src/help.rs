@@ -32,7 +32,9 @@ list.",
         does: "make a trial run of at most BUDGET steps",
         page: "\
 How the run ended and the state that it left, or why the add-on is refused. An add-on that traps or spends its budget was \
-accepted: exit status 0. With --library, TYPE is a number of the joined list.",
+accepted: exit status 0; with --fail-on-trap a trap is exit status 1. --trace shows, before the ending, each instruction with \
+the operands that it found, the topmost last; of a long run the last 1,000 instructions. Each line is a run of its own from \
+the first instruction on, so that 1,000 lines of a run of 1,000,000 steps cost 1,000 such runs. With --library, TYPE is a number of the joined list.",
     },
     Command {
         name: "type",

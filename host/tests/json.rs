@@ -30,7 +30,7 @@ fn every_command_has_its_answer() {
     let schema = schema();
     let long = OwnFile::new("long-json", &[0; 40_000]);
     let (open, below) = ("01 50 00 5F 00", "01 4F 01 00 5F 00");
-    let cases: [(&[&str], i32, &str); 46] = [
+    let cases: [(&[&str], i32, &str); 48] = [
         (&["check", F1], 0, "yes"),
         (&["check", "00 00"], 1, "no"),
         (&["check", ""], 1, "no"),
@@ -49,6 +49,8 @@ fn every_command_has_its_answer() {
         (&["run", F1, "00 FB 00 01 FB 20 00 0B", "2", "2"], 0, "yes"),
         (&["run", F1, "00 D0 62 01 FB 20 00 0B", "2", "10"], 0, "yes"),
         (&["run", "02 5F 01 7F 00 60 00 00", "02 01 7F 01 64 00 03 40 0B 0B", "1", "1"], 0, "yes"),
+        (&["run", "--trace", F1, "00 D0 62 01 FB 20 00 0B", "2", "10"], 0, "yes"),
+        (&["run", "--fail-on-trap", F1, "00 D0 62 01 FB 20 00 0B", "2", "10"], 1, "yes"),
         (&["run", F1, "00 00 0B", "2", "1000001"], 1, "no"),
         (&["run", "02 5F 00 60 01 64 00 00", "00 0B", "1", "1"], 1, "no"),
         (&["type", F1, "0"], 0, "yes"),

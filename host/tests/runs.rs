@@ -301,3 +301,67 @@ fn numbers_are_told() {
     let said = yes(&["dump", "body", body]);
     assert!(said.contains("f32.const -nan:0x400001"), "{said}");
 }
+
+/// A trap is a yes, unless another exit status is asked for; a run that is spent did not trap.
+#[test]
+fn a_trap_fails_where_that_is_asked_for() {
+    let trapping = ["run", V, "00 00 0B", "0", "9"];
+    let plain = yes(&trapping);
+    assert_eq!(no(&[&["--fail-on-trap"], &trapping[..]].concat()), plain);
+    assert_eq!(no(&[&["--fail-on-trap", "--quiet"], &trapping[..]].concat()), "");
+    yes(&["run", "--fail-on-trap", V, "00 0B", "0", "9"]);
+    yes(&["run", "--fail-on-trap", V, "00 03 40 0C 00 0B 0B", "0", "9"]);
+    assert!(misused(&["check", "--fail-on-trap", V]).contains("check has no option --fail-on-trap"));
+}
+
+/// Each instruction with what lies on the stack before it, worked out by hand; then the ending as without a trace.
+#[test]
+fn a_trace_has_a_line_for_each_instruction() {
+    let run = ["run", FIELD, "00 41 7B FB 00 00 02 40 41 07 1A 0B FB 02 00 00 1A 0B", "1", "99"];
+    let lines = "    step  place  instruction                     operands that it found
+       1      1  i32.const -5                    nothing
+       2      3  struct.new 0                    i32 -5
+       3      6  block                           object 0
+       4      8  i32.const 7                     object 0
+       5     10  drop                            object 0, i32 7
+       6     11  end                             object 0
+       7     12  struct.get 0 0                  object 0
+       8     16  drop                            i32 -5
+       9     17  end                             nothing
+
+";
+    let traced = yes(&[&run[..], &["--trace"]].concat());
+    assert_eq!(traced, format!("{lines}{}", yes(&run)));
+    // The trapping instruction is the last line; one that was not reached is none.
+    let trapped = yes(&["run", "--trace", FIELD, "00 D0 00 FB 02 00 00 1A 0B", "1", "9"]);
+    let ending = "       2      3  struct.get 0 0                  null\n\ntrap 42 at byte 3";
+    assert!(trapped.contains(ending), "{trapped}");
+    let spent = yes(&["run", "--trace", V, "00 01 01 0B", "0", "1"]);
+    assert!(spent.contains("       1      1  nop  ") && !spent.contains("       2 "), "{spent}");
+    let none = ["run", V, "00 0B", "0", "0"];
+    assert_eq!(yes(&[&none[..], &["--trace"]].concat()), yes(&none));
+}
+
+/// The last 1,000 instructions: the loop is the first of all, then br 0 alone; with as large a budget as is named, those before.
+#[test]
+fn a_trace_of_a_long_run_has_its_end() {
+    let run = |budget| yes(&["run", "--trace", V, "00 03 40 0C 00 0B 0B", "0", budget]);
+    let said = run("1500");
+    let head = "the last 1000 instructions; BUDGET 500 shows those before them\n    step  place";
+    assert!(said.starts_with(head), "{said}");
+    assert!(said.contains("\n     501      3  br 0 ") && said.contains("\n    1500      3  br 0 "));
+    assert!(!said.contains("\n     500 "), "{said}");
+    let before = run("500");
+    assert!(
+        before.contains("\n       1      1  loop ") && before.contains("\n     500      3  br 0 ")
+    );
+}
+
+#[test]
+fn a_trace_as_json() {
+    let said = yes(&["run", "--json", "--trace", FIELD, "00 D0 00 FB 02 00 00 1A 0B", "1", "9"]);
+    let trace = r#""trace":[{"step":1,"place":1,"bytes":"d000","text":"ref.null 0","operands":[]},{"step":2,"place":3,"bytes":"fb020000","text":"struct.get 0 0","operands":["null"]}]}"#;
+    assert!(said.trim_end().ends_with(trace), "{said}");
+    assert!(misused(&["run", "--quiet", "--trace", V, "000b", "0", "1"])
+        .contains("--quiet and --trace cannot both be obeyed"));
+}

@@ -2,25 +2,55 @@
 
 use super::{add_on_told, read_add_on, read_number, refused, say, say_json};
 use crate::arguments::Arguments;
+use crate::explain::trace::{self, Step};
 use crate::explain::{self, refusals};
 use crate::json::Json;
-use crate::{ask, Outcome, Trouble};
+use crate::{ask, hex, Outcome, Trouble};
 use chelbugan::state::{Block, Object, Value};
 use chelbugan::{Ended, Loader, Run, State};
 
 const NAME: &str = "run";
 
-/// A run that traps or is spent is a yes: the add-on was accepted (docs/DECISIONS.md).
+/// A run that traps or is spent is a yes: the add-on was accepted (docs/DECISIONS.md). Whoever wants another exit status for
+/// a trap says so.
 pub fn run(arguments: &Arguments, words: &[&str]) -> Result<Outcome, Trouble> {
     let add_on = read_add_on(arguments, words[0], words[1], words[2])?;
     let budget = read_number(words[3])?;
     let mut loader = Loader::new();
     match ask::run(&mut loader, &add_on, budget) {
         Err(refusal) => refused(arguments, NAME, refusal, &add_on_told(&add_on, refusal)),
-        Ok(_) if arguments.quiet => Ok(Outcome::Yes),
-        Ok(run) if arguments.json => say_json(NAME, members(&add_on.body, &run)),
-        Ok(run) => say(&explain::ended(&add_on.body, &run)),
+        Ok(run) => {
+            let (trapped, steps) = match run.ended {
+                Ended::Trap { steps, .. } => (true, steps),
+                Ended::Done { steps, .. } | Ended::Spent { steps } => (false, steps),
+            };
+            let traced = arguments.trace.then(|| trace::steps(&add_on, steps));
+            if arguments.json {
+                let trace = traced.map(|steps| ("trace", trace_json(&add_on.body, &steps)));
+                say_json(NAME, members(&add_on.body, &run).into_iter().chain(trace).collect())?;
+            } else if !arguments.quiet {
+                let trace = traced.map_or(String::new(), |steps| trace::text(&steps));
+                say(&(trace + &explain::ended(&add_on.body, &run)))?;
+            }
+            match trapped && arguments.fail_on_trap {
+                true => Ok(Outcome::No),
+                false => Ok(Outcome::Yes),
+            }
+        }
     }
+}
+
+fn trace_json(body: &[u8], steps: &[Step]) -> Json {
+    let step = |step: &Step| {
+        Json::Object(vec![
+            ("step", step.number.into()),
+            ("place", step.line.bytes.start.into()),
+            ("bytes", hex::plain(&body[step.line.bytes.clone()]).into()),
+            ("text", step.line.text.as_str().into()),
+            ("operands", values(&step.operands)),
+        ])
+    };
+    Json::List(steps.iter().map(step).collect())
 }
 
 pub fn members(body: &[u8], run: &Run) -> Vec<(&'static str, Json)> {

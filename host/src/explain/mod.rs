@@ -9,6 +9,7 @@ pub mod refusals;
 mod run;
 mod section;
 mod state;
+pub mod trace;
 pub mod trap;
 
 pub use body::body_refusal;
