@@ -14,6 +14,7 @@ pub struct Arguments {
     pub page: bool,
     pub fail_on_trap: bool,
     pub trace: bool,
+    pub comments: bool,
     /// Of `--library`: an input like any other.
     pub library: Option<String>,
 }
@@ -36,6 +37,7 @@ impl Arguments {
                 "--page" => arguments.page = true,
                 "--fail-on-trap" => arguments.fail_on_trap = true,
                 "--trace" => arguments.trace = true,
+                "--comments" => arguments.comments = true,
                 LIBRARY => arguments.set_library(given.next().map(String::as_str))?,
                 option if option.starts_with("--library=") => {
                     arguments.set_library(option.split_once('=').map(|(_, value)| value))?;
@@ -75,6 +77,7 @@ impl Arguments {
             (self.page, "--page", &["explain"][..]),
             (self.fail_on_trap, "--fail-on-trap", &["run"][..]),
             (self.trace, "--trace", &["run"][..]),
+            (self.comments, "--comments", &["lines"][..]),
             (self.library.is_some(), LIBRARY, &help::WITH_LIBRARY[..]),
         ];
         for (given, option, commands) in meant {

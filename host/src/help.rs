@@ -86,7 +86,8 @@ the first (type ..) has the number after the library's last, and the library's t
         page: "\
 Requests are S SECTION, T SECTION NUMBER, B SECTION TYPE BODY and R SECTION TYPE BODY BUDGET, bytes in hex, - for none. The \
 library's section may stand before SECTION; then rows, bytes and places say in which of the two they lie, by the word library or \
-addon. With --library, a request that has no library of its own is answered as if the bytes of FILE stood there.",
+addon. A line may end in CR LF. A line that is no request, a blank one too, is answered by error and why, and the exit status \
+is 1 after the last. With --comments blank lines are passed over, and what stands from # to a line's end. With --library, a request that has no library of its own is answered as if the bytes of FILE stood there.",
     },
     Command {
         name: "help",

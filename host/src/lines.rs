@@ -29,17 +29,34 @@ impl Request {
     }
 }
 
-/// With a library for the requests that have none of their own.
-pub fn answer(loader: &mut Loader, library: &Option<Vec<u8>>, line: &[u8]) -> String {
+/// With a library for the requests that have none of their own. A line that is no request has an answer too, as an error.
+pub fn answer(
+    loader: &mut Loader,
+    library: &Option<Vec<u8>>,
+    line: &[u8],
+) -> Result<String, String> {
     match read_request(line, library) {
-        Ok(request) => answer_request(loader, &request),
-        Err(why) => format!("error {why}"),
+        Ok(request) => Ok(answer_request(loader, &request)),
+        Err(why) => Err(format!("error {why}")),
     }
+}
+
+const COMMENT: u8 = b'#';
+
+/// A line up to its comment, without the white space before that. Nothing is left of a blank line.
+pub fn without_comment(line: &[u8]) -> &[u8] {
+    line.split(|&byte| byte == COMMENT).next().unwrap_or(line).trim_ascii_end()
 }
 
 /// The library's section may stand before the add-on's; how many words there are says whether it does.
 fn read_request(line: &[u8], library: &Option<Vec<u8>>) -> Result<Request, Why> {
     let line = std::str::from_utf8(line).map_err(|_| "not text")?;
+    if line.trim_ascii().is_empty() {
+        return Err("a blank line; lines --comments passes over it");
+    }
+    if line.contains(char::from(COMMENT)) {
+        return Err("a comment; lines --comments passes over it");
+    }
     let parts: Vec<&str> = line.split(' ').collect();
     let after_section = match parts[0] {
         "S" => 0,
@@ -115,11 +132,12 @@ fn word(input: Option<Input>, has_library: bool) -> String {
 }
 
 /// The same as an object; a refusal has its number, its place and where it lies alone.
-pub fn answer_json(loader: &mut Loader, library: &Option<Vec<u8>>, line: &[u8]) -> Json {
-    let request = match read_request(line, library) {
-        Ok(request) => request,
-        Err(why) => return error(why),
-    };
+pub fn answer_json(
+    loader: &mut Loader,
+    library: &Option<Vec<u8>>,
+    line: &[u8],
+) -> Result<Json, Json> {
+    let request = read_request(line, library).map_err(error)?;
     let has_library = request.has_library();
     let lies = |input: Option<Input>| input.filter(|_| has_library).map(input_member);
     let yes = |name, value| vec![("answer", "yes".into()), (name, value)];
@@ -140,10 +158,10 @@ pub fn answer_json(loader: &mut Loader, library: &Option<Vec<u8>>, line: &[u8]) 
             ask::run(loader, add_on, *budget).map(|run| run_members(&add_on.body, &run))
         }
     };
-    Json::Object(answered.unwrap_or_else(|Refusal { number, place, input }| {
+    Ok(Json::Object(answered.unwrap_or_else(|Refusal { number, place, input }| {
         let no = [("answer", "no".into()), ("refusal", number.into()), ("place", place.into())];
         no.into_iter().chain(lies(input)).collect()
-    }))
+    })))
 }
 
 fn accepted(table: &Table, has_library: bool) -> String {

@@ -66,7 +66,7 @@ fn document_01() {
 /// A line is never skipped: each of these has an answer, and the last request has its own.
 #[test]
 fn unreadable_lines_are_answered_as_such() {
-    let unreadable: [&[u8]; 43] = [
+    let unreadable: [&[u8]; 45] = [
         b"",
         b" ",
         b"S",
@@ -86,7 +86,9 @@ fn unreadable_lines_are_answered_as_such() {
         b"T 00 18446744073709551616",
         b"S \xC3\xA9\xC3\xA9",
         b"S \xFF\xFF",
-        b"S 00\r",
+        b"S 00\r\r",
+        b"S\r00",
+        b"# S 00",
         b"B 00",
         b"B 00 0",
         b"B 00 0 ",
@@ -119,7 +121,48 @@ fn unreadable_lines_are_answered_as_such() {
         assert!(answer.starts_with("error "), "{line:?} gave {answer}");
     }
     assert_eq!(answered[unreadable.len()], "yes 0");
-    assert_eq!(said.status, 0);
+    assert_eq!(said.status, 1);
+}
+
+/// A refusal is an answer like any other; a line that is no request is told by the exit status too.
+#[test]
+fn the_exit_status_tells_a_bad_line() {
+    for (requests, status) in [("", 0), ("S 00", 0), ("S 0000", 0), ("S 00\nx\nS 00", 1), ("\n", 1)]
+    {
+        for arguments in [&["lines"][..], &["lines", "--json"]] {
+            let said = chelbugan_fed(arguments, requests.as_bytes());
+            assert_eq!((said.status, said.err.as_str()), (status, ""), "{requests:?}");
+            assert_eq!(said.out.lines().count(), requests.lines().count(), "{requests:?}");
+        }
+    }
+}
+
+/// The last line has no end.
+#[test]
+fn lines_may_end_in_cr_lf() {
+    let said = chelbugan_fed(&["lines"], b"S 00\r\nT 015f00 0\r\nS 00\nS 0000");
+    assert_eq!((said.out.as_str(), said.status), ("yes 0\nyes 5f00\nyes 0\nno 5 1\n", 0));
+    let blank = chelbugan_fed(&["lines"], b"\r\n");
+    assert_eq!(blank.out, "error a blank line; lines --comments passes over it\n");
+}
+
+/// Passed over only where that is asked for; a line that is no request is none with comments either.
+#[test]
+fn blank_lines_and_comments() {
+    let requests =
+        b"# a comment\n\nS 00\n \t\r\nS 0000 # one byte too many\r\n  # S 00\nT 015f00 0#\n";
+    let said = chelbugan_fed(&["lines", "--comments"], requests);
+    assert_eq!((said.out.as_str(), said.status), ("yes 0\nno 5 1\nyes 5f00\n", 0));
+    let said = chelbugan_fed(&["lines"], requests);
+    let errors = said.out.lines().filter(|line| line.starts_with("error a ")).count();
+    assert_eq!((said.out.lines().count(), errors, said.status), (7, 6, 1), "{}", said.out);
+    let said = chelbugan_fed(&["lines", "--comments"], b" S 00\nS  00\n");
+    assert_eq!(
+        (said.out.as_str(), said.status),
+        ("error not a request\nerror no bytes at all are written -\n", 1)
+    );
+    let said = chelbugan_fed(&["check", "--comments", "00"], b"");
+    assert!(said.err.contains("check has no option --comments"), "{}", said.err);
 }
 
 /// Each request has its answer.
@@ -237,7 +280,7 @@ fn a_library_for_all_lines() {
         "yes 1",
         "error not a request",
     ];
-    assert_eq!((said.status, answers), (0, wanted.to_vec()));
+    assert_eq!((said.status, answers), (1, wanted.to_vec()));
     let objects = chelbugan_fed(&["lines", "--json", "--library", "017B"], b"S 00\nS 00 017b\n");
     let wanted = "{\"answer\":\"no\",\"refusal\":3,\"place\":1,\"input\":\"library\"}\n\
                   {\"answer\":\"no\",\"refusal\":3,\"place\":1,\"input\":\"addon\"}\n";

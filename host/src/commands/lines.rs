@@ -8,31 +8,51 @@ use chelbugan::Loader;
 use std::io::{self, BufRead, BufReader, BufWriter, Write};
 
 /// Answers go out whenever no further request is waiting, so that a script can talk to and fro. A reader that went away ends
-/// it.
+/// it. No where a line was no request; a refusal is an answer like any other.
 pub fn lines(arguments: &Arguments, _: &[&str]) -> Result<Outcome, Trouble> {
     let library = library(arguments)?;
     let mut requests = BufReader::new(io::stdin().lock());
     let mut answers = BufWriter::new(io::stdout().lock());
     let mut loader = Loader::new();
     let mut line = Vec::new();
+    let mut outcome = Outcome::Yes;
     let read = |error: io::Error| format!("standard input cannot be read: {error}");
     while requests.read_until(b'\n', &mut line).map_err(read)? > 0 {
-        if line.last() == Some(&b'\n') {
-            line.pop();
+        let mut said = Ok(());
+        if let Some(request) = request(arguments, &line) {
+            let answer = match arguments.json {
+                true => lines::answer_json(&mut loader, &library, request)
+                    .map(|answer| answer.to_string())
+                    .map_err(|error| error.to_string()),
+                false => lines::answer(&mut loader, &library, request),
+            };
+            let answer = answer.unwrap_or_else(|error| {
+                outcome = Outcome::No;
+                error
+            });
+            said = writeln!(answers, "{answer}");
         }
-        let answer = match arguments.json {
-            true => lines::answer_json(&mut loader, &library, &line).to_string(),
-            false => lines::answer(&mut loader, &library, &line),
-        };
         let last = requests.buffer().is_empty();
-        let said = writeln!(answers, "{answer}");
         if !written(said.and_then(|_| if last { answers.flush() } else { Ok(()) }))? {
-            return Ok(Outcome::Yes);
+            return Ok(outcome);
         }
         line.clear();
     }
     written(answers.flush())?;
-    Ok(Outcome::Yes)
+    Ok(outcome)
+}
+
+/// Without the line's end, CR LF too. Only where comments are asked for is a line without a request passed over: whoever counts
+/// answers counts lines.
+fn request<'l>(arguments: &Arguments, line: &'l [u8]) -> Option<&'l [u8]> {
+    let line = match line {
+        [line @ .., b'\r', b'\n'] | [line @ .., b'\n'] => line,
+        line => line,
+    };
+    match arguments.comments {
+        true => Some(lines::without_comment(line)).filter(|line| !line.is_empty()),
+        false => Some(line),
+    }
 }
 
 /// Of the requests that have none of their own.
