@@ -1,11 +1,13 @@
 //! The words of the command line: options, wherever they stand, and the rest in order.
 
 use crate::{help, Trouble};
+use std::ffi::{OsStr, OsString};
+use std::os::unix::ffi::OsStrExt;
 
 #[derive(Default)]
 pub struct Arguments {
     /// The command and what follows it.
-    pub words: Vec<String>,
+    pub words: Vec<OsString>,
     pub json: bool,
     pub quiet: bool,
     pub help: bool,
@@ -16,18 +18,35 @@ pub struct Arguments {
     pub trace: bool,
     pub comments: bool,
     /// Of `--library`: an input like any other.
-    pub library: Option<String>,
+    pub library: Option<OsString>,
+    /// Of `-o`: where what is made goes.
+    pub output: Option<OsString>,
 }
 
 const LIBRARY: &str = "--library";
+const OUTPUT: &str = "--output";
+
+/// Whether answers are written as JSON, of a call that cannot be read too.
+pub fn is_json(given: &[OsString]) -> bool {
+    given.iter().take_while(|argument| *argument != "--").any(|argument| argument == "--json")
+}
 
 impl Arguments {
     /// Behind `--` nothing is an option.
-    pub fn read(given: &[String]) -> Result<Arguments, Trouble> {
+    pub fn read(given: &[OsString]) -> Result<Arguments, Trouble> {
         let mut arguments = Arguments::default();
         let mut given = given.iter();
         while let Some(argument) = given.next() {
-            match argument.as_str() {
+            if let Some(value) = value_of(argument, LIBRARY) {
+                arguments.set_library(Some(value))?;
+                continue;
+            }
+            if let Some(value) = value_of(argument, OUTPUT) {
+                arguments.set_output(Some(value))?;
+                continue;
+            }
+            // A name that is no text is no option; what is shown of it has marks for what is none.
+            match &*argument.to_string_lossy() {
                 "--" => break,
                 "--json" => arguments.json = true,
                 "--quiet" | "-q" => arguments.quiet = true,
@@ -38,15 +57,13 @@ impl Arguments {
                 "--fail-on-trap" => arguments.fail_on_trap = true,
                 "--trace" => arguments.trace = true,
                 "--comments" => arguments.comments = true,
-                LIBRARY => arguments.set_library(given.next().map(String::as_str))?,
-                option if option.starts_with("--library=") => {
-                    arguments.set_library(option.split_once('=').map(|(_, value)| value))?;
-                }
+                LIBRARY => arguments.set_library(given.next().map(OsString::as_os_str))?,
+                "-o" | OUTPUT => arguments.set_output(given.next().map(OsString::as_os_str))?,
                 option if option.starts_with("--") => {
                     let use_ = "use: chelbugan help lists the commands and their options";
                     return Err(format!("there is no option {option}\n{use_}"));
                 }
-                word => arguments.words.push(word.to_string()),
+                _ => arguments.words.push(argument.clone()),
             }
         }
         arguments.words.extend(given.cloned());
@@ -54,11 +71,20 @@ impl Arguments {
     }
 
     /// What follows is the input, whatever it looks like: `-` is standard input, and `''` no bytes at all.
-    fn set_library(&mut self, value: Option<&str>) -> Result<(), Trouble> {
+    fn set_library(&mut self, value: Option<&OsStr>) -> Result<(), Trouble> {
         let value = value.ok_or_else(|| format!("{LIBRARY} needs FILE\n{}", help::LIBRARY_USE))?;
-        match self.library.replace(value.to_string()) {
+        match self.library.replace(value.to_os_string()) {
             None => Ok(()),
             Some(_) => Err(format!("{LIBRARY} can be given once\n{}", help::LIBRARY_USE)),
+        }
+    }
+
+    fn set_output(&mut self, value: Option<&OsStr>) -> Result<(), Trouble> {
+        let value = value.filter(|value| !value.is_empty());
+        let value = value.ok_or_else(|| format!("-o needs FILE\n{}", help::OUTPUT_USE))?;
+        match self.output.replace(value.to_os_string()) {
+            None => Ok(()),
+            Some(_) => Err(format!("-o can be given once\n{}", help::OUTPUT_USE)),
         }
     }
 
@@ -70,7 +96,12 @@ impl Arguments {
         if self.quiet && self.trace {
             return Err("--quiet and --trace cannot both be obeyed".to_string());
         }
-        let command = self.words.first().map_or("", String::as_str);
+        for (given, option) in [(self.quiet, "--quiet"), (self.json, "--json")] {
+            if given && self.output.is_some() {
+                return Err(format!("{option} and -o cannot both be obeyed"));
+            }
+        }
+        let command = self.words.first().and_then(|word| word.to_str()).unwrap_or("");
         let meant = [
             (self.quiet, "--quiet", &["check", "run", "type", "dump"][..]),
             (self.raw, "--raw", &["assemble"][..]),
@@ -79,6 +110,7 @@ impl Arguments {
             (self.trace, "--trace", &["run"][..]),
             (self.comments, "--comments", &["lines"][..]),
             (self.library.is_some(), LIBRARY, &help::WITH_LIBRARY[..]),
+            (self.output.is_some(), "-o", &help::WITH_OUTPUT[..]),
         ];
         for (given, option, commands) in meant {
             let known = help::COMMANDS.iter().any(|row| row.name == command);
@@ -88,4 +120,10 @@ impl Arguments {
         }
         Ok(self)
     }
+}
+
+/// What stands behind `--option=`.
+fn value_of<'a>(argument: &'a OsStr, option: &str) -> Option<&'a OsStr> {
+    let rest = argument.as_bytes().strip_prefix(option.as_bytes())?;
+    rest.strip_prefix(b"=").map(OsStr::from_bytes)
 }

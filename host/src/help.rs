@@ -6,6 +6,12 @@ pub const WITH_LIBRARY: [&str; 7] = ["check", "run", "type", "dump", "print", "a
 pub const LIBRARY_USE: &str =
     "use: --library FILE, the type section that comes before SECTION, once";
 
+/// The commands that make bytes or text.
+pub const WITH_OUTPUT: [&str; 4] = ["type", "dump", "print", "assemble"];
+
+pub const OUTPUT_USE: &str =
+    "use: -o FILE, where what is made goes instead of standard output, once";
+
 pub struct Command {
     pub name: &'static str,
     /// How it is called, a way a line.
@@ -106,6 +112,9 @@ const LIBRARY_OPTION: &str = "\
 --library FILE  the library: a type section that comes before SECTION, as hex digits, a file or -, like SECTION of check.
                 Types are numbered through both, the library's first. Without it there is no library.";
 
+const OUTPUT_OPTION: &str = "\
+-o FILE         write what is made to FILE, not to standard output: bytes as they are, or hex digits where the name ends in .hex.";
+
 const OPTIONS: &str = "\
 --json          write the answer as JSON, an object a line (docs/JSON.md)
 --quiet         say nothing; the exit status is the answer
@@ -130,7 +139,7 @@ pub fn all() -> String {
             text.push('\n');
         }
     }
-    format!("{text}\n{INPUTS}\n\n{LIBRARY_OPTION}\n{OPTIONS}\n\n{STATUS}\n")
+    format!("{text}\n{INPUTS}\n\n{LIBRARY_OPTION}\n{OUTPUT_OPTION}\n{OPTIONS}\n\n{STATUS}\n")
 }
 
 pub fn command(name: &str) -> Option<&'static Command> {
@@ -149,8 +158,13 @@ pub fn page(command: &Command) -> String {
         true => format!("\n{LIBRARY_OPTION}\n"),
         false => String::new(),
     };
+    let output = match WITH_OUTPUT.contains(&command.name) {
+        true => format!("{OUTPUT_OPTION}\n"),
+        false => String::new(),
+    };
     let does = capital(command.does);
-    format!("{uses}\n{does}.\n\n{}\n{inputs}{library}\n{STATUS}\n", wrapped(command.page))
+    let words = wrapped(command.page);
+    format!("{uses}\n{does}.\n\n{words}\n{inputs}{library}{output}\n{STATUS}\n")
 }
 
 fn capital(words: &str) -> String {

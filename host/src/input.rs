@@ -2,6 +2,7 @@
 
 use crate::recheck::INPUT_BYTES;
 use crate::{hex, text, Trouble};
+use std::ffi::OsStr;
 use std::fs::File;
 use std::io::Read;
 use std::path::Path;
@@ -22,7 +23,9 @@ const STANDARD_INPUT: &str = "-";
 const HEX: &str = "hex:";
 
 /// `-` is standard input, hex digits themselves, no bytes at all the empty argument; anything else names a file.
-pub fn bytes(argument: &str) -> Result<Vec<u8>, Trouble> {
+/// So does what is no text, whatever bytes it has.
+pub fn bytes(word: &OsStr) -> Result<Vec<u8>, Trouble> {
+    let Some(argument) = word.to_str() else { return file(word) };
     if argument.is_empty() {
         return Ok(Vec::new());
     }
@@ -38,45 +41,52 @@ pub fn bytes(argument: &str) -> Result<Vec<u8>, Trouble> {
     if hex::is_meant(argument) {
         return hex_digits(argument);
     }
-    file(argument)
+    file(word)
 }
 
 /// Whether an argument can be read at all, as a file or otherwise.
-pub fn is_input(argument: &str) -> bool {
+pub fn is_input(word: &OsStr) -> bool {
+    let Some(argument) = word.to_str() else { return is_file(word) };
     let known = argument.is_empty() || argument == STANDARD_INPUT || argument.starts_with(HEX);
-    known || hex::is_meant(argument) || is_file(argument)
+    known || hex::is_meant(argument) || is_file(word)
 }
 
 /// Whether an argument stands for standard input.
-pub fn is_standard_input(argument: &str) -> bool {
-    argument.strip_prefix(HEX).unwrap_or(argument) == STANDARD_INPUT
+pub fn is_standard_input(word: &OsStr) -> bool {
+    let named = |argument: &str| argument.strip_prefix(HEX).unwrap_or(argument) == STANDARD_INPUT;
+    word.to_str().is_some_and(named)
 }
 
 /// Whether an argument names a file that is there.
-pub fn is_file(argument: &str) -> bool {
+pub fn is_file(argument: &OsStr) -> bool {
     Path::new(argument).exists()
 }
 
+/// Whether a file of this name holds hex digits.
+pub fn is_hex_file(name: &OsStr) -> bool {
+    name.as_encoded_bytes().ends_with(b".hex")
+}
+
 fn hex_digits(argument: &str) -> Result<Vec<u8>, Trouble> {
-    match (hex::read_text(argument), is_file(argument)) {
+    match (hex::read_text(argument), is_file(OsStr::new(argument))) {
         (Ok(_), true) => Err(format!(
             "{argument} is the name of a file and is hex digits; write ./{argument} for the file, \
              {HEX}{argument} for the bytes"
         )),
         (Ok(bytes), false) => Ok(bytes),
-        (Err(_), true) => file(argument),
+        (Err(_), true) => file(OsStr::new(argument)),
         (Err(fault), false) => Err(format!("{argument}: {fault}")),
     }
 }
 
-fn file(name: &str) -> Result<Vec<u8>, Trouble> {
-    let is_text = name.ends_with(".hex");
+fn file(name: &OsStr) -> Result<Vec<u8>, Trouble> {
+    let is_text = is_hex_file(name);
     let content = match is_file(name) {
         true => read_file(name, if is_text { READ_TEXT_AT_MOST } else { READ_AT_MOST })?,
-        false => return Err(neither(name)),
+        false => return Err(neither(&name.to_string_lossy())),
     };
     match is_text {
-        true => hex_text(name, content),
+        true => hex_text(&name.to_string_lossy(), content),
         false => Ok(content),
     }
 }
@@ -128,24 +138,26 @@ fn text_of(name: &str, content: Vec<u8>, at_most: u64) -> Result<String, Trouble
 
 /// WebAssembly's text: of a file, of standard input, or the argument itself, which is no name of a file then: it begins with a
 /// parenthesis, or there is white space in it, or it is empty.
-pub fn words(argument: &str) -> Result<String, Trouble> {
+pub fn words(word: &OsStr) -> Result<String, Trouble> {
+    let argument = &*word.to_string_lossy();
     if argument == STANDARD_INPUT {
         let content = read_standard_input(READ_WORDS_AT_MOST)?;
         return text_of("standard input", content, READ_WORDS_AT_MOST);
     }
     let text =
         argument.is_empty() || argument.starts_with('(') || argument.contains(char::is_whitespace);
-    if text && !is_file(argument) {
+    if text && !is_file(word) {
         return Ok(argument.to_string());
     }
-    let content = read_file(argument, READ_WORDS_AT_MOST)?;
+    let content = read_file(word, READ_WORDS_AT_MOST)?;
     text_of(argument, content, READ_WORDS_AT_MOST)
 }
 
-fn read_file(name: &str, at_most: u64) -> Result<Vec<u8>, Trouble> {
-    let file = File::open(name).map_err(|error| unread(name, &error))?;
+fn read_file(name: &OsStr, at_most: u64) -> Result<Vec<u8>, Trouble> {
+    let shown = &*name.to_string_lossy();
+    let file = File::open(name).map_err(|error| unread(shown, &error))?;
     let mut content = Vec::new();
-    file.take(at_most).read_to_end(&mut content).map_err(|error| unread(name, &error))?;
+    file.take(at_most).read_to_end(&mut content).map_err(|error| unread(shown, &error))?;
     Ok(content)
 }
 

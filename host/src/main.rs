@@ -25,6 +25,7 @@ mod agreement;
 
 use arguments::Arguments;
 use json::Json;
+use std::ffi::OsString;
 use std::process::ExitCode;
 
 /// What a command came to.
@@ -40,12 +41,8 @@ pub enum Outcome {
 pub type Trouble = String;
 
 fn main() -> ExitCode {
-    let given: Result<Vec<String>, _> =
-        std::env::args_os().skip(1).map(|argument| argument.into_string()).collect();
-    let Ok(given) = given else {
-        return troubled("an argument is not text", false);
-    };
-    let json = given.iter().any(|argument| argument == "--json");
+    let given: Vec<OsString> = std::env::args_os().skip(1).collect();
+    let json = arguments::is_json(&given);
     match Arguments::read(&given).and_then(|arguments| commands::obey(&arguments)) {
         Ok(Outcome::Yes) => ExitCode::from(0),
         Ok(Outcome::No) => ExitCode::from(1),

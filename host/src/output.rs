@@ -1,6 +1,7 @@
 //! What is said on standard output, in colour where a person looks at it.
 
 use crate::Trouble;
+use std::ffi::OsStr;
 use std::io::{self, ErrorKind, IsTerminal, Write};
 
 /// A reader that went away is no trouble: the verdict's exit status stands.
@@ -21,6 +22,12 @@ pub fn say(text: &str) -> Result<(), Trouble> {
 pub fn say_bytes(bytes: &[u8]) -> Result<(), Trouble> {
     let mut out = io::stdout().lock();
     written(out.write_all(bytes).and_then(|_| out.flush())).map(|_| ())
+}
+
+/// A file, made or written over.
+pub fn write(file: &OsStr, content: &[u8]) -> Result<(), Trouble> {
+    let name = file.to_string_lossy();
+    std::fs::write(file, content).map_err(|error| format!("{name}: cannot be written: {error}"))
 }
 
 /// Whether anybody still reads.

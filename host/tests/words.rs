@@ -117,7 +117,7 @@ fn help_and_version() {
 /// What is missing is named, in two lines.
 #[test]
 fn bad_usage_is_told_in_two_lines() {
-    let cases: [(&[&str], &str); 33] = [
+    let cases: [(&[&str], &str); 36] = [
         (&[], "no command was given"),
         (&["chekc", "00"], "there is no command chekc; check is one"),
         (&["frobnicate"], "there is no command frobnicate"),
@@ -140,6 +140,9 @@ fn bad_usage_is_told_in_two_lines() {
         (&["check", "00", "--library"], "--library needs FILE"),
         (&["check", "--library", "00"], "check needs SECTION"),
         (&["check", "--library", "00", "--library=00", "00"], "--library can be given once"),
+        (&["print", "section", "00", "-o"], "-o needs FILE"),
+        (&["print", "-o", "a", "--output=b", "section", "00"], "-o can be given once"),
+        (&["check", "-o", "a", "00"], "check has no option -o"),
         (&["check", "--librar", "00", "00"], "there is no option --librar"),
         (&["check", "--library", "00", "00", "00"], "check SECTION BODY needs TYPE"),
         (&["run", "--library", "00", "00"], "run SECTION needs BODY, TYPE and BUDGET"),
@@ -284,4 +287,85 @@ fn colour_is_for_a_terminal() {
     assert!(coloured.contains("\u{1b}[31mno:"), "{coloured:?}");
     assert!(on_terminal(Some("")).expect("again").contains('\u{1b}'));
     assert!(!on_terminal(Some("1")).expect("again").contains('\u{1b}'));
+}
+
+/// What is made goes to the file and nothing to standard output; a file of bytes is read again as it was written.
+#[test]
+fn what_is_made_goes_to_a_file() {
+    let file = OwnFile::new("made", b"");
+    let digits = OwnFile::new("made.hex", b"");
+    let read = |file: &OwnFile| std::fs::read(file.name()).expect("it was written");
+    let text = "(type (struct))";
+    assert_eq!(yes(&["assemble", "section", text, "-o", file.name()]), "");
+    assert_eq!(read(&file), [0x01, 0x5F, 0x00]);
+    assert_eq!(yes(&["assemble", "section", text, "--output", digits.name()]), "");
+    assert_eq!(read(&digits), b"01 5f 00\n");
+    assert!(yes(&["check", file.name(), digits.name()]).contains(": yes: 1 type\n"));
+    assert_eq!(yes(&["assemble", "--raw", "section", text, "-o", digits.name()]), "");
+    assert_eq!(read(&digits), [0x01, 0x5F, 0x00]);
+    assert_eq!(yes(&["type", "01 5F 00", "0", &format!("--output={}", file.name())]), "");
+    assert_eq!(read(&file), [0x5F, 0x00]);
+    for made in [&["print", "section", "01 5F 00"][..], &["dump", "section", "01 5F 00"]] {
+        assert_eq!(yes(&[made, &["-o", file.name()]].concat()), "");
+        assert_eq!(String::from_utf8(read(&file)).expect("text"), yes(made));
+        assert_eq!(yes(&[made, &["-o", "-"]].concat()), yes(made));
+    }
+    // Where nothing is made, nothing is written.
+    let before = read(&file);
+    assert!(no(&["type", "00 00", "0", "-o", file.name()]).starts_with("no: refusal 5"));
+    assert!(misused(&["assemble", "body", "(func nopp)", "-o", file.name()]).contains("nopp"));
+    assert_eq!(read(&file), before);
+    assert!(
+        misused(&["print", "section", "00", "-o", "/no/such/file"]).contains("cannot be written")
+    );
+    let said = chelbugan(&["print", "section", "00", "--json", "-o", file.name()]);
+    assert!(said.out.contains("--json and -o cannot both be obeyed"), "{}", said.out);
+    assert!(misused(&["dump", "--quiet", "section", "00", "-o", file.name()])
+        .contains("--quiet and -o cannot both be obeyed"));
+}
+
+/// A name is bytes; what is no text is shown with marks.
+#[test]
+fn names_of_files_need_not_be_text() {
+    use std::ffi::{OsStr, OsString};
+    use std::os::unix::ffi::OsStrExt;
+    let named = |name: &[u8]| {
+        let folder = std::env::temp_dir();
+        let own = [format!("chelbugan-{}-", std::process::id()).as_bytes(), name].concat();
+        folder.join(OsStr::from_bytes(&own))
+    };
+    let run = |arguments: &[&OsStr]| {
+        let mut program = std::process::Command::new(env!("CARGO_BIN_EXE_chelbugan"));
+        let ended = program.args(arguments).output().expect("the program starts");
+        let text = |bytes| String::from_utf8(bytes).expect("it writes text");
+        (ended.status.code(), text(ended.stdout), text(ended.stderr))
+    };
+    let word = OsStr::new;
+    let (made, absent) = (named(b"\xFF.hex"), named(b"\xFE"));
+    let (status, out, err) = run(&[
+        word("assemble"),
+        word("section"),
+        word("(type (struct))"),
+        word("-o"),
+        made.as_os_str(),
+    ]);
+    assert_eq!((status, out.as_str(), err.as_str()), (Some(0), "", ""));
+    let (status, out, _) = run(&[word("check"), made.as_os_str()]);
+    assert_eq!(status, Some(0), "{out}");
+    assert!(out.starts_with("yes: 1 type\n"), "{out}");
+    let mut library = OsString::from("--library=");
+    library.push(&made);
+    let (status, out, _) = run(&[word("check"), &library, word("00")]);
+    assert_eq!(status, Some(0), "{out}");
+    assert!(out.starts_with("yes: 1 type, 1 of the library\n"), "{out}");
+    let (status, _, err) = run(&[word("check"), absent.as_os_str()]);
+    assert_eq!(status, Some(2), "{err}");
+    assert!(err.contains("\u{FFFD}: no such file"), "{err}");
+    // Errors of usage are JSON too, where --json stands before `--`.
+    let (status, out, err) = run(&[word("check"), absent.as_os_str(), word("--json")]);
+    assert_eq!((status, err.as_str()), (Some(2), ""));
+    assert!(out.starts_with("{\"answer\":\"error\",\"message\":"), "{out}");
+    let (status, out, err) = run(&[word("check"), word("--"), word("--json")]);
+    assert_eq!((status, out.as_str()), (Some(2), ""), "{err}");
+    std::fs::remove_file(made).expect("it can be removed");
 }

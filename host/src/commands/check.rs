@@ -1,24 +1,25 @@
 //! A section, a body, or many sections judged, each after the library where one is named.
 
-use super::{add_on_told, input_member, read_add_on, read_library, read_sections, refusal_members};
-use super::{refused, say, say_json};
+use super::{add_on_told, input_member, read_add_on, read_library, read_number, read_sections};
+use super::{refusal_members, refused, say, say_json};
 use crate::arguments::Arguments;
 use crate::explain::section_refusal;
 use crate::json::Json;
 use crate::sections::Sections;
-use crate::{ask, error, help, input, lines, output, Outcome, Trouble};
+use crate::{ask, error, help, input, output, Outcome, Trouble};
 use chelbugan::table::Row;
 use chelbugan::{Input, Loader, Table};
+use std::ffi::OsStr;
 
 const NAME: &str = "check";
 
 /// Two or three arguments are files where each of them is there; else the last of three is a type's number.
-pub fn check(arguments: &Arguments, words: &[&str]) -> Result<Outcome, Trouble> {
+pub fn check(arguments: &Arguments, words: &[&OsStr]) -> Result<Outcome, Trouble> {
     let files = words.iter().all(|word| input::is_file(word));
     match words {
         [] => Err(help::missing(NAME, &[], &["SECTION"])),
         [section] => one(arguments, section),
-        [section, body, number] if !files || lines::read_number(number).is_ok() => {
+        [section, body, number] if !files || read_number(number).is_ok() => {
             add_on(arguments, section, body, number)
         }
         [one, other] if !files && input::is_input(one) && input::is_input(other) => {
@@ -28,7 +29,7 @@ pub fn check(arguments: &Arguments, words: &[&str]) -> Result<Outcome, Trouble> 
     }
 }
 
-fn one(arguments: &Arguments, section: &str) -> Result<Outcome, Trouble> {
+fn one(arguments: &Arguments, section: &OsStr) -> Result<Outcome, Trouble> {
     let sections = read_sections(arguments, section)?;
     match ask::section(&mut Loader::new(), &sections) {
         Err(refusal) => refused(arguments, NAME, refusal, &section_refusal(&sections, refusal)),
@@ -43,9 +44,9 @@ fn one(arguments: &Arguments, section: &str) -> Result<Outcome, Trouble> {
 /// The sections' own refusal comes first; then every place is the body's.
 fn add_on(
     arguments: &Arguments,
-    section: &str,
-    body: &str,
-    number: &str,
+    section: &OsStr,
+    body: &OsStr,
+    number: &OsStr,
 ) -> Result<Outcome, Trouble> {
     let add_on = read_add_on(arguments, section, body, number)?;
     match ask::body(&mut Loader::new(), &add_on) {
@@ -60,7 +61,7 @@ fn add_on(
 }
 
 /// The worst of them is the answer. The library is read once: it may be standard input.
-fn each(arguments: &Arguments, names: &[&str]) -> Result<Outcome, Trouble> {
+fn each(arguments: &Arguments, names: &[&OsStr]) -> Result<Outcome, Trouble> {
     let library = read_library(arguments)?;
     let mut loader = Loader::new();
     let mut worst = Outcome::Yes;
@@ -84,7 +85,7 @@ fn line(
     arguments: &Arguments,
     loader: &mut Loader,
     library: &Option<Vec<u8>>,
-    name: &str,
+    name: &OsStr,
 ) -> Result<Outcome, Trouble> {
     let sections = match input::bytes(name) {
         Ok(section) => Sections::new(library.clone(), section),
@@ -96,6 +97,7 @@ fn line(
             return Ok(Outcome::Trouble);
         }
     };
+    let name = &*name.to_string_lossy();
     let named = |members| [("input", Json::from(name))].into_iter().chain(members).collect();
     let has_library = sections.has_library();
     match ask::section(loader, &sections) {

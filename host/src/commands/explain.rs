@@ -6,6 +6,7 @@ use crate::explain::accepted::{self, Row};
 use crate::explain::refusals::{self, Entry, Example};
 use crate::json::Json;
 use crate::{help, Outcome, Trouble};
+use std::ffi::OsStr;
 
 const NAME: &str = "explain";
 
@@ -26,7 +27,8 @@ pub fn explain(arguments: &Arguments, words: &[&str]) -> Result<Outcome, Trouble
         }
         [] => say(&refusals::list()),
         [number] => {
-            let entry = refusals::entry(read_number(number)?).ok_or_else(|| unknown(number))?;
+            let entry =
+                refusals::entry(read_number(OsStr::new(number))?).ok_or_else(|| unknown(number))?;
             match arguments.json {
                 true => say_json(NAME, members(entry)),
                 false => say(&refusals::text(entry)),

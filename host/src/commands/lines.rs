@@ -5,11 +5,12 @@ use crate::arguments::Arguments;
 use crate::output::written;
 use crate::{help, input, lines, Outcome, Trouble};
 use chelbugan::Loader;
+use std::ffi::OsStr;
 use std::io::{self, BufRead, BufReader, BufWriter, Write};
 
 /// Answers go out whenever no further request is waiting, so that a script can talk to and fro. A reader that went away ends
 /// it. No where a line was no request; a refusal is an answer like any other.
-pub fn lines(arguments: &Arguments, _: &[&str]) -> Result<Outcome, Trouble> {
+pub fn lines(arguments: &Arguments, _: &[&OsStr]) -> Result<Outcome, Trouble> {
     let library = library(arguments)?;
     let mut requests = BufReader::new(io::stdin().lock());
     let mut answers = BufWriter::new(io::stdout().lock());

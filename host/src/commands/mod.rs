@@ -16,9 +16,11 @@ use crate::json::Json;
 use crate::sections::{self, Sections};
 use crate::{ask, help, hex, input, lines as protocol, output, Outcome, Trouble};
 use chelbugan::{Input, Loader, Refusal};
+use std::borrow::Cow;
+use std::ffi::{OsStr, OsString};
 
 pub fn obey(arguments: &Arguments) -> Result<Outcome, Trouble> {
-    let words: Vec<&str> = arguments.words.iter().map(String::as_str).collect();
+    let words: Vec<&OsStr> = arguments.words.iter().map(OsString::as_os_str).collect();
     if arguments.version {
         return version(arguments);
     }
@@ -28,6 +30,9 @@ pub fn obey(arguments: &Arguments) -> Result<Outcome, Trouble> {
             false => Err(format!("no command was given\n{}", help::use_of(""))),
         };
     };
+    let command = &*command.to_string_lossy();
+    let texts: Vec<Cow<str>> = rest.iter().map(|word| word.to_string_lossy()).collect();
+    let texts: Vec<&str> = texts.iter().map(|text| &**text).collect();
     if arguments.help {
         return page_of(arguments, command);
     }
@@ -37,12 +42,12 @@ pub fn obey(arguments: &Arguments) -> Result<Outcome, Trouble> {
             run::run(arguments, exactly(command, rest, &["SECTION", "BODY", "TYPE", "BUDGET"])?)
         }
         "type" => type_bytes(arguments, exactly(command, rest, &["SECTION", "NUMBER"])?),
-        "explain" => explain::explain(arguments, rest),
+        "explain" => explain::explain(arguments, &texts),
         "dump" => show::dump(arguments, rest),
         "print" => show::print(arguments, rest),
         "assemble" => show::assemble(arguments, rest),
         "lines" => lines::lines(arguments, exactly(command, rest, &[])?),
-        "help" => match rest {
+        "help" => match texts[..] {
             [] => page(arguments, help::all()),
             [command] => page_of(arguments, command),
             [_, extra, ..] => Err(help::too_many("help", extra)),
@@ -78,15 +83,15 @@ fn version(arguments: &Arguments) -> Result<Outcome, Trouble> {
 /// As many arguments as there are names for.
 fn exactly<'w>(
     command: &str,
-    words: &'w [&'w str],
+    words: &'w [&'w OsStr],
     names: &[&str],
-) -> Result<&'w [&'w str], Trouble> {
+) -> Result<&'w [&'w OsStr], Trouble> {
     if words.len() < names.len() {
         let (given, wanted) = names.split_at(words.len());
         return Err(help::missing(command, given, wanted));
     }
     match words.get(names.len()) {
-        Some(extra) => Err(help::too_many(command, extra)),
+        Some(extra) => Err(help::too_many(command, &extra.to_string_lossy())),
         None => Ok(words),
     }
 }
@@ -96,29 +101,55 @@ fn say(text: &str) -> Result<Outcome, Trouble> {
     Ok(Outcome::Yes)
 }
 
+/// What was made, in the file that was named or on standard output.
+fn put(arguments: &Arguments, text: &str) -> Result<Outcome, Trouble> {
+    match named_output(arguments) {
+        Some(file) => output::write(file, format!("{}\n", text.trim_end()).as_bytes())?,
+        None => output::say(text)?,
+    }
+    Ok(Outcome::Yes)
+}
+
+/// Bytes that were made; a file gets what it is read as again, digits where its name ends in .hex.
+fn put_bytes(arguments: &Arguments, bytes: &[u8], digits: &str) -> Result<Outcome, Trouble> {
+    match named_output(arguments) {
+        Some(file) if input::is_hex_file(file) && !arguments.raw => return put(arguments, digits),
+        Some(file) => output::write(file, bytes)?,
+        None if arguments.raw => output::say_bytes(bytes)?,
+        None => output::say(digits)?,
+    }
+    Ok(Outcome::Yes)
+}
+
+/// `-` is standard output.
+fn named_output(arguments: &Arguments) -> Option<&OsStr> {
+    arguments.output.as_deref().filter(|file| *file != "-")
+}
+
 /// One object a line; the first member names the command.
 fn say_json(command: &'static str, members: Vec<(&'static str, Json)>) -> Result<Outcome, Trouble> {
     let all = [("command", command.into())].into_iter().chain(members).collect();
     say(&Json::Object(all).to_string())
 }
 
-fn read_number(text: &str) -> Result<u64, Trouble> {
-    protocol::read_number(text).map_err(|why| format!("{text}: {why}"))
+fn read_number(word: &OsStr) -> Result<u64, Trouble> {
+    let text = word.to_string_lossy();
+    protocol::read_number(&text).map_err(|why| format!("{text}: {why}"))
 }
 
 fn read_library(arguments: &Arguments) -> Result<Option<Vec<u8>>, Trouble> {
     arguments.library.as_deref().map(input::bytes).transpose()
 }
 
-fn read_sections(arguments: &Arguments, section: &str) -> Result<Sections, Trouble> {
+fn read_sections(arguments: &Arguments, section: &OsStr) -> Result<Sections, Trouble> {
     Ok(Sections::new(read_library(arguments)?, input::bytes(section)?))
 }
 
 fn read_add_on(
     arguments: &Arguments,
-    section: &str,
-    body: &str,
-    number: &str,
+    section: &OsStr,
+    body: &OsStr,
+    number: &OsStr,
 ) -> Result<AddOn, Trouble> {
     let (sections, body) = (read_sections(arguments, section)?, input::bytes(body)?);
     Ok(AddOn { sections, body, number: read_number(number)? })
@@ -171,7 +202,7 @@ fn refusal_members(refusal: Refusal, told: &Told) -> Vec<(&'static str, Json)> {
 
 /// Where a library was named, the answer says which section holds the bytes: after them, as a comment, so that they can be
 /// read back.
-fn type_bytes(arguments: &Arguments, words: &[&str]) -> Result<Outcome, Trouble> {
+fn type_bytes(arguments: &Arguments, words: &[&OsStr]) -> Result<Outcome, Trouble> {
     let sections = read_sections(arguments, words[0])?;
     let number = read_number(words[1])?;
     match ask::type_bytes(&mut Loader::new(), &sections, number) {
@@ -187,9 +218,10 @@ fn type_bytes(arguments: &Arguments, words: &[&str]) -> Result<Outcome, Trouble>
             say_json("type", members)
         }
         Ok((bytes, input)) if sections.has_library() => {
-            say(&format!("{} # of {}", hex::spaced(bytes), sections::words(input)))
+            let digits = format!("{} # of {}", hex::spaced(bytes), sections::words(input));
+            put_bytes(arguments, bytes, &digits)
         }
-        Ok((bytes, _)) => say(&hex::spaced(bytes)),
+        Ok((bytes, _)) => put_bytes(arguments, bytes, &hex::spaced(bytes)),
     }
 }
 

@@ -8,12 +8,13 @@ use crate::json::Json;
 use crate::{ask, hex, Outcome, Trouble};
 use chelbugan::state::{Block, Object, Value};
 use chelbugan::{Ended, Loader, Run, State};
+use std::ffi::OsStr;
 
 const NAME: &str = "run";
 
 /// A run that traps or is spent is a yes: the add-on was accepted (docs/DECISIONS.md). Whoever wants another exit status for
 /// a trap says so.
-pub fn run(arguments: &Arguments, words: &[&str]) -> Result<Outcome, Trouble> {
+pub fn run(arguments: &Arguments, words: &[&OsStr]) -> Result<Outcome, Trouble> {
     let add_on = read_add_on(arguments, words[0], words[1], words[2])?;
     let budget = read_number(words[3])?;
     let mut loader = Loader::new();

@@ -1,35 +1,45 @@
 //! Bytes shown to a person, as a listing or as text, and text made into bytes. None of it judges.
 
-use super::{read_library, say, say_json};
+use super::{put, put_bytes, read_library, say_json};
 use crate::arguments::Arguments;
 use crate::json::Json;
 use crate::read::section::read_library as library_of;
 use crate::read::{Fault, Padding};
 use crate::{dump as listing, help, hex, input, output, text, Outcome, Trouble};
+use std::ffi::OsStr;
 
 /// Which of the two, and the input. A body has no types, so that a library would say nothing of it.
 fn chosen<'w>(
     arguments: &Arguments,
     command: &str,
-    words: &[&'w str],
+    words: &[&'w OsStr],
     input: [&str; 2],
-) -> Result<(bool, &'w str), Trouble> {
+) -> Result<(bool, &'w OsStr), Trouble> {
     let [of_section, of_body] = input;
-    match words {
-        [] => Err(help::missing(command, &[], &["section or body", "its bytes"])),
-        ["section"] => Err(help::missing(command, &["section"], &[of_section])),
-        ["body", ..] if arguments.library.is_some() && command != "assemble" => Err(format!(
-            "{command} body takes no library: a body defines no types\n{}",
-            help::use_of(command)
-        )),
-        ["body"] => Err(help::missing(command, &["body"], &[of_body])),
-        ["section", input] => Ok((true, input)),
-        ["body", input] => Ok((false, input)),
-        ["section" | "body", _, extra, ..] => Err(help::too_many(command, extra)),
-        [other, ..] => Err(format!(
-            "{command} needs section or body before its bytes, and {other} is neither\n{}",
-            help::use_of(command)
-        )),
+    let Some((which, rest)) = words.split_first() else {
+        return Err(help::missing(command, &[], &["section or body", "its bytes"]));
+    };
+    let which = &*which.to_string_lossy();
+    let (is_section, wanted) = match which {
+        "section" => (true, of_section),
+        "body" if arguments.library.is_some() && command != "assemble" => {
+            return Err(format!(
+                "{command} body takes no library: a body defines no types\n{}",
+                help::use_of(command)
+            ))
+        }
+        "body" => (false, of_body),
+        other => {
+            return Err(format!(
+                "{command} needs section or body before its bytes, and {other} is neither\n{}",
+                help::use_of(command)
+            ))
+        }
+    };
+    match rest {
+        [] => Err(help::missing(command, &[which], &[wanted])),
+        [input] => Ok((is_section, input)),
+        [_, extra, ..] => Err(help::too_many(command, &extra.to_string_lossy())),
     }
 }
 
@@ -54,7 +64,7 @@ struct Listed {
 }
 
 /// No where a listing breaks off at a byte that fits nowhere.
-pub fn dump(arguments: &Arguments, words: &[&str]) -> Result<Outcome, Trouble> {
+pub fn dump(arguments: &Arguments, words: &[&OsStr]) -> Result<Outcome, Trouble> {
     let (is_section, input) = chosen(arguments, "dump", words, ["SECTION", "BODY"])?;
     let (library, before) = match read_library(arguments)? {
         Some(bytes) => {
@@ -72,7 +82,7 @@ pub fn dump(arguments: &Arguments, words: &[&str]) -> Result<Outcome, Trouble> {
     if arguments.json {
         say_json("dump", dump_members(is_section, library.as_ref(), &own))?;
     } else if !arguments.quiet {
-        say(&dump_text(library.as_ref(), &own))?;
+        put(arguments, &dump_text(library.as_ref(), &own))?;
     }
     match is_whole(library.as_ref(), &own) {
         true => Ok(Outcome::Yes),
@@ -134,7 +144,7 @@ fn listed_members(listed: &Listed) -> Vec<(&'static str, Json)> {
 }
 
 /// No where the bytes cannot be read; then nothing is printed.
-pub fn print(arguments: &Arguments, words: &[&str]) -> Result<Outcome, Trouble> {
+pub fn print(arguments: &Arguments, words: &[&OsStr]) -> Result<Outcome, Trouble> {
     let (is_section, input) = chosen(arguments, "print", words, ["SECTION", "BODY"])?;
     let before = match types_before(arguments)? {
         Ok(before) => before,
@@ -150,7 +160,7 @@ pub fn print(arguments: &Arguments, words: &[&str]) -> Result<Outcome, Trouble> 
             "print",
             vec![("answer", "yes".into()), of(is_section), ("text", printed.into())],
         ),
-        Ok(printed) => say(&printed),
+        Ok(printed) => put(arguments, &printed),
         Err(fault) => unprinted(arguments, what, &fault),
     }
 }
@@ -175,7 +185,7 @@ fn unprinted(arguments: &Arguments, of: &'static str, fault: &Fault) -> Result<O
     Ok(Outcome::No)
 }
 
-pub fn assemble(arguments: &Arguments, words: &[&str]) -> Result<Outcome, Trouble> {
+pub fn assemble(arguments: &Arguments, words: &[&OsStr]) -> Result<Outcome, Trouble> {
     let (is_section, input) = chosen(arguments, "assemble", words, ["TEXT", "TEXT"])?;
     let before = types_before(arguments)?
         .map_err(|fault| format!("byte {} of the library: {}", fault.place, fault.why))?;
@@ -189,12 +199,11 @@ pub fn assemble(arguments: &Arguments, words: &[&str]) -> Result<Outcome, Troubl
         false => text::assemble_body(&read, before),
     };
     let bytes = bytes.map_err(|fault| fault.to_string())?;
-    match (arguments.json, arguments.raw) {
-        (true, _) => say_json(
+    match arguments.json {
+        true => say_json(
             "assemble",
             vec![("answer", "yes".into()), of(is_section), ("bytes", hex::plain(&bytes).into())],
         ),
-        (_, true) => output::say_bytes(&bytes).map(|_| Outcome::Yes),
-        _ => say(&hex::spaced(&bytes)),
+        false => put_bytes(arguments, &bytes, &hex::spaced(&bytes)),
     }
 }
