@@ -1,5 +1,5 @@
 # make: the program at build/chelbugan and the library that it calls, build/libchelbugan.a. library: the library alone.
-# install: the header, the library, a pkg-config file and the program to PREFIX, below DESTDIR. clean: removes what was
+# install: the headers, the library, a pkg-config file and the program to PREFIX, below DESTDIR. clean: removes what was
 # built; the proofs in target/ stay.
 # demo: judge the sections and bodies of examples/ by the program and run some of them, then answer the requests of
 # examples/requests.txt by computing the definitions.
@@ -24,6 +24,7 @@ export CHELBUGAN_LIB_DIR := $(abspath $(CHELBUGAN_LIB_DIR))
 endif
 ARCHIVE := $(if $(CHELBUGAN_LIB_DIR),$(CHELBUGAN_LIB_DIR),build)/libchelbugan.a
 HEADER := include/chelbugan.h
+HEADERS := $(HEADER) include/chelbugan_host.h
 VERSION := $(shell sed -n 's/^.define CHELBUGAN_VERSION_TEXT "\(.*\)"/\1/p' $(HEADER))
 INTO := $(DESTDIR)$(PREFIX)
 TEST = CHELBUGAN_LIB_DIR=$(abspath $(dir $(ARCHIVE))) cargo test --release --quiet --manifest-path
@@ -57,7 +58,7 @@ export PKG_CONFIG
 install:
 	@[ -f $(ARCHIVE) ] || { echo 'make: there is no $(ARCHIVE) to install: make, or make library, builds it' >&2; exit 1; }
 	@install -d $(INTO)/include $(INTO)/lib/pkgconfig
-	@install -m 644 $(HEADER) $(INTO)/include/chelbugan.h
+	@install -m 644 $(HEADERS) $(INTO)/include
 	@install -m 644 $(ARCHIVE) $(INTO)/lib/libchelbugan.a
 	@printf '%s\n' "$$PKG_CONFIG" >$(INTO)/lib/pkgconfig/chelbugan.pc
 	@chmod 644 $(INTO)/lib/pkgconfig/chelbugan.pc
@@ -65,7 +66,7 @@ install:
 	@echo 'chelbugan $(VERSION) is installed in $(INTO)'
 
 uninstall:
-	@rm -f $(INTO)/include/chelbugan.h $(INTO)/lib/libchelbugan.a $(INTO)/lib/pkgconfig/chelbugan.pc $(INTO)/bin/chelbugan
+	@rm -f $(addprefix $(INTO)/,$(HEADERS)) $(INTO)/lib/libchelbugan.a $(INTO)/lib/pkgconfig/chelbugan.pc $(INTO)/bin/chelbugan
 
 clean:
 	@rm -rf build host/target tests/plain/target tests/definitions/target tests/host/target bench/target

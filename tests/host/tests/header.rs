@@ -331,11 +331,14 @@ fn called<'a>(text: &'a str, before: &str) -> Vec<&'a str> {
 }
 
 #[test]
-fn the_header_is_c_by_itself() {
-    for language in ["c", "c++"] {
+fn each_header_is_c_by_itself() {
+    let files = ["include/chelbugan.h", "include/chelbugan_host.h"].map(|file| root().join(file));
+    for (language, file) in
+        ["c", "c++"].iter().flat_map(|it| files.iter().map(move |file| (*it, file)))
+    {
         let ended = Command::new("cc")
             .args(["-Wall", "-Wextra", "-Werror", "-pedantic", "-fsyntax-only", "-x", language])
-            .arg(root().join("include/chelbugan.h"))
+            .arg(file)
             .output()
             .expect("a C compiler");
         let said = String::from_utf8_lossy(&ended.stderr).to_string();
