@@ -1,7 +1,7 @@
 //! What the words of an answer tell: a value, how a run ended, or a refusal. What is not known is a no.
 
 use crate::refusal::{Input, Refusal, Trap};
-use std::fmt;
+use core::fmt;
 
 /// The words of an answer.
 pub(crate) const ANSWER: usize = 4;
@@ -57,9 +57,9 @@ impl fmt::Display for Ended {
                 write!(to, "done after {steps} steps, results: {results}")
             }
             Ended::Trap { number, place, steps } => {
-                let words =
-                    Trap::of_number(number).map_or(String::new(), |trap| format!(", {trap}"));
-                write!(to, "trap {number} at {place}{words}, after {steps} steps")
+                write!(to, "trap {number} at {place}")?;
+                Trap::of_number(number).map_or(Ok(()), |trap| write!(to, ", {trap}"))?;
+                write!(to, ", after {steps} steps")
             }
             Ended::Spent { steps } => write!(to, "spent after {steps} steps"),
         }

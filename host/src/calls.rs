@@ -10,7 +10,7 @@ pub use crate::answer::{Bytes, Ended};
 use crate::archive;
 use crate::limits;
 pub use crate::refusal::{Input, Refusal};
-use std::fmt;
+use core::fmt;
 
 /// The library of no types, its count alone: with it a section is judged as if there were no library.
 pub const EMPTY_LIBRARY: &[u8] = &[0];

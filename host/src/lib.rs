@@ -5,6 +5,9 @@
 //! in. Arguments stand in one order everywhere: library, section, body, number, budget, memory. The library is the type
 //! section that a fleet shares; who has none hands in [`EMPTY_LIBRARY`].
 //!
+//! The crate is `no_std`. What owns or hands out memory ([`Loader`], [`table`], [`state`]) needs an allocator and is the feature
+//! `alloc`, which is on unless a host says `default-features = false`; [`calls`], [`limits`] and the refusals need none.
+//!
 //! ```
 //! use chelbugan::{Loader, EMPTY_LIBRARY};
 //!
@@ -17,20 +20,31 @@
 //! # Ok::<(), chelbugan::Refusal>(())
 //! ```
 
+#![cfg_attr(not(test), no_std)]
 #![deny(missing_docs, missing_debug_implementations)]
+
+#[cfg(feature = "alloc")]
+extern crate alloc;
 
 mod answer;
 mod archive;
 pub mod calls;
 pub mod limits;
+#[cfg(feature = "alloc")]
 mod loader;
 mod refusal;
+#[cfg(feature = "alloc")]
 pub mod state;
+#[cfg(feature = "alloc")]
 pub mod table;
+#[cfg(feature = "alloc")]
 mod value_types;
 
 pub use calls::{Ended, EMPTY_LIBRARY};
+#[cfg(feature = "alloc")]
 pub use loader::{Loader, Run};
 pub use refusal::{Input, Reason, Refusal, Trap};
+#[cfg(feature = "alloc")]
 pub use state::State;
+#[cfg(feature = "alloc")]
 pub use table::Table;

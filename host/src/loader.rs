@@ -3,7 +3,9 @@
 use crate::calls::{self, Bytes, Ended, Input, Refusal, RunMemory};
 use crate::state::State;
 use crate::table::Table;
-use std::fmt;
+use alloc::boxed::Box;
+use alloc::vec;
+use core::fmt;
 
 /// Lends the same buffers, 332,202 bytes, to each call; they are zero, or hold the last accepted sections' table or the
 /// last run's state.

@@ -1,7 +1,7 @@
 //! A refusal and a trap: numbers of documents 01 and 02, with a name for each.
 
-use std::error::Error;
-use std::fmt;
+use core::error::Error;
+use core::fmt;
 
 /// Why a section, a body or a run is refused, and where.
 #[derive(Clone, Copy, Debug, PartialEq, Eq, Hash)]

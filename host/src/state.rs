@@ -1,7 +1,8 @@
 //! The state that a trial run leaves, read as docs/LAYOUT.md draws it.
 
 use crate::limits;
-use std::fmt;
+use alloc::vec::Vec;
+use core::fmt;
 
 const PLACE: usize = 0;
 const OBJECTS: usize = 1;

@@ -4,7 +4,8 @@ use crate::calls;
 use crate::refusal::Input;
 use crate::value_types::{field_of, value_of};
 pub use crate::value_types::{Abstract, Field, Heap, Number, ValueType};
-use std::fmt;
+use alloc::vec::Vec;
+use core::fmt;
 
 const ROW_WORDS: usize = 16;
 
@@ -119,7 +120,7 @@ impl Row<'_> {
     }
 
     /// Where the definition's bytes lie in the section that holds it.
-    pub fn bytes(&self) -> std::ops::Range<usize> {
+    pub fn bytes(&self) -> core::ops::Range<usize> {
         self.words[FROM] as usize..self.words[TO] as usize
     }
 

@@ -1,6 +1,6 @@
 //! Types of values and fields, and the codes that a table has for them (docs/LAYOUT.md).
 
-use std::fmt;
+use core::fmt;
 
 /// An abstract heap type.
 #[derive(Clone, Copy, Debug, PartialEq, Eq, Hash)]
