@@ -3,7 +3,7 @@
 use crate::measure::Row;
 
 pub fn page(
-    machine: &str,
+    measured_on: &str,
     sections: &[Row],
     libraries: &[Row],
     bodies: &[Row],
@@ -15,7 +15,7 @@ pub fn page(
 
 For whoever asks what the proofs cost in speed. `make bench` measures anew and writes this page and its plots.
 
-Machine: {machine}.
+{measured_on}.
 
 The proved loader and the plain checker of `tests/plain` judge the same inputs, one after the other in turn. A time is the least of 45 samples of 3 ms each (of one call where that takes longer), in three rounds: other work on the machine only adds to it. Buffers are cleared first. The loader clears what it is lent in each call, and that is in its time: 163,840 bytes for a section, 229,376 for a body, 648,020 for a run (DECISIONS, on what is cleared); a refused section is cleared twice. The plain checker allocates its tree and its lists, which is in its time. A ratio below 1 means that the loader is the faster one. In the tables lower is better but for steps a second.
 

@@ -119,7 +119,9 @@ fn the_host_in_c_with_what_is_installed() {
     assert!(made.status.success(), "{}", String::from_utf8_lossy(&made.stderr));
     let prefix = below.join("opt/some");
     let words = std::fs::read_to_string(prefix.join("lib/pkgconfig/chelbugan.pc")).expect("it");
-    assert!(words.contains("\nVersion: 2.0.0\n"), "{words}");
+    let version = chelbugan::calls::version();
+    let [major, minor, patch] = [version / 10_000, version / 100 % 100, version % 100];
+    assert!(words.contains(&format!("\nVersion: {major}.{minor}.{patch}\n")), "{words}");
     let flags = |name: &str| {
         let line = words.lines().find_map(|line| line.strip_prefix(name)).expect("the flags");
         let line = line
