@@ -1,6 +1,7 @@
 # make: the program at build/chelbugan and the library that it calls, build/libchelbugan.a. library: the library alone.
-# install: the headers, the library, a pkg-config file and the program to PREFIX, below DESTDIR. clean: removes what was
-# built; the proofs in target/ stay.
+# install: the headers, the library (to LIBDIR), a pkg-config file, and the program with its manual and completions, to PREFIX,
+# below DESTDIR; uninstall removes the same. A folder's name may have spaces. clean: removes what was built; the proofs in
+# target/ stay.
 # demo: judge the sections and bodies of examples/ by the program and run some of them, then answer the requests of
 # examples/requests.txt by computing the definitions.
 # test: what can be tested without proving anything: the pages, the plain checker, the program, the archive from outside.
@@ -9,13 +10,14 @@
 # bench: times, to docs/BENCH.md and docs/EMBEDDING.md. figures: code, stack and sums of both machines' archives, to docs/EMBEDDING.md.
 # The library needs the Rattle toolchain's rt, all else cargo, on x86-64 or Arm. With CHELBUGAN_LIB_DIR, a folder with a
 # libchelbugan.a that is there, nothing is proved and rt is not needed.
-.PHONY: all library cargo install uninstall clean demo test check compare floats valgrind bench figures
+.PHONY: all library cargo install install-program uninstall clean demo test check compare floats valgrind bench figures
 
 REQUESTS := examples/requests.txt
 SEED := 1
 COUNT := 1000000
 PAIRS := 10000000
 PREFIX := /usr/local
+LIBDIR := $(PREFIX)/lib
 DESTDIR :=
 
 # cargo's build scripts run in another folder.
@@ -26,7 +28,10 @@ ARCHIVE := $(if $(CHELBUGAN_LIB_DIR),$(CHELBUGAN_LIB_DIR),build)/libchelbugan.a
 HEADER := include/chelbugan.h
 HEADERS := $(HEADER) include/chelbugan_host.h
 VERSION := $(shell sed -n 's/^.define CHELBUGAN_VERSION_TEXT "\(.*\)"/\1/p' $(HEADER))
+# Between quotes in each line of the shell: a name with spaces is one word there, but several for make's own functions.
 INTO := $(DESTDIR)$(PREFIX)
+LIB := $(DESTDIR)$(LIBDIR)
+SHARE := $(INTO)/share
 TEST = CHELBUGAN_LIB_DIR=$(abspath $(dir $(ARCHIVE))) cargo test --release --quiet --manifest-path
 
 all: library cargo
@@ -42,31 +47,43 @@ cargo:
 	@command -v cargo >/dev/null || { echo 'make: cargo is not on PATH. It is the build tool of Rust: install Rust 1.95 or later (https://rustup.rs).' >&2; \
 	    echo 'make: the library alone needs no cargo: make library. Nothing was removed.' >&2; exit 1; }
 
+# pkg-config splits what Libs and Cflags come to into words, as a shell does.
 define PKG_CONFIG
 prefix=$(PREFIX)
-libdir=$${prefix}/lib
+libdir=$(subst $(PREFIX)/,$${prefix}/,$(LIBDIR))
 includedir=$${prefix}/include
 
 Name: chelbugan
 Description: Says yes or no to a WebAssembly add-on before the add-on may run
 Version: $(VERSION)
-Libs: -L$${libdir} -lchelbugan
-Cflags: -I$${includedir}
+Libs: -L"$${libdir}" -lchelbugan
+Cflags: -I"$${includedir}"
 endef
 export PKG_CONFIG
 
 install:
-	@[ -f $(ARCHIVE) ] || { echo 'make: there is no $(ARCHIVE) to install: make, or make library, builds it' >&2; exit 1; }
-	@install -d $(INTO)/include $(INTO)/lib/pkgconfig
-	@install -m 644 $(HEADERS) $(INTO)/include
-	@install -m 644 $(ARCHIVE) $(INTO)/lib/libchelbugan.a
-	@printf '%s\n' "$$PKG_CONFIG" >$(INTO)/lib/pkgconfig/chelbugan.pc
-	@chmod 644 $(INTO)/lib/pkgconfig/chelbugan.pc
-	@if [ -f build/chelbugan ]; then install -d $(INTO)/bin && install -m 755 build/chelbugan $(INTO)/bin/chelbugan; fi
+	@[ -f "$(ARCHIVE)" ] || { echo 'make: there is no $(ARCHIVE) to install: make, or make library, builds it' >&2; exit 1; }
+	@install -d "$(INTO)/include" "$(LIB)/pkgconfig"
+	@install -m 644 $(HEADERS) "$(INTO)/include"
+	@install -m 644 "$(ARCHIVE)" "$(LIB)/libchelbugan.a"
+	@printf '%s\n' "$$PKG_CONFIG" >"$(LIB)/pkgconfig/chelbugan.pc"
+	@chmod 644 "$(LIB)/pkgconfig/chelbugan.pc"
+	@if [ -f build/chelbugan ]; then $(MAKE) --silent install-program; fi
 	@echo 'chelbugan $(VERSION) is installed in $(INTO)'
 
+install-program:
+	@install -d "$(INTO)/bin" "$(SHARE)/man/man1" "$(SHARE)/bash-completion/completions" "$(SHARE)/zsh/site-functions" \
+	    "$(SHARE)/fish/vendor_completions.d"
+	@install -m 755 build/chelbugan "$(INTO)/bin/chelbugan"
+	@install -m 644 host/share/chelbugan.1 "$(SHARE)/man/man1/chelbugan.1"
+	@install -m 644 host/share/chelbugan.bash "$(SHARE)/bash-completion/completions/chelbugan"
+	@install -m 644 host/share/_chelbugan "$(SHARE)/zsh/site-functions/_chelbugan"
+	@install -m 644 host/share/chelbugan.fish "$(SHARE)/fish/vendor_completions.d/chelbugan.fish"
+
 uninstall:
-	@rm -f $(addprefix $(INTO)/,$(HEADERS)) $(INTO)/lib/libchelbugan.a $(INTO)/lib/pkgconfig/chelbugan.pc $(INTO)/bin/chelbugan
+	@cd "$(INTO)" && rm -f $(HEADERS) bin/chelbugan share/man/man1/chelbugan.1 share/bash-completion/completions/chelbugan \
+	    share/zsh/site-functions/_chelbugan share/fish/vendor_completions.d/chelbugan.fish
+	@rm -f "$(LIB)/libchelbugan.a" "$(LIB)/pkgconfig/chelbugan.pc"
 
 clean:
 	@rm -rf build host/target tests/plain/target tests/definitions/target tests/host/target bench/target

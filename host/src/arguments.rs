@@ -102,19 +102,20 @@ impl Arguments {
             }
         }
         let command = self.words.first().and_then(|word| word.to_str()).unwrap_or("");
-        let meant = [
-            (self.quiet, "--quiet", &["check", "run", "type", "dump"][..]),
-            (self.raw, "--raw", &["assemble"][..]),
-            (self.page, "--page", &["explain"][..]),
-            (self.fail_on_trap, "--fail-on-trap", &["run"][..]),
-            (self.trace, "--trace", &["run"][..]),
-            (self.comments, "--comments", &["lines"][..]),
-            (self.library.is_some(), LIBRARY, &help::WITH_LIBRARY[..]),
-            (self.output.is_some(), "-o", &help::WITH_OUTPUT[..]),
+        let given = [
+            (self.quiet, "--quiet"),
+            (self.raw, "--raw"),
+            (self.page, "--page"),
+            (self.fail_on_trap, "--fail-on-trap"),
+            (self.trace, "--trace"),
+            (self.comments, "--comments"),
+            (self.library.is_some(), LIBRARY),
+            (self.output.is_some(), OUTPUT),
         ];
-        for (given, option, commands) in meant {
+        for (given, option) in given {
             let known = help::COMMANDS.iter().any(|row| row.name == command);
-            if given && known && !commands.contains(&command) {
+            if given && known && !help::takes(command, option) {
+                let option = if option == OUTPUT { "-o" } else { option };
                 return Err(format!("{command} has no option {option}\n{}", help::use_of(command)));
             }
         }
@@ -126,4 +127,27 @@ impl Arguments {
 fn value_of<'a>(argument: &'a OsStr, option: &str) -> Option<&'a OsStr> {
     let rest = argument.as_bytes().strip_prefix(option.as_bytes())?;
     rest.strip_prefix(b"=").map(OsStr::from_bytes)
+}
+
+#[cfg(test)]
+mod tests {
+    use super::*;
+
+    /// The list that completions and the manual are made from has every option that is read here, and no other.
+    #[test]
+    fn the_list_has_every_option() {
+        let (source, _) =
+            include_str!("arguments.rs").split_once("#[cfg(test)]").expect("its tests");
+        let quoted = source.split('"').skip(1).step_by(2);
+        let mut read: Vec<&str> = quoted
+            .filter(|text| text.starts_with('-') && text.len() > 1 && *text != "--")
+            .filter(|text| !text.contains(' '))
+            .collect();
+        read.sort();
+        read.dedup();
+        let mut listed: Vec<&str> =
+            help::FLAGS.iter().flat_map(|flag| flag.short.into_iter().chain([flag.name])).collect();
+        listed.sort();
+        assert_eq!(read, listed);
+    }
 }

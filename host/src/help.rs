@@ -12,6 +12,69 @@ pub const WITH_OUTPUT: [&str; 4] = ["type", "dump", "print", "assemble"];
 pub const OUTPUT_USE: &str =
     "use: -o FILE, where what is made goes instead of standard output, once";
 
+/// What the command line takes besides its words. A shell's completions and the manual are made from this list.
+pub struct Flag {
+    pub name: &'static str,
+    pub short: Option<&'static str>,
+    /// What follows it.
+    pub value: Option<&'static str>,
+    /// None for every command.
+    pub commands: Option<&'static [&'static str]>,
+    /// In a few words.
+    pub does: &'static str,
+}
+
+pub const FLAGS: &[Flag] = &[
+    Flag {
+        name: "--library",
+        short: None,
+        value: Some("FILE"),
+        commands: Some(&WITH_LIBRARY),
+        does: "the type section that comes before SECTION",
+    },
+    Flag {
+        name: "--output",
+        short: Some("-o"),
+        value: Some("FILE"),
+        commands: Some(&WITH_OUTPUT),
+        does: "write what is made to FILE, not to standard output",
+    },
+    flag("--raw", None, Some(&["assemble"]), "write the bytes as they are, not in hex"),
+    flag("--page", None, Some(&["explain"]), "print docs/REFUSALS.md"),
+    flag("--fail-on-trap", None, Some(&["run"]), "a trap is exit status 1"),
+    flag("--trace", None, Some(&["run"]), "show each instruction with the operands that it found"),
+    flag("--comments", None, Some(&["lines"]), "pass over blank lines, and what stands from # on"),
+    flag(
+        "--quiet",
+        Some("-q"),
+        Some(&["check", "run", "type", "dump"]),
+        "say nothing; the exit status is the answer",
+    ),
+    flag("--json", None, None, "write the answer as JSON, an object a line"),
+    flag("--help", Some("-h"), None, "the page of the command, or of the program"),
+    flag("--version", Some("-V"), None, "the version of the program"),
+];
+
+const fn flag(
+    name: &'static str,
+    short: Option<&'static str>,
+    commands: Option<&'static [&'static str]>,
+    does: &'static str,
+) -> Flag {
+    Flag { name, short, value: None, commands, does }
+}
+
+impl Flag {
+    pub fn is_of(&self, command: &str) -> bool {
+        self.commands.is_none_or(|commands| commands.contains(&command))
+    }
+}
+
+/// Whether a command takes an option of the list.
+pub fn takes(command: &str, option: &str) -> bool {
+    FLAGS.iter().any(|flag| flag.name == option && flag.is_of(command))
+}
+
 pub struct Command {
     pub name: &'static str,
     /// How it is called, a way a line.
@@ -97,13 +160,15 @@ is 1 after the last. With --comments blank lines are passed over, and what stand
     },
     Command {
         name: "help",
-        uses: &["help", "help COMMAND"],
+        uses: &["help", "help COMMAND", "help man", "help bash|zsh|fish"],
         does: "this page, or that of a command",
-        page: "COMMAND --help is the same.",
+        page: "\
+COMMAND --help is the same. help man is the manual, for man; help bash, help zsh and help fish are that shell's completions. make \
+install puts all four where they are looked for.",
     },
 ];
 
-const INPUTS: &str = "\
+pub const INPUTS: &str = "\
 SECTION and BODY are hex digits, as 014E00 or '01 4E 00' or 0x01,0x4E,0x00; '' for no bytes; - for standard input, hex digits or
 the bytes themselves; or the name of a file. A file holds the bytes themselves; one whose name ends in .hex holds hex digits in
 pairs, white space, commas, and comments from # to the end of a line. ./NAME is always a file, hex:DIGITS always bytes.";
@@ -121,7 +186,7 @@ const OPTIONS: &str = "\
 --help          this page, or behind a command that command's
 --version       the program's version";
 
-const STATUS: &str =
+pub const STATUS: &str =
     "exit status: 0 yes, 1 no, 2 bad usage or unreadable input; an add-on that traps or spends its budget was accepted: 0";
 
 pub fn version() -> &'static str {

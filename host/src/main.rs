@@ -6,6 +6,7 @@
 mod arguments;
 mod ask;
 mod commands;
+mod completions;
 mod dump;
 mod explain;
 mod help;
@@ -13,6 +14,7 @@ mod hex;
 mod input;
 mod json;
 mod lines;
+mod manual;
 mod output;
 mod read;
 mod recheck;

@@ -14,7 +14,9 @@ use crate::ask::AddOn;
 use crate::explain::{body_refusal, refusals, section_refusal, Told};
 use crate::json::Json;
 use crate::sections::{self, Sections};
-use crate::{ask, help, hex, input, lines as protocol, output, Outcome, Trouble};
+use crate::{
+    ask, completions, help, hex, input, lines as protocol, manual, output, Outcome, Trouble,
+};
 use chelbugan::{Input, Loader, Refusal};
 use std::borrow::Cow;
 use std::ffi::{OsStr, OsString};
@@ -49,6 +51,10 @@ pub fn obey(arguments: &Arguments) -> Result<Outcome, Trouble> {
         "lines" => lines::lines(arguments, exactly(command, rest, &[])?),
         "help" => match texts[..] {
             [] => page(arguments, help::all()),
+            ["man"] => page(arguments, manual::page()),
+            [shell] if completions::SHELLS.contains(&shell) => {
+                page(arguments, completions::of(shell))
+            }
             [command] => page_of(arguments, command),
             [_, extra, ..] => Err(help::too_many("help", extra)),
         },

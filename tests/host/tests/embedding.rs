@@ -104,47 +104,90 @@ fn the_host_in_c() {
     held_to_the_page(&folder.join("host"));
 }
 
-/// What `make install` puts below a folder is all that a host in C needs, by the words of its pkg-config file.
-#[test]
-fn the_host_in_c_with_what_is_installed() {
-    let (below, folder) = (folder("installed"), folder("c_installed"));
+/// `make install`, or another target that takes its words.
+fn make(target: &str, below: &Path, words: &[&str]) {
     let archive = Path::new(env!("CHELBUGAN_ARCHIVE")).parent().expect("its folder");
     let made = Command::new("make")
-        .args(["--silent", "install", "PREFIX=/opt/some"])
+        .args(["--silent", target])
+        .args(words)
         .arg(format!("DESTDIR={}", below.display()))
         .arg(format!("CHELBUGAN_LIB_DIR={}", archive.display()))
         .current_dir(root())
         .output()
         .expect("make");
     assert!(made.status.success(), "{}", String::from_utf8_lossy(&made.stderr));
-    let prefix = below.join("opt/some");
-    let words = std::fs::read_to_string(prefix.join("lib/pkgconfig/chelbugan.pc")).expect("it");
+}
+
+/// What is said for `Cflags:` or `Libs:`, with the variables' values in place, and split as a shell does it: a part between
+/// quotes is no end of a word.
+fn flags(words: &str, name: &str, below: &Path) -> Vec<String> {
+    let value = |name: &str| words.lines().find_map(|line| line.strip_prefix(name)).expect(name);
+    let prefix = value("prefix=");
+    let libdir = value("libdir=").replace("${prefix}", prefix);
+    let includedir = value("includedir=").replace("${prefix}", prefix);
+    let under = |folder: &str| format!("{}{folder}", below.display());
+    let line = value(name)
+        .replace("${libdir}", &under(&libdir))
+        .replace("${includedir}", &under(&includedir));
+    let mut parts = vec![String::new()];
+    for (index, part) in line.split('"').enumerate() {
+        for (count, word) in part.split(|end| end == ' ' && index % 2 == 0).enumerate() {
+            if count > 0 {
+                parts.push(String::new());
+            }
+            *parts.last_mut().expect("a part") += word;
+        }
+    }
+    parts.into_iter().filter(|part| !part.is_empty()).collect()
+}
+
+/// What `make install` puts below a folder is all that a host in C needs, by the words of its pkg-config file; and `make
+/// uninstall` leaves no file of it.
+fn installed(name: &str, words: &[&str], library: &str, first_lines: &str) {
+    let (below, folder) = (folder(name), folder(&format!("c_{name}")));
+    make("install", &below, words);
+    let config = below.join(library.trim_start_matches('/')).join("pkgconfig/chelbugan.pc");
+    let config = std::fs::read_to_string(config).expect("the pkg-config file");
+    assert!(config.starts_with(first_lines), "{config}");
     let version = chelbugan::calls::version();
     let [major, minor, patch] = [version / 10_000, version / 100 % 100, version % 100];
-    assert!(words.contains(&format!("\nVersion: {major}.{minor}.{patch}\n")), "{words}");
-    let flags = |name: &str| {
-        let line = words.lines().find_map(|line| line.strip_prefix(name)).expect("the flags");
-        let line = line
-            .replace("${libdir}", "${prefix}/lib")
-            .replace("${includedir}", "${prefix}/include");
-        let words = line
-            .split_whitespace()
-            .map(|word| word.replace("${prefix}", &prefix.display().to_string()));
-        words.collect::<Vec<_>>()
-    };
-    assert!(
-        words.starts_with("prefix=/opt/some\nlibdir=${prefix}/lib\nincludedir=${prefix}/include\n")
-    );
+    assert!(config.contains(&format!("\nVersion: {major}.{minor}.{patch}\n")), "{config}");
     std::fs::write(folder.join("host.c"), block("c")).expect("the host's source");
     let compiled = Command::new("cc")
-        .args(flags("Cflags:"))
+        .args(flags(&config, "Cflags:", &below))
         .arg(folder.join("host.c"))
-        .args(flags("Libs:"))
+        .args(flags(&config, "Libs:", &below))
         .arg("-o")
         .arg(folder.join("host"))
         .status();
     assert!(compiled.expect("a C compiler").success());
     held_to_the_page(&folder.join("host"));
+    make("uninstall", &below, words);
+    assert_eq!(files_below(&below), [PathBuf::new(); 0]);
+}
+
+fn files_below(folder: &Path) -> Vec<PathBuf> {
+    let entries =
+        std::fs::read_dir(folder).expect("a folder").map(|entry| entry.expect("it").path());
+    let (folders, mut files): (Vec<_>, Vec<_>) = entries.partition(|path| path.is_dir());
+    files.extend(folders.iter().flat_map(|folder| files_below(folder)));
+    files
+}
+
+#[test]
+fn the_host_in_c_with_what_is_installed() {
+    let lines = "prefix=/opt/some\nlibdir=${prefix}/lib\nincludedir=${prefix}/include\n";
+    installed("installed", &["PREFIX=/opt/some"], "/opt/some/lib", lines);
+}
+
+#[test]
+fn installed_where_names_have_spaces_and_the_library_lies_elsewhere() {
+    let lines = "prefix=/opt/some where\nlibdir=${prefix}/lib 64\nincludedir=${prefix}/include\n";
+    let words = ["PREFIX=/opt/some where", "LIBDIR=/opt/some where/lib 64"];
+    installed("installed here", &words, "/opt/some where/lib 64", lines);
+    let lines = "prefix=/opt/some\nlibdir=/usr/lib/x\nincludedir=${prefix}/include\n";
+    let words = ["PREFIX=/opt/some", "LIBDIR=/usr/lib/x"];
+    installed("installed_elsewhere", &words, "/usr/lib/x", lines);
 }
 
 #[test]
