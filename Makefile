@@ -105,6 +105,7 @@ test: cargo
 	@echo '== plain checker' && $(TEST) tests/plain/Cargo.toml
 	@echo '== the program' && $(TEST) host/Cargo.toml
 	@echo '== the archive from outside' && $(TEST) tests/host/Cargo.toml
+	@echo '== the benchmark' && $(TEST) bench/Cargo.toml
 	@echo 'every test passed with $(ARCHIVE); nothing was proved (make check does that)'
 
 check:
