@@ -10,13 +10,13 @@
  * the add-on's own `section`. Both are the content of a type section: a count of groups, then the groups. The library's types
  * come first, and the add-on's are numbered on after them: with a library of 10 types the add-on's first is type 10. Types
  * of the add-on may name those of the library, as supertypes too; the library cannot name the add-on's. The library is judged
- * whole, rules included, before the add-on's section is looked at, and its refusals are told first. A host without a library
+ * whole, rules included, before the add-on's section is looked at, and its refusals come first. A host without a library
  * hands in the one that has no types, the byte 00: CHELBUGAN_EMPTY_LIBRARY, CHELBUGAN_EMPTY_LIBRARY_LEN. (No bytes at all are
  * no section: refusal 1.)
  *
  * WHAT A CALLER MUST KEEP. The proofs hold for any bytes, numbers and lengths; these are all that they take on trust:
  *   1. No pointer is null, where its length is 0 either, and each is aligned for its element.
- *   2. Behind each pointer lie as many elements as the length beside it says. (Elements, not bytes.)
+ *   2. Each pointer leads to as many elements as the length beside it says. (Elements, not bytes.)
  *   3. Memory that is lent for writing (answer, and every buffer but library, section and body) overlaps with nothing else
  *      that the call is handed. Library, section and body are only read and may overlap.
  *   4. Until the call returns nobody else writes what it was handed, or reads what it was lent for writing. Calls with
@@ -48,14 +48,14 @@ extern "C" {
 
 /* The version of this header: 10,000 times the first number, 100 times the second, and the third. chelbugan_version() is the
  * archive's. Where the first numbers are equal the calls have one shape, and what this header names means the same; the second
- * number changes with what is accepted, the third with which refusal is told. */
+ * number changes with what is accepted, the third with which refusal is given. */
 #define CHELBUGAN_VERSION 20000
 #define CHELBUGAN_VERSION_TEXT "2.0.0"
 
 /* What each call returns: 0 is a refusal, everything else is a yes. Only a trial run has more than one. */
 #define CHELBUGAN_NO 0
 #define CHELBUGAN_YES 1
-#define CHELBUGAN_DONE 1  /* a run came to its end */
+#define CHELBUGAN_DONE 1  /* a run reached its end */
 #define CHELBUGAN_TRAP 2  /* a run was stopped by an instruction */
 #define CHELBUGAN_SPENT 3 /* a run's budget was used up */
 
@@ -143,7 +143,7 @@ extern "C" {
 #define CHELBUGAN_OPERANDS 1024 /* uint64_t: 512 values */
 #define CHELBUGAN_BLOCKS 189    /* uint16_t: 63 open blocks */
 
-/* The words of an answer; always so many. */
+/* The number of words of an answer, the same for every call. */
 #define CHELBUGAN_ANSWER 4
 
 /* Row x of the table begins at rows[CHELBUGAN_ROW_WORDS * x]: the library's types first, then the add-on's. A number that may
@@ -165,7 +165,7 @@ extern "C" {
 #define CHELBUGAN_FORM_FUNCTION 2
 
 /* A row whose word CHELBUGAN_ROW_CODE is below this is a type of the add-on, and the word is a place in codes. From this on it
- * is a type of the library, and its codes begin in shared, at so much less than the word. It holds of a type without codes too.
+ * is a type of the library, and its codes begin in shared, at the word less this. It holds of a type without codes too.
  *
  *   uint16_t code = rows[CHELBUGAN_ROW_WORDS * x + CHELBUGAN_ROW_CODE];
  *   const uint16_t *own = code < CHELBUGAN_ROW_SHARED ? codes + code : shared + (code - CHELBUGAN_ROW_SHARED);
@@ -209,7 +209,7 @@ extern "C" {
 #define CHELBUGAN_OBJECT_WORDS 4
 #define CHELBUGAN_OBJECT_TYPE 0       /* its type's number */
 #define CHELBUGAN_OBJECT_DESCRIPTOR 1 /* the object that is its descriptor: 0 for none, else one more than its number */
-#define CHELBUGAN_OBJECT_CELL 2       /* its first field is value so many of cells */
+#define CHELBUGAN_OBJECT_CELL 2       /* the number of the value in cells that is its first field */
 #define CHELBUGAN_OBJECT_FIELDS 3     /* how many fields it has */
 
 /* Value n of cells, locals (parameters first) or operands (the bottom first) begins at [CHELBUGAN_VALUE_WORDS * n]: its
@@ -322,7 +322,7 @@ uint64_t chelbugan_judge_body(const uint8_t *library, size_t library_len,
  * zero beyond (a trapping step changes nothing of it); rows, shared, codes, work and ends were scratch and are zero.
  * CHELBUGAN_NO:    the refusal (above), and all eleven are zero. After the body's own refusals: a budget above
  *                  CHELBUGAN_BUDGET is refusal 4 at 0, a parameter without a default is refusal 29 at 0. These two places
- *                  stand for the budget and the parameters, and for no byte.
+ *                  mean the budget and the parameters, and no byte.
  * A trap is no refusal: the body keeps every rule, and stopping there is what documents 01 and 02 say that it does.
  *
  *   static uint16_t ends[CHELBUGAN_ENDS], objects[CHELBUGAN_OBJECTS], blocks[CHELBUGAN_BLOCKS];
