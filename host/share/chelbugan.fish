@@ -14,7 +14,7 @@ complete -c chelbugan -n '__fish_seen_subcommand_from assemble' -l raw -d 'write
 complete -c chelbugan -n '__fish_seen_subcommand_from explain' -l page -d 'print docs/REFUSALS.md'
 complete -c chelbugan -n '__fish_seen_subcommand_from run' -l fail-on-trap -d 'a trap is exit status 1'
 complete -c chelbugan -n '__fish_seen_subcommand_from run' -l trace -d 'show each instruction with the operands that it found'
-complete -c chelbugan -n '__fish_seen_subcommand_from lines' -l comments -d 'pass over blank lines, and what stands from # on'
+complete -c chelbugan -n '__fish_seen_subcommand_from lines' -l comments -d 'pass over blank lines, and what follows # in a line'
 complete -c chelbugan -n '__fish_seen_subcommand_from check run type dump' -s q -l quiet -d 'say nothing; the exit status is the answer'
 complete -c chelbugan -l json -d 'write the answer as JSON, an object a line'
 complete -c chelbugan -s h -l help -d 'the page of the command, or of the program'

@@ -43,7 +43,7 @@ pub const FLAGS: &[Flag] = &[
     flag("--page", None, Some(&["explain"]), "print docs/REFUSALS.md"),
     flag("--fail-on-trap", None, Some(&["run"]), "a trap is exit status 1"),
     flag("--trace", None, Some(&["run"]), "show each instruction with the operands that it found"),
-    flag("--comments", None, Some(&["lines"]), "pass over blank lines, and what stands from # on"),
+    flag("--comments", None, Some(&["lines"]), "pass over blank lines, and what follows # in a line"),
     flag(
         "--quiet",
         Some("-q"),
@@ -126,7 +126,7 @@ accepted, by its bytes, and what is not. --page prints docs/REFUSALS.md.",
         uses: &["dump section SECTION", "dump body BODY"],
         does: "list every byte with its offset; judges nothing",
         page: "\
-The exit status is 1 where the listing breaks off at a byte that fits nowhere; the bytes behind it are listed too. A padded \
+The exit status is 1 where the listing breaks off at a byte that fits nowhere; the bytes after it are listed too. A padded \
 number is listed with its shortest writing. With --library the library is listed first, and the section's types are numbered on \
 after those of the library that could be read. A body defines no types, so dump body takes no library.",
     },
@@ -154,9 +154,9 @@ the first (type ..) has the number after the library's last, and the library's t
         does: "answer requests, one a line, from standard input (docs/LAYOUT.md)",
         page: "\
 Requests are S SECTION, T SECTION NUMBER, B SECTION TYPE BODY and R SECTION TYPE BODY BUDGET, bytes in hex, - for none. The \
-library's section may stand before SECTION; then rows, bytes and places say in which of the two they lie, by the word library or \
+library's section may come before SECTION; then rows, bytes and places say in which of the two they lie, by the word library or \
 addon. A line may end in CR LF. A line that is no request, a blank one too, is answered by error and why, and the exit status \
-is 1 after the last. With --comments blank lines are passed over, and what stands from # to a line's end. With --library, a request that has no library of its own is answered as if the bytes of FILE stood there.",
+is 1 after the last. With --comments blank lines are passed over, and what follows # in a line. With --library, a request that has no library of its own is answered as if it had the bytes of FILE.",
     },
     Command {
         name: "help",
@@ -183,7 +183,7 @@ const OUTPUT_OPTION: &str = "\
 const OPTIONS: &str = "\
 --json          write the answer as JSON, an object a line (docs/JSON.md)
 --quiet         say nothing; the exit status is the answer
---help          this page, or behind a command that command's
+--help          this page, or after a command that command's
 --version       the program's version";
 
 pub const STATUS: &str =

@@ -126,7 +126,7 @@ are source and target.
 {}
 ## Numeric instructions
 
-None has anything behind it. A body with any of them is accepted; a trial run that comes to one that it does not do stops there \
+None has anything after it. A body with any of them is accepted; a trial run that reaches one that it does not do stops there \
 with [trap 46](REFUSALS.md#trap-46).
 
 {}

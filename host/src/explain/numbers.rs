@@ -56,7 +56,7 @@ pub const ENTRIES: &[Entry] = &[
     Entry {
         number: 2,
         title: "LEB too long or out of range",
-        means: "A number stands in more than five bytes (ten for i64.const), or does not fit the 32 bits (33 with a sign for a heap type, 64 with a sign for i64.const) that it may have.",
+        means: "A number has more than five bytes (ten for i64.const), or does not fit the 32 bits (33 with a sign for a heap type, 64 with a sign for i64.const) that it may have.",
         place: "Byte: the number's first.",
         rule: "Numbers are LEB128 as the core standard has them.",
         examples: &[
@@ -79,7 +79,7 @@ pub const ENTRIES: &[Entry] = &[
     Entry {
         number: 3,
         title: "byte or FB number not listed, negative number as type",
-        means: "A byte stands where a form, a type, an instruction or a flag has to, and is none that the loader accepts; or a type number is negative. The explanation names what the byte is in WebAssembly. `chelbugan explain accepted` lists all that is accepted, and what is not.",
+        means: "A form, a type, an instruction or a flag is wanted, and the byte is none that the loader accepts; or a type number is negative. The explanation names what the byte is in WebAssembly. `chelbugan explain accepted` lists all that is accepted, and what is not.",
         place: "Byte: the item's first; of an instruction after FB, the number's.",
         rule: "Byte or FB number not listed, negative number as type. Listed are also i64.const (42), f32.const (43), f64.const (44) and the numeric codes 45 to C4. Heap: 62 x (exact x), an abstract code, or a type number as a non-negative s33.",
         examples: &[
@@ -145,7 +145,7 @@ pub const ENTRIES: &[Entry] = &[
         examples: &[Example {
             broken: Section("00 00"),
             place: 1,
-            why: "0 groups, and a byte behind them",
+            why: "0 groups, and a byte after them",
             mended: Section("00"),
             mend: "without that byte",
         }],
@@ -169,7 +169,7 @@ pub const ENTRIES: &[Entry] = &[
                 place: 0,
                 why: "the library's field names type 1, which is the add-on's",
                 mended: After("02 5F 00 5F 01 63 00 00", "01 5F 00"),
-                mend: "the type that is named stands in the library too, before the field's",
+                mend: "the type that is named is in the library too, before the field's",
             },
             Example {
                 broken: Body(V, "00 D0 01 1A 0B", 0),
@@ -204,7 +204,7 @@ pub const ENTRIES: &[Entry] = &[
             Example {
                 broken: After(FINAL, "01 4F 01 00 5F 00"),
                 place: 1,
-                why: "the add-on's type 0, type 1 of the joined list, stands below a type of the library that is final",
+                why: "the add-on's type 0, type 1 of the joined list, has a supertype in the library that is final",
                 mended: After(OPEN, "01 4F 01 00 5F 00"),
                 mend: "the library's type is open",
             },
@@ -287,7 +287,7 @@ pub const ENTRIES: &[Entry] = &[
     Entry {
         number: 12,
         title: "rule 4: the supertype's descriptor has none below it here",
-        means: "The supertype has a descriptor, and the subtype has none, or one that does not stand below the supertype's. The explanation shows both clauses.",
+        means: "The supertype has a descriptor, and the subtype has none, or one that is not below the supertype's. The explanation shows both clauses.",
         place: "Type number: the subtype's.",
         rule: "If the supertype has descriptor y, the subtype has a descriptor whose supertype is y. A supertype without one allows either.",
         examples: &[
@@ -312,7 +312,7 @@ pub const ENTRIES: &[Entry] = &[
     Entry {
         number: 13,
         title: "rule 5: both describe or neither does, described types stand alike",
-        means: "Of a type and its supertype one describes and the other does not, or the types that they describe do not stand below one another.",
+        means: "Of a type and its supertype one describes and the other does not, or the types that they describe are not below one another.",
         place: "Type number: the subtype's.",
         rule: "A type and its supertype both describe or neither does; the described types stand as subtype and supertype too.",
         examples: &[Example {
@@ -560,7 +560,7 @@ pub const ENTRIES: &[Entry] = &[
     Entry {
         number: 41,
         title: "unreachable",
-        means: "The run came to an unreachable instruction.",
+        means: "The run reached an unreachable instruction.",
         place: "Instruction: the offset of its first byte in the body.",
         rule: "Traps: 41 unreachable.",
         examples: &[Example {
@@ -630,7 +630,7 @@ pub const ENTRIES: &[Entry] = &[
     Entry {
         number: 46,
         title: "a numeric code that the trial run does not do",
-        means: "The run came to a numeric code that the loader reads and checks but does not compute: a multiplication or division of integers, a shift, a rounding, a conversion and the like. The operands stay.",
+        means: "The run reached a numeric code that the loader reads and checks but does not compute: a multiplication or division of integers, a shift, a rounding, a conversion and the like. The operands stay.",
         place: "Instruction: the offset of its first byte in the body.",
         rule: "The run does add, sub, eqz and comparisons of integers, and comparisons, neg, add, sub, mul and div of floats. Another numeric code stops the run with new trap 46.",
         examples: &[Example {
