@@ -59,7 +59,7 @@ All are accepted, so that every byte is looked at. The body's section is judged 
 Sections and bodies of 32 KB whose LEB numbers are of three lengths, each as short as it can be. All are accepted. The sections are of one shape: structs with a supertype and 64 fields, functions with 64 parameters and 64 results, all of them references to a few types. So are the bodies: constants, locals, fields, br_if, casts, nulls and new objects; they have one section, and bytes and numbers are the body's alone.
 
 - *one-byte numbers*: types, locals and constants have low numbers.
-- *two-byte numbers*: types, locals and constants are numbered from 128 on. Lists, labels, fields and what stands after FB never need two bytes, and have one.
+- *two-byte numbers*: types, locals and constants are numbered from 128 on. Lists, labels, fields and the number after FB never need two bytes, and have one.
 - *five-byte constants*: as the first, with constants from 2^27 on. Nothing else can need five bytes and be accepted.
 
 {}
