@@ -16,7 +16,7 @@ use Rattle.scope.specs.Sections.{emptyLibrary}
 use Rattle.scope.specs.Judging.{inAddon, plain, Judged, accepted, rejected, andThen, judgeTypes, Joined, judgeJoined, Held, askType, partOf}
 use Rattle.scope.specs.Bodies.{Body, functionOf, judgedOf, bodyAt, judgeBody}
 use Rattle.scope.specs.Running.{Trial, withParameters, trialRun}
-use Rattle.scope.specs.Memory.{rowsFrom, tableCodes, joinedRows, joinedShared, joinedCodes}
+use Rattle.scope.specs.Memory.{startsOf, endsOf, rowsFrom, tableCodes, joinedRows, joinedShared, joinedCodes}
 use Rattle.facts_sections.specs.Allowed.{Section}
 use Rattle.facts_sections.specs.Limits.{readUnder}
 
@@ -66,7 +66,7 @@ pub record SameAnswers (most : ℕ) (section : List ℕ) : Type 0 where
 
 -- and so is every word of the table: no codes are the library's, and the add-on's are counted from 0 on
 pub record SameTable (j : Joined) : Type 0 where
-  pub rows : joinedRows j ≡ rowsFrom 0 (j .types)
+  pub rows : joinedRows j ≡ rowsFrom (startsOf (j .types)) (endsOf (j .types)) 0 0 (j .types)
   pub shared : joinedShared j ≡ []
   pub codes : joinedCodes j ≡ tableCodes (j .types)
 

@@ -18,8 +18,9 @@ use Rattle.scope.specs.BodyRules.{lastOf, planOf}
 use Rattle.scope.specs.Bodies.{fits, fit, takeAll, put, doPlan, judgeEnd, judgeInstr, judgeFrom, localsAt, bodyAt, judgeBody}
 use Rattle.scope.specs.Machine.{splitTop, defaultsOf, doNumeric, pastEnds, jump, doOp, doInstr, step}
 use Rattle.scope.specs.Running.{runBy, run, trialRun}
-use Rattle.scope.specs.Memory.{rowWords, rowsFrom, objectsFrom, blockWords, stateWords}
+use Rattle.scope.specs.Ranges.{total, sizeOf, startOf}
+use Rattle.scope.specs.Memory.{parents, rowWords, rowsFrom, objectsFrom, blockWords, stateWords}
 
 unfoldable pub computes : ℕ
-unfolding entries bitsAt unsigned signed littleEndian floatBytes heapAt valAt fieldAt fewAt supersAt headAt clauseAt formAt definitionAt groupAt groupsAt readAfter upTable climbs heapBelow valBelow valFit sameHeap sameVal names inReach superEarlierAndOpen shortChain formMatches matchesSuper clausesOnStruct describesEarlier clausesAgree descriptorFollows describesFollows linksFault ruleFault scan judgeTypes judgeLibrary judgeJoined judgeSections askType size units rounded floatNeg floatAdd floatSub floatMul floatDiv floatEqual floatLess intAdd intSub intLessSigned intAtMostSigned numericOf deedOf blockTypeAt castAt instrAt lastOf planOf fits fit takeAll put doPlan judgeEnd judgeInstr judgeFrom localsAt bodyAt judgeBody splitTop defaultsOf doNumeric pastEnds jump doOp doInstr step runBy run trialRun rowWords rowsFrom objectsFrom blockWords stateWords
+unfolding entries bitsAt unsigned signed littleEndian floatBytes heapAt valAt fieldAt fewAt supersAt headAt clauseAt formAt definitionAt groupAt groupsAt readAfter upTable climbs heapBelow valBelow valFit sameHeap sameVal names inReach superEarlierAndOpen shortChain formMatches matchesSuper clausesOnStruct describesEarlier clausesAgree descriptorFollows describesFollows linksFault ruleFault scan judgeTypes judgeLibrary judgeJoined judgeSections askType size units rounded floatNeg floatAdd floatSub floatMul floatDiv floatEqual floatLess intAdd intSub intLessSigned intAtMostSigned numericOf deedOf blockTypeAt castAt instrAt lastOf planOf fits fit takeAll put doPlan judgeEnd judgeInstr judgeFrom localsAt bodyAt judgeBody splitTop defaultsOf doNumeric pastEnds jump doOp doInstr step runBy run trialRun total sizeOf startOf parents rowWords rowsFrom objectsFrom blockWords stateWords
 computes = 0

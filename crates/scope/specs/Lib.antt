@@ -20,5 +20,6 @@ pub mod BodyRules
 pub mod Bodies
 pub mod Machine
 pub mod Running
+pub mod Ranges
 pub mod Memory
 pub mod Answers

@@ -1,6 +1,6 @@
 -- What lent memory holds after each public call, word by word. docs/LAYOUT.md draws it. "Every refusal zeroes all memory
 -- lent for writing."
-use Prim.Native.Nat.{ℕ, _+_, _-_, _*_}
+use Prim.Native.Nat.{ℕ, suc, _+_, _-_, _*_}
 use mathlib.Core.Bool.{Bool, cond}
 use mathlib.Core.Option.{Option}
 use mathlib.Core.List.{List, [], _∷_, _++_, map, reverse}
@@ -8,10 +8,11 @@ use lib.ListN.{length, replicate, take, drop}
 use Rattle.scope.specs.Reading.{given}
 use Rattle.scope.specs.Lists.{joined, sum}
 use Rattle.scope.specs.Abstract.{Abstract, NOFUNC, NOEXTERN, NONE, FUNC, EXTERN, ANY, EQ, I31, STRUCT, ARRAY}
-use Rattle.scope.specs.Syntax.{Heap, abstract, defined, exact, Val, num, ref, Field, Form, struct, func, Definition, superOf}
+use Rattle.scope.specs.Syntax.{Heap, abstract, defined, exact, Val, num, ref, Field, Form, struct, func, Definition, typesOf, superOf}
 use Rattle.scope.specs.Layout.{codesSize}
 use Rattle.scope.specs.Order.{numberCode}
 use Rattle.scope.specs.Judging.{Joined}
+use Rattle.scope.specs.Ranges.{sizeIn, startIn}
 use Rattle.scope.specs.Machine.{Value, number, null, object, Store, Block, openBlock, openLoop, Machine}
 use Rattle.scope.specs.Running.{placeOf}
 
@@ -68,13 +69,24 @@ abbrev pub formWords : Form → List ℕ
 formWords (struct fs) = 1 ∷ length fs ∷ 0 ∷ []
 formWords (func ps rs) = 2 ∷ length ps ∷ length rs ∷ []
 
+-- what stands above a type: 0, or one more than its supertype
+unfoldable pub parents : List Definition → ℕ → ℕ
+parents ds x = orZero (superOf (typesOf ds x))
+
+-- the range of a type: x is below y exactly where x is y or start y ≤ start x < end y
+abbrev pub startsOf : List Definition → ℕ → ℕ
+startsOf ds x = startIn (parents ds) (length ds) x
+
+abbrev pub endsOf : List Definition → ℕ → ℕ
+endsOf ds x = startIn (parents ds) (length ds) x + sizeIn (parents ds) (length ds) x
+
 -- the last words of a row, which nothing uses yet
 abbrev pub spareWords : List ℕ
-spareWords = 0 ∷ 0 ∷ 0 ∷ 0 ∷ []
+spareWords = 0 ∷ 0 ∷ []
 
--- one row of the table; its codes start at `first`
-unfoldable pub rowWords : ℕ → Definition → List ℕ
-rowWords first d =
+-- one row of the table; its codes start at `first`, its range at `start`
+unfoldable pub rowWords : ℕ → ℕ → ℕ → Definition → List ℕ
+rowWords first start end d =
     formWords (d .form)
     ++ flag (d .isOpen)
     ∷ orZero (superOf d)
@@ -85,11 +97,14 @@ rowWords first d =
     ∷ d .reach
     ∷ first
     ∷ (length (d .supers) - 1)
+    ∷ start
+    ∷ end
     ∷ spareWords
 
-unfoldable pub rowsFrom : ℕ → List Definition → List ℕ
-rowsFrom first [] = []
-rowsFrom first (d ∷ ds) = rowWords first d ++ rowsFrom (first + length (formCodes (d .form))) ds
+-- the rows from type x on
+unfoldable pub rowsFrom : (ℕ → ℕ) → (ℕ → ℕ) → ℕ → ℕ → List Definition → List ℕ
+rowsFrom start end x first [] = []
+rowsFrom start end x first (d ∷ ds) = rowWords first (start x) (end x) d ++ rowsFrom start end (suc x) (first + length (formCodes (d .form))) ds
 
 -- the three buffers of the table: the rows of all types, the library's first; the codes of the fields, parameters and results of
 -- the library's types; and those of the add-on's. A row's first code tells the two apart: the add-on's count from 0 on, so that
@@ -104,7 +119,9 @@ abbrev pub addonTypes : Joined → List Definition
 addonTypes j = drop (j .before) (j .types)
 
 abbrev pub joinedRows : Joined → List ℕ
-joinedRows j = rowsFrom codesSize (libraryTypes j) ++ rowsFrom 0 (addonTypes j)
+joinedRows j =
+    rowsFrom (startsOf (j .types)) (endsOf (j .types)) 0 codesSize (libraryTypes j)
+    ++ rowsFrom (startsOf (j .types)) (endsOf (j .types)) (length (libraryTypes j)) 0 (addonTypes j)
 
 abbrev pub joinedShared : Joined → List ℕ
 joinedShared j = tableCodes (libraryTypes j)
