@@ -7,6 +7,7 @@ ghost use Rattle.scope.specs.Syntax.{ref};
 ghost use Rattle.scope.specs.Order.{valFit, sameVal};
 ghost use Rattle.type_table.specs.View.{heapAtCode, valAtCode, view, bothCodes};
 ghost use Rattle.type_fit.specs.Outcomes.{fitIs};
+ghost use Rattle.type_hierarchy.specs.Ranged.{Ranged};
 
 // What the test of one type against another comes to: it fits, it would fit if it could not be null, or it does not fit.
 pub enum Fit {
@@ -18,6 +19,7 @@ pub enum Fit {
 // A reference against the value type with the code b: the heaps decide, and then null. A non-null reference is below the
 // nullable one.
 fn ref_fit(rows: &[u16], shared: &[u16], codes: &[u16], nullable: bool, h: u64, b: u64) -> Fit
+    requires { ⌜ Ranged (now rows) (bothCodes (now shared) (now codes)) ⌝ }
     ensures { λ r. ⌜ r ≡ fitIs (valFit (view (now (rows .entry)) (bothCodes (now (shared .entry)) (now (codes .entry)))) (ref nullable (heapAtCode h)) (valAtCode b)) ⌝ }
 {
     let upper = type_table::val_of(b);
@@ -40,6 +42,7 @@ fn ref_fit(rows: &[u16], shared: &[u16], codes: &[u16], nullable: bool, h: u64, 
 
 // Most comparisons are of a type with itself, which fits.
 pub fn val_fit(rows: &[u16], shared: &[u16], codes: &[u16], a: u64, b: u64) -> Fit
+    requires { ⌜ Ranged (now rows) (bothCodes (now shared) (now codes)) ⌝ }
     ensures { λ r. ⌜ r ≡ fitIs (valFit (view (now (rows .entry)) (bothCodes (now (shared .entry)) (now (codes .entry)))) (valAtCode a) (valAtCode b)) ⌝ }
 {
     if a == b {

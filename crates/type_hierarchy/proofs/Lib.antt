@@ -1,2 +1,2 @@
-pub mod Climbing
+pub mod InRange
 pub mod ByForm

@@ -1,8 +1,6 @@
 // Where a type stands in its hierarchy: up its declared supertypes to another; by its form its kind, struct or func, with the
-// abstract types above that; and which abstract type is the bottom. The table is read as it stands, for any words: each answer
-// is by scope's Order.antt over what the table says.
-use scope::sizes;
-use type_table::Link;
+// abstract types above that; and which abstract type is the bottom. Each answer is by scope's Order.antt over what the table says.
+// Whoever asks for the way up has given the table its ranges (specs/Ranged.antt); of all else it is read as it stands.
 ghost use mathlib.Core.Path.{_≡_};
 ghost use Rattle.scope.specs.Sizes.{mostSteps};
 ghost use Rattle.scope.specs.Abstract.{sameAbstract};
@@ -10,25 +8,21 @@ ghost use Rattle.scope.specs.Memory.{abstractCode};
 ghost use Rattle.scope.specs.Order.{kindOf, bottomOf, abstractBelow, climbs};
 ghost use Rattle.type_abstract.specs.Heaps.{abstractAt};
 ghost use Rattle.type_table.specs.View.{view, bothCodes};
+ghost use Rattle.type_hierarchy.specs.Ranged.{Ranged};
 
-// From x up the declared supertypes to y.
+// From x up the declared supertypes to y: x is y, or starts in the range of y.
 pub fn climbs_to(rows: &[u16], shared: &[u16], codes: &[u16], x: u64, y: u64) -> bool
+    requires { ⌜ Ranged (now rows) (bothCodes (now shared) (now codes)) ⌝ }
     ensures { λ r. ⌜ r ≡ climbs mostSteps (view (now (rows .entry)) (bothCodes (now (shared .entry)) (now (codes .entry)))) x y ⌝ }
 {
-    let mut at = x;
-    let mut left = sizes::MOST_STEPS;
-    while 0 < left {
-        if at == y {
-            return true;
-        }
-        let above = type_table::super_of(rows, shared, codes, at);
-        let Link::To(p) = above else {
-            return false;
-        };
-        at = p;
-        left = left - 1;
+    if x == y {
+        return true;
     }
-    at == y
+    let start = type_span::start_of(rows, x);
+    if start < type_span::start_of(rows, y) {
+        return false;
+    }
+    start < type_span::end_of(rows, y)
 }
 
 // The number of struct or func: what a type is below by its form.

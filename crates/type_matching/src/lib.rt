@@ -9,6 +9,7 @@ ghost use Rattle.scope.specs.Order.{valBelow};
 ghost use Rattle.scope.specs.TypeRules.{fieldMatches, formMatches, matchesSuper};
 ghost use Rattle.type_table.specs.View.{valAtCode, fieldAtCode, codesAt, view, bothCodes};
 ghost use Rattle.type_matching.specs.Lists.{codeMatches, codesMatch};
+ghost use Rattle.type_hierarchy.specs.Ranged.{Ranged};
 
 // The place of the library's first code.
 const SHARED: u32 = type_table::SHARED as u32;
@@ -16,6 +17,7 @@ const SHARED: u32 = type_table::SHARED as u32;
 // Of the three outcomes rule 2 relies on the first alone: a subtype fits. A type that would fit if it could not be null is no
 // subtype, and is 8 like any other that does not fit.
 fn subtype(rows: &[u16], shared: &[u16], codes: &[u16], a: u64, b: u64) -> bool
+    requires { ⌜ Ranged (now rows) (bothCodes (now shared) (now codes)) ⌝ }
     ensures { λ r. ⌜ r ≡ valBelow (view (now (rows .entry)) (bothCodes (now (shared .entry)) (now (codes .entry)))) (valAtCode a) (valAtCode b) ⌝ }
 {
     let fit = type_fit::val_fit(rows, shared, codes, a, b);
@@ -28,6 +30,7 @@ fn subtype(rows: &[u16], shared: &[u16], codes: &[u16], a: u64, b: u64) -> bool
 
 // Mutability is equal; a fixed field's type is a subtype, a mutable one's is identical.
 fn field_matches(rows: &[u16], shared: &[u16], codes: &[u16], a: u64, b: u64) -> bool
+    requires { ⌜ Ranged (now rows) (bothCodes (now shared) (now codes)) ⌝ }
     ensures { λ r. ⌜ r ≡ fieldMatches (view (now (rows .entry)) (bothCodes (now (shared .entry)) (now (codes .entry)))) (fieldAtCode a) (fieldAtCode b) ⌝ }
 {
     if a % 2 == 1 {
@@ -47,6 +50,7 @@ fn field_matches(rows: &[u16], shared: &[u16], codes: &[u16], a: u64, b: u64) ->
 
 // Two codes against each other: those of fields, or of value types.
 fn code_matches(rows: &[u16], shared: &[u16], codes: &[u16], fields: bool, a: u64, b: u64) -> bool
+    requires { ⌜ Ranged (now rows) (bothCodes (now shared) (now codes)) ⌝ }
     ensures { λ r. ⌜ r ≡ codeMatches fields (view (now (rows .entry)) (bothCodes (now (shared .entry)) (now (codes .entry)))) a b ⌝ }
 {
     if fields {
@@ -68,6 +72,7 @@ fn list_matches(
     j: u32,
     m: u32,
 ) -> bool
+    requires { ⌜ Ranged (now rows) (bothCodes (now shared) (now codes)) ⌝ }
     ensures { λ r. let types = view (now (rows .entry)) (bothCodes (now (shared .entry)) (now (codes .entry))) in
         ⌜ r ≡ codesMatch fields types (now (list .entry)) i n j m ⌝ }
 {
@@ -107,6 +112,7 @@ fn any_match(
     j: u32,
     m: u32,
 ) -> bool
+    requires { ⌜ Ranged (now rows) (bothCodes (now shared) (now codes)) ⌝ }
     ensures { λ r. let both = bothCodes (now (shared .entry)) (now (codes .entry)) in
         ⌜ r ≡ codesMatch fields (view (now (rows .entry)) both) both i n j m ⌝ }
 {
@@ -146,6 +152,7 @@ fn codes_match(
     j: u32,
     m: u32,
 ) -> bool
+    requires { ⌜ Ranged (now rows) (bothCodes (now shared) (now codes)) ⌝ }
     ensures { λ r. let both = bothCodes (now (shared .entry)) (now (codes .entry)) in
         ⌜ r ≡ codesMatch fields (view (now (rows .entry)) both) both i n j m ⌝ }
 {
@@ -168,6 +175,7 @@ fn codes_match(
 
 // A struct of n fields from i on against the form of p.
 fn struct_matches(rows: &[u16], shared: &[u16], codes: &[u16], i: u32, n: u32, p: u64) -> bool
+    requires { ⌜ Ranged (now rows) (bothCodes (now shared) (now codes)) ⌝ }
     ensures { λ r.
         let types = view (now (rows .entry)) (bothCodes (now (shared .entry)) (now (codes .entry))) in
         let fields = codesAt fieldAtCode (bothCodes (now (shared .entry)) (now (codes .entry))) i n in
@@ -191,6 +199,7 @@ fn func_matches(
     o: u32,
     p: u64,
 ) -> bool
+    requires { ⌜ Ranged (now rows) (bothCodes (now shared) (now codes)) ⌝ }
     ensures { λ r.
         let types = view (now (rows .entry)) (bothCodes (now (shared .entry)) (now (codes .entry))) in
         let parameters = codesAt valAtCode (bothCodes (now (shared .entry)) (now (codes .entry))) i n in
@@ -210,6 +219,7 @@ fn func_matches(
 }
 
 pub fn form_matches(rows: &[u16], shared: &[u16], codes: &[u16], x: u64, p: u64) -> bool
+    requires { ⌜ Ranged (now rows) (bothCodes (now shared) (now codes)) ⌝ }
     ensures { λ r.
         let types = view (now (rows .entry)) (bothCodes (now (shared .entry)) (now (codes .entry))) in
         ⌜ r ≡ formMatches types (types x .form) (types p .form) ⌝ }
@@ -222,6 +232,7 @@ pub fn form_matches(rows: &[u16], shared: &[u16], codes: &[u16], x: u64, p: u64)
 }
 
 pub fn matches_super(rows: &[u16], shared: &[u16], codes: &[u16], x: u64) -> bool
+    requires { ⌜ Ranged (now rows) (bothCodes (now shared) (now codes)) ⌝ }
     ensures { λ r. ⌜ r ≡ matchesSuper (view (now (rows .entry)) (bothCodes (now (shared .entry)) (now (codes .entry)))) x ⌝ }
 {
     let above = type_table::super_of(rows, shared, codes, x);

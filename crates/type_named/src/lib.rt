@@ -6,6 +6,7 @@ ghost use mathlib.Core.Path.{_≡_};
 ghost use Rattle.scope.specs.Order.{heapBelow};
 ghost use Rattle.type_table.specs.View.{heapAtCode, view, bothCodes};
 ghost use Rattle.type_named.specs.Named.{named};
+ghost use Rattle.type_hierarchy.specs.Ranged.{Ranged};
 
 // Whether x, or exact x, is below the heap type with the code b. Below exact y there is no type but itself.
 pub fn named_under(
@@ -16,6 +17,7 @@ pub fn named_under(
     x: u64,
     b: u64,
 ) -> bool
+    requires { ⌜ Ranged (now rows) (bothCodes (now shared) (now codes)) ⌝ }
     ensures { λ r. ⌜ r ≡ heapBelow (view (now (rows .entry)) (bothCodes (now (shared .entry)) (now (codes .entry)))) (named exactly x) (heapAtCode b) ⌝ }
 {
     let upper = type_table::heap_of(b);

@@ -6,6 +6,7 @@ ghost use Rattle.scope.specs.Syntax.{abstract};
 ghost use Rattle.scope.specs.Order.{heapBelow};
 ghost use Rattle.type_abstract.specs.Heaps.{abstractAt};
 ghost use Rattle.type_table.specs.View.{heapAtCode, view, bothCodes};
+ghost use Rattle.type_hierarchy.specs.Ranged.{Ranged};
 
 // Whether an abstract type is below the heap type with the code b.
 fn abstract_under(rows: &[u16], shared: &[u16], codes: &[u16], a: u64, b: u64) -> bool
@@ -20,6 +21,7 @@ fn abstract_under(rows: &[u16], shared: &[u16], codes: &[u16], a: u64, b: u64) -
 }
 
 pub fn heap_below(rows: &[u16], shared: &[u16], codes: &[u16], a: u64, b: u64) -> bool
+    requires { ⌜ Ranged (now rows) (bothCodes (now shared) (now codes)) ⌝ }
     ensures { λ r. ⌜ r ≡ heapBelow (view (now (rows .entry)) (bothCodes (now (shared .entry)) (now (codes .entry)))) (heapAtCode a) (heapAtCode b) ⌝ }
 {
     let lower = type_table::heap_of(a);

@@ -9,9 +9,9 @@ use native.Mathlib.Nat.{sub-zero, suc-sub-suc}
 use lib.Seq.{take-append-seam, drop-append-seam}
 use Rattle.scope.specs.Layout.{codesSize}
 use Rattle.scope.specs.Syntax.{Definition, Types, typesOf}
-use Rattle.scope.specs.Memory.{formCodes, rowsFrom, tableCodes}
+use Rattle.scope.specs.Memory.{formCodes, tableCodes}
 use Rattle.scope.specs.Judging.{accepted, judgeTypes}
-use Rattle.type_table.specs.View.{view, row, rowsOf, codesOf, bothCodes}
+use Rattle.type_table.specs.View.{view, row, rowsOf, plainFrom, codesOf, bothCodes}
 use Rattle.type_table.specs.Kept.{keptDefinition}
 use Rattle.type_table.proofs.AtMost.{SupersAtMost, first-few, later-few, accepted-few}
 use Rattle.type_table.proofs.AcceptedRows.{single-rows, table-codes}
@@ -77,7 +77,7 @@ module _ (ls ds : List Definition) (bound : ReachWithin (typesOf (ls ++ ds))) {n
   both-kept : (map keptDefinition ls ≡ ls) × (map keptDefinition ds ≡ ds)
   both-kept = split-at (map keptDefinition ls) ls (map keptDefinition ds) ds (length-map ls keptDefinition) (sym (map-append keptDefinition ls ds) ∙ kept-accepted (ls ++ ds) bound e)
 
-  pub two-table-rows : rowsOf codesSize (map keptDefinition ls) ++ rowsOf 0 (map keptDefinition ds) ≡ rowsFrom codesSize ls ++ rowsFrom 0 ds
+  pub two-table-rows : rowsOf codesSize (map keptDefinition ls) ++ rowsOf 0 (map keptDefinition ds) ≡ plainFrom codesSize ls ++ plainFrom 0 ds
   two-table-rows =
       let few = accepted-few (ls ++ ds) e in
       let left : SupersAtMost 1 ls = record { few = few-at ls ds few } in

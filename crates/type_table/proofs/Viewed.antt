@@ -14,9 +14,9 @@ use borrow.Author.Tests.{ne-eqb}
 use Rattle.scope.specs.Layout.{rowSpan}
 use Rattle.scope.specs.Lists.{asList}
 use Rattle.scope.specs.Syntax.{Form, struct, func, Definition, typesOf, blank, firstOf}
-use Rattle.scope.specs.Memory.{valCode, fieldCode, formCodes, formWords, flag, orZero, spareWords}
+use Rattle.scope.specs.Memory.{valCode, fieldCode, formCodes, formWords, flag, orZero}
 use Rattle.type_table.specs.RowWords.{structForm, funcForm}
-use Rattle.type_table.specs.View.{linkAt, codesAt, valAtCode, fieldAtCode, formAtWords, wordOf, view, furtherOf, row, rowsOf, codesOf}
+use Rattle.type_table.specs.View.{linkAt, codesAt, valAtCode, fieldAtCode, formAtWords, wordOf, view, furtherOf, row, rowsOf, codesOf, noRange}
 use Rattle.type_table.proofs.CodesBack.{val-code, field-code}
 use Rattle.type_table.proofs.Growing.{row-length}
 use Rattle.type_table.proofs.AtMost.{SupersAtMost, first-few, later-few, two-links}
@@ -68,7 +68,7 @@ pub row-view : (d : Definition) (rest pre post : List ℕ) (first : ℕ) → len
     → view (row first d ++ rest) (pre ++ (formCodes (d .form) ++ post)) 0 ≡ d
 unfolding row view
 row-view d rest pre post first h few =
-    let further = orZero (furtherOf (d .supers)) ∷ (spareWords ++ rest) in
+    let further = orZero (furtherOf (d .supers)) ∷ (noRange ++ rest) in
     let ws : List ℕ =
     flag (d .isOpen) ∷ orZero (firstOf (d .supers)) ∷ orZero (d .describes) ∷ orZero (d .descriptor) ∷ d .from ∷ d .to ∷ d .reach ∷ first ∷ further in
     let word = form-word (d .form) ws in

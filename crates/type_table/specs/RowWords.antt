@@ -47,6 +47,8 @@ firstWord = 10
 abbrev pub furtherWord : ℕ
 furtherWord = 11
 
+-- words 12 and 13 are the range, which type_span reads and stores
+
 abbrev pub structForm : ℕ
 structForm = 1
 

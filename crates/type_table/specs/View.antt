@@ -9,7 +9,7 @@ use lib.Dec.{eqb, ltb}
 use Rattle.scope.specs.Layout.{rowSpan, codesSize}
 use Rattle.scope.specs.Lists.{asList}
 use Rattle.scope.specs.Syntax.{Heap, abstract, defined, exact, Number, i32, i64, f32, f64, Val, num, ref, Field, Form, struct, func, Definition, Types, firstOf}
-use Rattle.scope.specs.Memory.{formCodes, formWords, flag, orZero, spareWords}
+use Rattle.scope.specs.Memory.{formCodes, formWords, flag, orZero, spareWords, rowWords}
 use Rattle.type_abstract.specs.Heaps.{abstractAt}
 use Rattle.type_table.specs.RowWords.{formWord, countWord, resultsWord, openWord, superWord, describesWord, descriptorWord, fromWord, toWord, reachWord, firstWord, furtherWord, funcForm}
 
@@ -69,7 +69,11 @@ view rows codes x =
       reach = wordOf rows x reachWord;
     }
 
--- the row of a definition whose codes start at `first`
+-- the row of a definition whose codes start at `first`, as it is read: it has no range yet
+
+-- the words after the supertypes'
+abbrev pub noRange : List ℕ
+noRange = 0 ∷ 0 ∷ spareWords
 
 abbrev pub furtherOf : List ℕ → Option ℕ
 furtherOf [] = none
@@ -87,12 +91,17 @@ row first d =
     ∷ d .reach
     ∷ first
     ∷ orZero (furtherOf (d .supers))
-    ∷ spareWords
+    ∷ noRange
 
 -- the rows of definitions whose codes start at `first`
 unfoldable pub rowsOf : ℕ → List Definition → List ℕ
 rowsOf first [] = []
 rowsOf first (d ∷ ds) = row first d ++ rowsOf (first + length (formCodes (d .form))) ds
+
+-- the same of accepted types, in scope's words
+unfoldable pub plainFrom : ℕ → List Definition → List ℕ
+plainFrom first [] = []
+plainFrom first (d ∷ ds) = rowWords first 0 0 d ++ plainFrom (first + length (formCodes (d .form))) ds
 
 unfoldable pub codesOf : List Definition → List ℕ
 codesOf [] = []
