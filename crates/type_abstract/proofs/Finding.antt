@@ -1,60 +1,59 @@
--- abstract_of and the definition look at the same rows from the first on: each turn moves both by one row.
-use Prim.Native.Nat.{ℕ, zero, suc, _+_, _<_, _≤_}
-use native.Mathlib.Nat.{le-of-suc-le-suc, not-suc-le-zero}
-use native.Mathlib.Numerals.{add-one}
+-- abstract_of and document 01's table: the codes count down as the numbers count up, so a code between the last and the first is that
+-- of the row as far from the first.
+use Prim.Native.Nat.{ℕ, _-_, _<_, _≤_}
 use native.Mathlib.Omega.{arith}
 use mathlib.Core.Path.{_≡_, refl, sym, ap, _∙_}
-use mathlib.Core.Bool.{Bool, true, false, cond}
-use mathlib.Core.Option.{some}
-use mathlib.Core.List.{List, [], _∷_}
-use lib.Dec.{eqb}
-use lib.ListN.{length, drop}
-use lib.Seq.{drop-cons}
-use borrow.Author.Tests.{eq-eqb, ne-eqb}
-use Rattle.scope.specs.Abstract.{ARRAY, row, ten, abstractOf, firstWith}
-use Rattle.type_abstract.specs.declared.HeapRow.{HeapRow}
+use mathlib.Core.Option.{none, some}
+use borrow.Author.Tests.{ne-eqb}
+use Rattle.scope.specs.Abstract.{Abstract, NOFUNC, NOEXTERN, NONE, FUNC, EXTERN, ANY, EQ, I31, STRUCT, ARRAY, abstractOf}
+use Rattle.scope.specs.Memory.{abstractCode}
 use Rattle.type_abstract.specs.declared.AbstractType.{AbstractType}
 use Rattle.type_abstract.specs.declared.AbstractType
-use Rattle.type_abstract.specs.Heaps.{abstractAt, coded, abstractIs}
+use Rattle.type_abstract.specs.Heaps.{abstractAt, abstractIs}
 use Rattle.type_abstract.proofs.Laws.{code-at}
 
--- before row k: the code is looked for among the rows from k on
-pub record Sought (code k : ℕ) : Type 0 where
-  pub inside : k ≤ 10
-  pub same : abstractOf code ≡ firstWith code (drop k ten)
+-- each type's code is as far below the first as its number says
+down-from-the-first : (a : Abstract) → abstractOf (115 - abstractCode a) ≡ some a
+down-from-the-first NOFUNC = refl
+down-from-the-first NOEXTERN = refl
+down-from-the-first NONE = refl
+down-from-the-first FUNC = refl
+down-from-the-first EXTERN = refl
+down-from-the-first ANY = refl
+down-from-the-first EQ = refl
+down-from-the-first I31 = refl
+down-from-the-first STRUCT = refl
+down-from-the-first ARRAY = refl
 
-pub sought-first : {code : ℕ} → Sought code 0
-sought-first = record { inside = omega arith; same = refl }
+pub code-found : {code : ℕ} → 106 ≤ code → code ≤ 115 → AbstractType.the-variants.Is (115 - code) ≡ abstractIs (abstractOf code)
+code-found {code} least most =
+    let k = 115 - code in
+    let number : abstractCode (abstractAt k) ≡ k = code-at k (omega arith) in
+    let there : 115 - abstractCode (abstractAt k) ≡ code = ap (λ (n : ℕ). 115 - n) number ∙ omega arith in
+    let found : abstractOf code ≡ some (abstractAt k) = ap abstractOf (sym there) ∙ down-from-the-first (abstractAt k) in
+    sym (ap abstractIs found ∙ ap AbstractType.the-variants.Is number)
 
--- the row k is looked at
-looked : {code k : ℕ} {h : HeapRow} (test : Bool) → Sought code k → k < 10 → h ≡ coded (row (abstractAt k)) → eqb code (h .code) ≡ test → abstractOf code ≡ cond test (some (abstractAt k)) (firstWith code (drop (suc k) ten))
-unfolding abstractAt coded
-looked {code} {k} test s small e t =
-    s .same
-    ∙ ap (firstWith code) (drop-cons ten k ARRAY small)
-    ∙ ap (λ (b : Bool). cond b (some (abstractAt k)) (firstWith code (drop (suc k) ten))) (sym (ap (λ (r : HeapRow). eqb code (r .code)) e) ∙ t)
+no-code : {code : ℕ} → (106 ≤ code → code ≤ 115 → ⊥) → abstractOf code ≡ none
+no-code {code} outside =
+    rw (
+      ne-eqb code 115 (λ e. outside (omega arith) (omega arith)),
+      ne-eqb code 114 (λ e. outside (omega arith) (omega arith)),
+      ne-eqb code 113 (λ e. outside (omega arith) (omega arith)),
+      ne-eqb code 112 (λ e. outside (omega arith) (omega arith)),
+      ne-eqb code 111 (λ e. outside (omega arith) (omega arith)),
+      ne-eqb code 110 (λ e. outside (omega arith) (omega arith)),
+      ne-eqb code 109 (λ e. outside (omega arith) (omega arith)),
+      ne-eqb code 108 (λ e. outside (omega arith) (omega arith)),
+      ne-eqb code 107 (λ e. outside (omega arith) (omega arith)),
+      ne-eqb code 106 (λ e. outside (omega arith) (omega arith)),
+    )
 
-pub sought-next : {code k : ℕ} {h : HeapRow} → Sought code k → k < 10 → h ≡ coded (row (abstractAt k)) → (h .code ≡ code → ⊥) → Sought code (k + 1)
-sought-next {code} {k} {h} s small e other =
-    record {
-      inside = omega arith;
-      same =
-          looked false s small e (ne-eqb code (h .code) (λ x. other (sym x)))
-          ∙ ap (λ (n : ℕ). firstWith code (drop n ten)) (sym (add-one k));
-    }
+pub code-below : {code : ℕ} → code < 106 → AbstractType.the-variants.NotOne ≡ abstractIs (abstractOf code)
+code-below {code} h =
+    let outside : 106 ≤ code → code ≤ 115 → ⊥ = λ least most. omega arith in sym (ap abstractIs (no-code outside))
 
-pub sought-found : {code k : ℕ} {h : HeapRow} → Sought code k → k < 10 → h ≡ coded (row (abstractAt k)) → h .code ≡ code → AbstractType.the-variants.Is k ≡ abstractIs (abstractOf code)
-sought-found {code} {k} {h} s small e this =
-    sym (ap abstractIs (looked true s small e (eq-eqb code (h .code) (sym this))) ∙ ap AbstractType.the-variants.Is (code-at k small))
+pub code-above : {code : ℕ} → 115 < code → AbstractType.the-variants.NotOne ≡ abstractIs (abstractOf code)
+code-above {code} h =
+    let outside : 106 ≤ code → code ≤ 115 → ⊥ = λ least most. omega arith in sym (ap abstractIs (no-code outside))
 
--- past the last row there is none
-none-left : {A : Type 0} (l : List A) (k : ℕ) → length l ≤ k → drop k l ≡ []
-none-left [] zero h = refl
-none-left [] (suc k) h = refl
-none-left (x ∷ l) zero h = absurd (not-suc-le-zero h)
-none-left (x ∷ l) (suc k) h = none-left l k (le-of-suc-le-suc h)
-
-pub sought-missing : {code k : ℕ} → Sought code k → 10 ≤ k → AbstractType.the-variants.NotOne ≡ abstractIs (abstractOf code)
-sought-missing {code} {k} s all = sym (ap abstractIs (s .same ∙ ap (firstWith code) (none-left ten k all)))
-
-pub ruleset finding = (sought-first, sought-next, sought-found, sought-missing)
+pub ruleset finding = (code-found, code-below, code-above)

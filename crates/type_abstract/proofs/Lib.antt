@@ -1,4 +1,4 @@
 pub mod Table
 pub mod Laws
 pub mod Finding
-pub mod Walking
+pub mod Columns

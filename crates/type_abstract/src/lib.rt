@@ -1,11 +1,11 @@
-// The ten abstract heap types, as a constant table, and the questions that are asked of it. In code an abstract heap type
-// is its number, which is its row's number in the table; a number of 10 or more is read as the last row's, so that every
+// The ten abstract heap types, as constant tables, and the questions that are asked of them. In code an abstract heap type
+// is its number, which is its row's number in the tables; a number of 10 or more is read as the last row's, so that every
 // function is total. specs/Heaps.antt says what each answer is.
 ghost use mathlib.Core.Path.{_≡_};
 ghost use Rattle.scope.specs.Abstract.{row, abstractOf};
 ghost use Rattle.scope.specs.Memory.{abstractCode};
 ghost use Rattle.scope.specs.Order.{abstractBelow};
-ghost use Rattle.type_abstract.specs.Heaps.{abstractAt, RowNumber, coded, abstractIs, upFrom};
+ghost use Rattle.type_abstract.specs.Heaps.{abstractAt, RowNumber, coded, abstractIs};
 
 // The number of each abstract heap type.
 pub const NOFUNC: u8 = 0;
@@ -28,112 +28,185 @@ pub const STRUCT: u8 = 8;
 
 pub const ARRAY: u8 = 9;
 
-// How many there are; a row has this number where there are no more types directly above.
+// How many there are.
 const TEN: u64 = 10;
 
-const NO_MORE: u8 = 10;
+// The codes count down from the first type's to the last one's.
+const FIRST_CODE: u64 = 0x73;
 
-// A row: the code, the top and the bottom of its hierarchy, and the types directly above, of which there are at most three.
+const LAST_CODE: u64 = 0x6A;
+
+// A row: the top and the bottom of its hierarchy.
 pub struct HeapRow {
-    pub code: u8,
     pub top: u8,
     pub bottom: u8,
-    pub above1: u8,
-    pub above2: u8,
-    pub above3: u8,
 }
 
 pub const HEAPS: [HeapRow; 10] = [
     // nofunc
     HeapRow {
-        code: 0x73,
         top: FUNC,
         bottom: NOFUNC,
-        above1: FUNC,
-        above2: NO_MORE,
-        above3: NO_MORE,
     },
     // noextern
     HeapRow {
-        code: 0x72,
         top: EXTERN,
         bottom: NOEXTERN,
-        above1: EXTERN,
-        above2: NO_MORE,
-        above3: NO_MORE,
     },
     // none
     HeapRow {
-        code: 0x71,
         top: ANY,
         bottom: NONE,
-        above1: I31,
-        above2: STRUCT,
-        above3: ARRAY,
     },
     // func
     HeapRow {
-        code: 0x70,
         top: FUNC,
         bottom: NOFUNC,
-        above1: NO_MORE,
-        above2: NO_MORE,
-        above3: NO_MORE,
     },
     // extern
     HeapRow {
-        code: 0x6F,
         top: EXTERN,
         bottom: NOEXTERN,
-        above1: NO_MORE,
-        above2: NO_MORE,
-        above3: NO_MORE,
     },
     // any
     HeapRow {
-        code: 0x6E,
         top: ANY,
         bottom: NONE,
-        above1: NO_MORE,
-        above2: NO_MORE,
-        above3: NO_MORE,
     },
     // eq
     HeapRow {
-        code: 0x6D,
         top: ANY,
         bottom: NONE,
-        above1: ANY,
-        above2: NO_MORE,
-        above3: NO_MORE,
     },
     // i31
     HeapRow {
-        code: 0x6C,
         top: ANY,
         bottom: NONE,
-        above1: EQ,
-        above2: NO_MORE,
-        above3: NO_MORE,
     },
     // struct
     HeapRow {
-        code: 0x6B,
         top: ANY,
         bottom: NONE,
-        above1: EQ,
-        above2: NO_MORE,
-        above3: NO_MORE,
     },
     // array
     HeapRow {
-        code: 0x6A,
         top: ANY,
         bottom: NONE,
-        above1: EQ,
-        above2: NO_MORE,
-        above3: NO_MORE,
     },
+];
+
+// Whether one abstract type is another or below it: ten for each, in the order of the numbers.
+pub const BELOW: [bool; 100] = [
+    // nofunc
+    true,
+    false,
+    false,
+    true,
+    false,
+    false,
+    false,
+    false,
+    false,
+    false,
+    // noextern
+    false,
+    true,
+    false,
+    false,
+    true,
+    false,
+    false,
+    false,
+    false,
+    false,
+    // none
+    false,
+    false,
+    true,
+    false,
+    false,
+    true,
+    true,
+    true,
+    true,
+    true,
+    // func
+    false,
+    false,
+    false,
+    true,
+    false,
+    false,
+    false,
+    false,
+    false,
+    false,
+    // extern
+    false,
+    false,
+    false,
+    false,
+    true,
+    false,
+    false,
+    false,
+    false,
+    false,
+    // any
+    false,
+    false,
+    false,
+    false,
+    false,
+    true,
+    false,
+    false,
+    false,
+    false,
+    // eq
+    false,
+    false,
+    false,
+    false,
+    false,
+    true,
+    true,
+    false,
+    false,
+    false,
+    // i31
+    false,
+    false,
+    false,
+    false,
+    false,
+    true,
+    true,
+    true,
+    false,
+    false,
+    // struct
+    false,
+    false,
+    false,
+    false,
+    false,
+    true,
+    true,
+    false,
+    true,
+    false,
+    // array
+    false,
+    false,
+    false,
+    false,
+    false,
+    true,
+    true,
+    false,
+    false,
+    true,
 ];
 
 // What a code names.
@@ -161,15 +234,13 @@ fn heap_row(a: u64) -> HeapRow
 pub fn abstract_of(code: u64) -> AbstractType
     ensures { λ r. ⌜ r ≡ abstractIs (abstractOf code) ⌝ }
 {
-    let mut k: u64 = 0;
-    while k < TEN {
-        let h = heap_row(k);
-        if h.code as u64 == code {
-            return AbstractType::Is(k);
-        }
-        k += 1;
+    if code < LAST_CODE {
+        return AbstractType::NotOne;
     }
-    AbstractType::NotOne
+    if FIRST_CODE < code {
+        return AbstractType::NotOne;
+    }
+    AbstractType::Is(FIRST_CODE - code)
 }
 
 // The top of its hierarchy.
@@ -188,35 +259,12 @@ pub fn bottom_of(a: u64) -> u64
     h.bottom as u64
 }
 
-// From a up the table to b, at most so many steps. From a number of 10 or more there is no way.
-fn up_from(steps: u64, a: u64, b: u64) -> bool
-    ensures { λ r. ⌜ r ≡ upFrom steps a b ⌝ }
-{
-    if a >= TEN {
-        return false;
-    }
-    let here = heap_row(a);
-    let there = heap_row(b);
-    if here.code == there.code {
-        return true;
-    }
-    if steps == 0 {
-        return false;
-    }
-    let left = steps - 1;
-    if up_from(left, here.above1 as u64, b) {
-        return true;
-    }
-    if up_from(left, here.above2 as u64, b) {
-        return true;
-    }
-    up_from(left, here.above3 as u64, b)
-}
-
-// Whether a is b or below it. Three steps lead from none to any.
+// Whether a is b or below it.
 pub fn abstract_below(a: u64, b: u64) -> bool
     ensures { λ r. ⌜ r ≡ abstractBelow (abstractAt a) (abstractAt b) ⌝ }
 {
-    let k = row_number(a);
-    up_from(3, k, b)
+    let lower = row_number(a);
+    let upper = row_number(b);
+    let k = (TEN * lower + upper) as usize;
+    BELOW[k]
 }
