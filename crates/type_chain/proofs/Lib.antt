@@ -1,1 +1,2 @@
 pub mod Supers
+pub mod Depths

@@ -1,9 +1,11 @@
 -- The loops over codes and the list of names walk the same codes: the first code's names stand before the others'.
 use Prim.Native.Nat.{ℕ, _+_, _-_, _≤_, _<_, _^_}
 use mathlib.Core.Path.{_≡_, refl, sym, ap, _∙_}
-use mathlib.Core.Bool.{Bool, true, false, not, _&&_}
+use mathlib.Core.Bool.{Bool, true, false, _&&_}
 use mathlib.Core.List.{List, [], _++_, map}
 use native.Mathlib.Omega.{arith}
+use borrow.Author.Tests.{lt-ltb, le-ltb}
+use lib.Dec.{ltb}
 use mir.Syntax.{w32, w64}
 use mir.Val.{Fits}
 use Rattle.scope.specs.Layout.{codesSize}
@@ -14,8 +16,8 @@ use Rattle.lent_u16.specs.Words.{WordAt}
 use Rattle.type_table.specs.View.{valAtCode, fieldAtCode, bothCodes}
 use Rattle.type_table.proofs.Laws.{no-codes, first-code}
 use Rattle.type_table.proofs.Sides.{own-codes, shared-codes}
-use Rattle.type_reach.specs.Names.{allBelow, codeNames, codesNames}
-use Rattle.type_reach.proofs.Naming.{below-none, below-append, part-out, part-in}
+use Rattle.type_reach.specs.Names.{allBelow, codeNames, codesNames, Limit}
+use Rattle.type_reach.proofs.Naming.{below-none, below-append}
 
 no-names : (fields : Bool) (codes : List ℕ) (at left : ℕ) → left ≤ 0 → codesNames fields codes at left ≡ []
 unfolding codesNames
@@ -43,19 +45,19 @@ module _ {fields : Bool} {codes : List ℕ} {i n reach at left : ℕ} (w : Walk 
   pub next-fits : Fits w64 (at + 1)
   next-fits = let h : at + left < 2 ^ 33 = w .near in record { fits = omega arith }
 
-  module _ (h : 0 < left) {c : ℕ} (p : WordAt codes at c) {r : Bool} (e : r ≡ allBelow reach (codeNames fields c)) where
-    whole : allBelow reach (codesNames fields codes i n) ≡ (r && allBelow reach (codesNames fields codes (at + 1) (left - 1)))
-    whole =
+  module _ (h : 0 < left) {c : ℕ} (p : WordAt codes at c) {limit : ℕ} (l : Limit fields reach limit) where
+    whole : {r : Bool} → ltb c limit ≡ r → allBelow reach (codesNames fields codes i n) ≡ (r && allBelow reach (codesNames fields codes (at + 1) (left - 1)))
+    whole e =
         w .same
         ∙ ap (allBelow reach) (first-names fields codes at left h p)
         ∙ below-append reach (codeNames fields c) _
-        ∙ ap (λ (t : Bool). t && allBelow reach (codesNames fields codes (at + 1) (left - 1))) (sym e)
+        ∙ ap (λ (t : Bool). t && allBelow reach (codesNames fields codes (at + 1) (left - 1))) (l .is c (p .small) ∙ e)
 
-    pub walk-stopped : not r ≡ true → false ≡ allBelow reach (codesNames fields codes i n)
-    walk-stopped t = part-out r _ t ∙ sym whole
+    pub walk-stopped : limit ≤ c → false ≡ allBelow reach (codesNames fields codes i n)
+    walk-stopped out = sym (whole (le-ltb c limit out))
 
-    pub walk-turn : not r ≡ false → Walk fields codes i n reach (at + 1) (left - 1)
-    walk-turn t = let c : at + left < 2 ^ 33 = w .near in record { same = whole ∙ sym (part-in r _ t); near = omega arith }
+    pub walk-turn : c < limit → Walk fields codes i n reach (at + 1) (left - 1)
+    walk-turn in-reach = let near : at + left < 2 ^ 33 = w .near in record { same = whole (lt-ltb c limit in-reach); near = omega arith }
 
 pub ruleset walk-exits = (walk-first, walk-done, next-fits, walk-stopped, walk-turn)
 

@@ -1,10 +1,12 @@
 -- The numbers that a definition names, as the code comes to them: by links, by codes, and by lists of codes.
-use Prim.Native.Nat.{ℕ}
+use Prim.Native.Nat.{ℕ, _<_}
+use mathlib.Core.Path.{_≡_}
 use mathlib.Core.Bool.{Bool, true, false}
 use mathlib.Core.List.{List, map}
 use lib.Dec.{ltb}
 use Rattle.scope.specs.Lists.{every, joined, asList}
 use Rattle.scope.specs.TypeRules.{valNames, fieldNames}
+use Rattle.lent_u16.specs.Words.{wordLimit}
 use Rattle.type_table.specs.View.{valAtCode, fieldAtCode, codesAt}
 use Rattle.type_table.specs.declared.Link.{Link}
 use Rattle.type_table.specs.Answers.{linkOption}
@@ -26,3 +28,7 @@ codeNames false c = valNames (valAtCode c)
 unfoldable pub codesNames : Bool → List ℕ → ℕ → ℕ → List ℕ
 codesNames true codes i n = joined (map fieldNames (codesAt fieldAtCode codes i n))
 codesNames false codes i n = joined (map valNames (codesAt valAtCode codes i n))
+
+-- the first word that is the code of a type out of reach
+pub record Limit (fields : Bool) (reach limit : ℕ) : Type 0 where
+  pub is : (c : ℕ) → c < wordLimit → allBelow reach (codeNames fields c) ≡ ltb c limit

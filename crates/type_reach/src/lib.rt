@@ -10,7 +10,7 @@ ghost use mathlib.Core.Bool.{_&&_};
 ghost use Rattle.scope.specs.Lists.{asList};
 ghost use Rattle.scope.specs.TypeRules.{heapNames, valNames, formNames, inReach};
 ghost use Rattle.type_table.specs.View.{heapAtCode, valAtCode, view, bothCodes};
-ghost use Rattle.type_reach.specs.Names.{allBelow, linkBelow, codeNames, codesNames};
+ghost use Rattle.type_reach.specs.Names.{allBelow, linkBelow, codesNames, Limit};
 
 // The place of the library's first code.
 const SHARED: u32 = type_table::SHARED as u32;
@@ -37,26 +37,34 @@ pub fn val_in_reach(c: u64, reach: u64) -> bool
     }
 }
 
-// A field's code, or a value type's.
-fn code_in_reach(fields: bool, c: u64, reach: u64) -> bool
-    ensures { λ r. ⌜ r ≡ allBelow reach (codeNames fields c) ⌝ }
+// From this reach on every word is the code of a type in reach.
+const ALL_REACHED: u64 = 16384;
+
+// More than any word.
+const NO_LIMIT: u64 = 65536;
+
+// The first code of a field, or of a value type, that names a type out of reach: codes rise with the number that they name, after
+// those that name none.
+fn limit_of(fields: bool, reach: u64) -> u64
+    ensures { λ r. ⌜ Limit fields reach r ⌝ }
 {
-    if fields {
-        val_in_reach(c / 2, reach)
-    } else {
-        val_in_reach(c, reach)
+    if ALL_REACHED <= reach {
+        return NO_LIMIT;
     }
+    let limit = 24 + 4 * reach;
+    if fields { 2 * limit } else { limit }
 }
 
 // The n codes from i on of one section's.
 fn list_in_reach(codes: &[u16], fields: bool, i: u32, n: u32, reach: u64) -> bool
     ensures { λ r. ⌜ r ≡ allBelow reach (codesNames fields (now (codes .entry)) i n) ⌝ }
 {
+    let limit = limit_of(fields, reach);
     let mut at = i as u64;
     let mut left = n as u64;
     while 0 < left {
         let c = lent_u16::word(codes, at);
-        if !code_in_reach(fields, c, reach) {
+        if limit <= c {
             return false;
         }
         at = at + 1;
@@ -69,11 +77,12 @@ fn list_in_reach(codes: &[u16], fields: bool, i: u32, n: u32, reach: u64) -> boo
 fn any_in_reach(shared: &[u16], codes: &[u16], fields: bool, i: u32, n: u32, reach: u64) -> bool
     ensures { λ r. ⌜ r ≡ allBelow reach (codesNames fields (bothCodes (now (shared .entry)) (now (codes .entry))) i n) ⌝ }
 {
+    let limit = limit_of(fields, reach);
     let mut at = i as u64;
     let mut left = n as u64;
     while 0 < left {
         let c = type_table::code_word(shared, codes, at);
-        if !code_in_reach(fields, c, reach) {
+        if limit <= c {
             return false;
         }
         at = at + 1;

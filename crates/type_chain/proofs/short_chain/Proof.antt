@@ -1,71 +1,17 @@
--- `type_chain::short_chain` meets its contract: each turn goes one supertype up, as the rule does, with one step less.
+-- `type_chain::short_chain` meets its contract.
 use borrow.Author.Needs.{needs}
-use Rattle.type_table.specs.View.{view, bothCodes}
-use Rattle.type_chain.proofs.Supers.{Climb, climb-exits}
+use Rattle.type_chain.proofs.Depths.{shallow-exits}
 use Rattle.type_chain.proofs.short_chain.Statement.{statement}
 use Rattle.type_chain.proofs.short_chain.Tie as tie
 
-abbrev Inv-loop : tie.InvT-loop
-Inv-loop rows shared codes x at₀ left₀ at left = Climb (view rows (bothCodes shared codes)) x at left
+end-of-requires : tie.Need-end-of-requires
+end-of-requires c κs = search needs
 
-abbrev μ-loop : tie.MeasureT-loop
-μ-loop rows shared codes x at₀ left₀ at left = left
+returns : tie.Need-returns
+returns c = search (shallow-exits, needs)
 
-loop-holds : tie.Need-loop-holds Inv-loop μ-loop
-loop-holds c = search (climb-exits, needs)
-
-super-of-requires : tie.Need-super-of-requires Inv-loop μ-loop
-super-of-requires c κs = search (climb-exits, needs)
-
-enum-known-above : tie.Need-enum-known-above Inv-loop μ-loop
-enum-known-above c = search (climb-exits, needs)
-
-enum-told : tie.Need-enum-told Inv-loop μ-loop
-enum-told c = search (climb-exits, needs)
-
-returns : tie.Need-returns Inv-loop μ-loop
-returns c = search (climb-exits, needs)
-
-sub-left : tie.Need-sub-left Inv-loop μ-loop
-sub-left c = search (climb-exits, needs)
-
-loop-less : tie.Need-loop-less Inv-loop μ-loop
-loop-less c = search (climb-exits, needs)
-
-loop-again : tie.Need-loop-again Inv-loop μ-loop
-loop-again c = search (climb-exits, needs)
-
-super-of-requires-2 : tie.Need-super-of-requires-2 Inv-loop μ-loop
-super-of-requires-2 c κs = search (climb-exits, needs)
-
-enum-told-2 : tie.Need-enum-told-2 Inv-loop μ-loop
-enum-told-2 c = search (climb-exits, needs)
-
-enum-told-3 : tie.Need-enum-told-3 Inv-loop μ-loop
-enum-told-3 c = search (climb-exits, needs)
-
-returns-2 : tie.Need-returns-2 Inv-loop μ-loop
-returns-2 c = search (climb-exits, needs)
-
-returns-3 : tie.Need-returns-3 Inv-loop μ-loop
-returns-3 c = search (climb-exits, needs)
+returns-2 : tie.Need-returns-2
+returns-2 c = search (shallow-exits, needs)
 
 pub short-chain-spec : {M : Type 1} → statement M
-short-chain-spec =
-    tie.close
-    (tie.spec
-    Inv-loop
-    μ-loop
-    loop-holds
-    super-of-requires
-    enum-known-above
-    enum-told
-    returns
-    sub-left
-    loop-less
-    loop-again
-    super-of-requires-2
-    enum-told-2
-    enum-told-3
-    returns-2
-    returns-3)
+short-chain-spec = tie.close (tie.spec end-of-requires returns returns-2)

@@ -6,19 +6,19 @@ use Rattle.type_reach.proofs.any_in_reach.Tie as tie
 use Rattle.type_table.specs.View.{bothCodes}
 
 abbrev Inv-loop : tie.InvT-loop
-Inv-loop shared codes fields i n reach at₀ left₀ at left = Walk fields (bothCodes shared codes) i n reach at left
+Inv-loop shared codes fields i n reach limit at₀ left₀ at left = Walk fields (bothCodes shared codes) i n reach at left
 
 abbrev μ-loop : tie.MeasureT-loop
-μ-loop shared codes fields i n reach at₀ left₀ at left = left
+μ-loop shared codes fields i n reach limit at₀ left₀ at left = left
+
+limit-of-requires : tie.Need-limit-of-requires Inv-loop μ-loop
+limit-of-requires c κs = search needs
 
 loop-holds : tie.Need-loop-holds Inv-loop μ-loop
 loop-holds c = search (walk-exits, needs)
 
 code-word-requires : tie.Need-code-word-requires Inv-loop μ-loop
 code-word-requires c κs = search (walk-exits, needs)
-
-code-in-reach-requires : tie.Need-code-in-reach-requires Inv-loop μ-loop
-code-in-reach-requires c κs = search (walk-exits, needs)
 
 returns : tie.Need-returns Inv-loop μ-loop
 returns c = search (walk-exits, needs)
@@ -44,9 +44,9 @@ any-in-reach-spec =
     (tie.spec
     Inv-loop
     μ-loop
+    limit-of-requires
     loop-holds
     code-word-requires
-    code-in-reach-requires
     returns
     add-at
     sub-left

@@ -5,19 +5,19 @@ use Rattle.type_reach.proofs.list_in_reach.Statement.{statement}
 use Rattle.type_reach.proofs.list_in_reach.Tie as tie
 
 abbrev Inv-loop : tie.InvT-loop
-Inv-loop codes fields i n reach at₀ left₀ at left = Walk fields codes i n reach at left
+Inv-loop codes fields i n reach limit at₀ left₀ at left = Walk fields codes i n reach at left
 
 abbrev μ-loop : tie.MeasureT-loop
-μ-loop codes fields i n reach at₀ left₀ at left = left
+μ-loop codes fields i n reach limit at₀ left₀ at left = left
+
+limit-of-requires : tie.Need-limit-of-requires Inv-loop μ-loop
+limit-of-requires c κs = search needs
 
 loop-holds : tie.Need-loop-holds Inv-loop μ-loop
 loop-holds c = search (walk-exits, needs)
 
 word-requires : tie.Need-word-requires Inv-loop μ-loop
 word-requires c κs = search (walk-exits, needs)
-
-code-in-reach-requires : tie.Need-code-in-reach-requires Inv-loop μ-loop
-code-in-reach-requires c κs = search (walk-exits, needs)
 
 returns : tie.Need-returns Inv-loop μ-loop
 returns c = search (walk-exits, needs)
@@ -43,9 +43,9 @@ list-in-reach-spec =
     (tie.spec
     Inv-loop
     μ-loop
+    limit-of-requires
     loop-holds
     word-requires
-    code-in-reach-requires
     returns
     add-at
     sub-left
