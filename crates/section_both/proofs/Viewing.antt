@@ -11,7 +11,7 @@ use Rattle.scope.specs.Layout.{codesSize}
 use Rattle.scope.specs.Reading.{got}
 use Rattle.scope.specs.Lists.{joined}
 use Rattle.scope.specs.Syntax.{Definition, Group, typesOf}
-use Rattle.scope.specs.Memory.{filled, tableCodes, joinedRows, joinedShared, joinedCodes}
+use Rattle.scope.specs.Memory.{filled, tableCodes, startsOf, endsOf, rowsFrom, joinedRows, joinedShared, joinedCodes}
 use Rattle.scope.specs.Sections.{readAfter}
 use Rattle.scope.specs.Judging.{Judged, accepted, rejected, judgeTypes, Joined, judgeJoined}
 use Rattle.scope.specs.declared.Place.{Place}
@@ -24,6 +24,7 @@ use Rattle.type_table.proofs.AtMost.{SupersAtMost, accepted-few}
 use Rattle.type_table.proofs.AcceptedRows.{single-rows, table-codes}
 use Rattle.type_table.proofs.KeptVerdict.{ReachWithin}
 use Rattle.type_table.proofs.TwoSections.{two-sections, two-table-codes, few-at, few-own}
+use Rattle.type_ranges.proofs.Table.{ranged-view}
 use Rattle.section_group.specs.Lent.{keptAll}
 use Rattle.section_reader.proofs.Modest.{read-fits, read-lengths, each-reach, each-append}
 use Rattle.section_both.specs.declared.TwoJudged.{TwoJudged}
@@ -63,13 +64,17 @@ module _ (library addon : List ℕ) {rows shared codes rows′ shared′ codes�
       let left : SupersAtMost 1 ls = record { few = few-at ls ds few } in
       let l = take-append-seam ls ds in
       let d = drop-append-seam ls ds in
-      let words = ap₂ _++_ (single-rows codesSize ls left) (single-rows 0 ds (few-own ls ds few)) in
-      let z : ℕ = length rows - length (rowsOf codesSize ls ++ rowsOf 0 ds) in
-      let r : rows′ ≡ rowsOf codesSize ls ++ (rowsOf 0 ds ++ replicate z 0) =
-      (rw (l, d, ← words) at (stands .rowsIs)) ∙ append-assoc (rowsOf codesSize ls) (rowsOf 0 ds) (replicate z 0) in
+      let start : ℕ → ℕ = startsOf (ls ++ ds) in
+      let end : ℕ → ℕ = endsOf (ls ++ ds) in
+      let z : ℕ = length rows - length (rowsFrom start end 0 codesSize ls ++ rowsFrom start end (length ls) 0 ds) in
+      let r : rows′ ≡ rowsFrom start end 0 codesSize ls ++ (rowsFrom start end (length ls) 0 ds ++ replicate z 0) =
+      (rw (l, d) at (stands .rowsIs)) ∙ append-assoc (rowsFrom start end 0 codesSize ls) (rowsFrom start end (length ls) 0 ds) (replicate z 0) in
       let s : shared′ ≡ codesOf ls ++ drop (length (codesOf ls)) shared = (rw (l, ← lib) at (stands .sharedPut)) .is ∙ simp zero-add in
       let c : codes′ ≡ codesOf ds ++ drop (length (codesOf ds)) codes = (rw (d, ← mine) at (stands .codesPut)) .is ∙ simp zero-add in
-      rw (r, s, c) (two-sections ls ds z (drop (length (codesOf ds)) codes) (drop (length (codesOf ls)) shared) short (two-few few))
+      let both : List ℕ = bothCodes (codesOf ls ++ drop (length (codesOf ls)) shared) (codesOf ds ++ drop (length (codesOf ds)) codes) in
+      let plain : view (rowsFrom start end 0 codesSize ls ++ (rowsFrom start end (length ls) 0 ds ++ replicate z 0)) both ≡ view (rowsOf codesSize ls ++ (rowsOf 0 ds ++ replicate z 0)) both =
+      ranged-view ls ds z start end both ∙ sym (ap₂ (λ (a b : List ℕ). view (a ++ (b ++ replicate z 0)) both) (single-rows codesSize ls left) (single-rows 0 ds (few-own ls ds few))) in
+      rw (r, s, c) (plain ∙ two-sections ls ds z (drop (length (codesOf ds)) codes) (drop (length (codesOf ls)) shared) short (two-few few))
 
   pub viewed : {j : Joined} → judgeJoined library addon ≡ accepted j → Stands rows shared codes rows′ shared′ codes′ j → view rows′ (bothCodes shared′ codes′) ≡ typesOf (j .types)
   viewed e stands =

@@ -1,27 +1,27 @@
 // The library first, then the add-on: each is read after what stands in the table, and its own types are judged with those before.
+// Both times all types that stand in the table get their ranges: a type of the add-on may be below one of the library's.
 use scope::Place;
 use scope::Verdict;
 use section_reader::SectionRead;
 ghost use mathlib.Core.Path.{_≡_};
 ghost use Rattle.scope.specs.Layout.{codesSize};
 ghost use Rattle.scope.specs.Judging.{inLibrary, inAddon};
-ghost use Rattle.type_table.specs.View.{view, bothCodes};
-ghost use Rattle.section_reader.specs.Whole.{Enough};
-ghost use Rattle.section_both.specs.Both.{AfterJudged, Ready, twoOf, BothJudged};
+ghost use Rattle.type_table.specs.View.{bothCodes};
+ghost use Rattle.section_both.specs.Both.{AfterJudged, Ready, Opened, twoOf, BothJudged};
 
 // The library: its rows are the first, its codes lie in the shared buffer.
 fn judge_library(library: &[u8], rows: &mut [u16], shared: &mut [u16], codes: &[u16]) -> Verdict
-    requires { ⌜ Enough (now rows) (now shared) 0 codesSize ⌝ }
+    requires { ⌜ Ready (now rows) (now shared) (now codes) ⌝ }
     ensures { λ r.
-        let types = view (now (rows .exit)) (bothCodes (now (shared .exit)) (now (codes .entry))) in
-        ⌜ AfterJudged inLibrary (now (library .entry)) 0 codesSize (now (rows .entry)) (now (rows .exit)) (now (shared .entry)) (now (shared .exit)) types r ⌝ }
+        let both = bothCodes (now (shared .exit)) (now (codes .entry)) in
+        ⌜ AfterJudged inLibrary (now (library .entry)) 0 codesSize (now (rows .entry)) (now (rows .exit)) (now (shared .entry)) (now (shared .exit)) both r ⌝ }
 {
     let read = section_reader::read_section(library, 0, type_table::SHARED, rows, shared);
     match read {
         SectionRead::Refused(number, place) => {
             Verdict::Refused(number, Place::Library(place as u64))
         }
-        SectionRead::Got(count) => section_judge::judge_types(rows, shared, codes, 0, count),
+        SectionRead::Got(count) => section_decide::decide(rows, shared, codes, 0, count),
     }
 }
 
@@ -33,15 +33,15 @@ fn judge_addon(
     shared: &[u16],
     codes: &mut [u16],
 ) -> Verdict
-    requires { ⌜ Enough (now rows) (now codes) before 0 ⌝ }
+    requires { ⌜ Opened before (now rows) (now shared) (now codes) ⌝ }
     ensures { λ r.
-        let types = view (now (rows .exit)) (bothCodes (now (shared .entry)) (now (codes .exit))) in
-        ⌜ AfterJudged inAddon (now (section .entry)) before 0 (now (rows .entry)) (now (rows .exit)) (now (codes .entry)) (now (codes .exit)) types r ⌝ }
+        let both = bothCodes (now (shared .entry)) (now (codes .exit)) in
+        ⌜ AfterJudged inAddon (now (section .entry)) before 0 (now (rows .entry)) (now (rows .exit)) (now (codes .entry)) (now (codes .exit)) both r ⌝ }
 {
     let read = section_reader::read_section(section, before, 0, rows, codes);
     match read {
         SectionRead::Refused(number, place) => Verdict::Refused(number, Place::Addon(place as u64)),
-        SectionRead::Got(count) => section_judge::judge_types(rows, shared, codes, before, count),
+        SectionRead::Got(count) => section_decide::decide(rows, shared, codes, before, count),
     }
 }
 

@@ -7,10 +7,10 @@ use Rattle.scope.specs.Layout.{rowSpan, codesSize}
 use Rattle.scope.specs.Reading.{Read, got, refused}
 use Rattle.scope.specs.Syntax.{Form, Definition}
 use Rattle.scope.specs.Sections.{formAt, definitionAt}
-use Rattle.scope.specs.Memory.{formCodes, formWords, spareWords}
+use Rattle.scope.specs.Memory.{formCodes, formWords}
 use Rattle.lent_u16.specs.Words.{wordLimit}
 use Rattle.type_table.specs.Kept.{keptForm, keptDefinition}
-use Rattle.type_table.specs.View.{row}
+use Rattle.type_table.specs.View.{row, noRange}
 use Rattle.type_table.proofs.Puts.{Puts}
 use Rattle.section_forms.specs.Reads.{Room}
 use Rattle.section_definition.specs.declared.DefinitionRead.{DefinitionRead}
@@ -23,12 +23,12 @@ low n = n % wordLimit
 -- the words of a row
 abbrev pub rowLow : ℕ → ℕ → ℕ → ℕ → ℕ → ℕ → ℕ → ℕ → ℕ → ℕ → ℕ → ℕ → List ℕ
 rowLow kind n results opens first described describing from to reach used further =
-    map low (kind ∷ n ∷ results ∷ opens ∷ first ∷ described ∷ describing ∷ from ∷ to ∷ reach ∷ used ∷ further ∷ spareWords)
+    map low (kind ∷ n ∷ results ∷ opens ∷ first ∷ described ∷ describing ∷ from ∷ to ∷ reach ∷ used ∷ further ∷ noRange)
 
 -- the row of a form that ends at a place, by what was read before it
 unfoldable pub rowOf : ℕ → ℕ → ℕ → ℕ → ℕ → ℕ → ℕ → ℕ → Form → ℕ → List ℕ
 rowOf opens first described describing from reach used further f to =
-    map low (formWords f ++ opens ∷ first ∷ described ∷ describing ∷ from ∷ to ∷ reach ∷ used ∷ further ∷ spareWords)
+    map low (formWords f ++ opens ∷ first ∷ described ∷ describing ∷ from ∷ to ∷ reach ∷ used ∷ further ∷ noRange)
 
 -- There is room for the row, and for codes in the lent part after those that fill it so far. `used` is the place of its first code
 -- among both sections' codes: the add-on's places if the section is the library, and one for each byte of the section before.

@@ -20,7 +20,7 @@ fn put_four(m: &mut [u16], at: u64, a: u64, b: u64, c: u64, d: u64)
     lent_u16::put(m, at + 3, d);
 }
 
-// The words of a row, in the order of type_table's RowWords.antt; the last four are spare.
+// The words of a row, in the order of type_table's RowWords.antt; the range comes later, and the last two are spare.
 fn put_row(
     m: &mut [u16],
     at: u64,

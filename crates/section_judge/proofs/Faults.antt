@@ -3,15 +3,19 @@ use Prim.Native.Nat.{ℕ}
 use mathlib.Core.Path.{_≡_, refl, sym, _∙_}
 use mathlib.Core.Bool.{Bool, true, false, not, cond}
 use mathlib.Core.Option.{Option, none, some}
+use mathlib.Core.List.{List}
 use borrow.Author.Tests.{not-true, not-false}
 use Rattle.scope.specs.Sizes.{mostSteps}
 use Rattle.scope.specs.Refusals.{oversize, outOfReach, badSupertype, noMatch, clauseNotOnStruct, describesNotEarlier, clausesDisagree, badDescriptor, badDescribes}
 use Rattle.scope.specs.Syntax.{Types}
 use Rattle.scope.specs.TypeRules.{inReach, superEarlierAndOpen, shortChain, matchesSuper, clausesOnStruct, describesEarlier, clausesAgree, descriptorFollows, describesFollows}
 use Rattle.scope.specs.Judging.{linksFault, ruleFault}
+use Rattle.type_table.specs.View.{view}
+use Rattle.type_chain.specs.Depths.{shallow}
 use Rattle.section_judge.specs.declared.Fault.{Fault}
 use Rattle.section_judge.specs.declared.Fault
 use Rattle.section_judge.specs.Verdict.{faultIs, clausesFault, followFault, faultOf}
+use Rattle.section_judge.specs.Ready.{Chained}
 
 -- one rule before the others: broken, it gives its number; kept, the others decide
 
@@ -24,7 +28,10 @@ module _ (kept : Bool) (number : ℕ) (later : Option ℕ) {r : Bool} (e : r ≡
 
 -- 6, 7 and the chain
 
-module _ (ts : Types) (x : ℕ) {a : Bool} (e : a ≡ inReach ts x) where
+module _ (rows codes : List ℕ) (x : ℕ) {a : Bool} (e : a ≡ inReach (view rows codes) x) where
+  abbrev ts : Types
+  ts = view rows codes
+
   pub out-of-reach : not a ≡ true → Fault.the-variants.Number outOfReach ≡ faultIs (linksFault ts x)
   unfolding linksFault
   out-of-reach t = broken (inReach ts x) outOfReach _ e t
@@ -34,7 +41,10 @@ module _ (ts : Types) (x : ℕ) {a : Bool} (e : a ≡ inReach ts x) where
     unfolding linksFault
     bad-supertype u = broken (superEarlierAndOpen ts x) badSupertype _ f u ∙ sym (passed (inReach ts x) outOfReach _ e t)
 
-    module _ (u : not b ≡ false) {c : Bool} (g : c ≡ shortChain mostSteps ts x) where
+    module _ (u : not b ≡ false) (k : Chained rows codes x) {c : Bool} (l : c ≡ shallow mostSteps rows x) where
+      g : c ≡ shortChain mostSteps ts x
+      g = l ∙ sym (k .is (sym f ∙ not-false b u))
+
       links-last : faultIs (linksFault ts x) ≡ faultIs (cond (shortChain mostSteps ts x) none (some oversize))
       unfolding linksFault
       links-last = passed (inReach ts x) outOfReach _ e t ∙ passed (superEarlierAndOpen ts x) badSupertype _ f u

@@ -2,9 +2,11 @@
 use Prim.Native.Nat.{ℕ, zero, suc, _+_, _-_, _≤_, _<_, _^_}
 use native.Mathlib.Nat.{sub-zero}
 use mathlib.Core.Path.{_≡_, refl, sym, ap, _∙_}
-use mathlib.Core.Bool.{true, false}
+use mathlib.Core.Bool.{Bool, true, false}
 use mathlib.Core.Option.{Option, none, some}
 use native.Mathlib.Omega.{arith}
+use borrow.Author.Tests.{eqb-true, eqb-false}
+use lib.Dec.{eqb}
 use mir.Syntax.{w64}
 use mir.Val.{Fits}
 use Rattle.scope.specs.Reading.{given}
@@ -40,9 +42,10 @@ ruled-refused (rejected j y) p q = cc
 
 pub record Pass (fault : ℕ → Option ℕ) (first n x : ℕ) : Type 0 where
   pub same : scan fault first (n - first) ≡ scan fault x (n - x)
+  pub met : (y : ℕ) → first ≤ y → y < x → fault y ≡ none
 
 pub pass-first : (fault : ℕ → Option ℕ) (first n : ℕ) → Pass fault first n first
-pass-first fault first n = record { same = refl }
+pass-first fault first n = record { same = refl; met = λ y late less. absurd (omega arith) }
 
 one-type : (fault : ℕ → Option ℕ) (x n : ℕ) {o : Option ℕ} → x < n → fault x ≡ o → scan fault x (n - x) ≡ given o (scan fault (x + 1) (n - (x + 1))) (λ number. rejected number (plain x))
 unfolding scan
@@ -64,7 +67,13 @@ module _ {fault : ℕ → Option ℕ} {first n x : ℕ} (p : Pass fault first n 
     pass-fault q = sym (ap ruledIs (p .same ∙ one-type fault x n h (fault-number (fault x) e q)))
 
     pub pass-turn : r ≡ Fault.the-variants.Nothing → Pass fault first n (x + 1)
-    pass-turn q = record { same = p .same ∙ one-type fault x n h (fault-nothing (fault x) e q) }
+    pass-turn q =
+        let here : fault x ≡ none = fault-nothing (fault x) e q in
+        record { same = p .same ∙ one-type fault x n h here; met = λ y late less. one y late less (eqb y x) refl here }
+      where
+        one : (y : ℕ) → first ≤ y → y < x + 1 → (b : Bool) → eqb y x ≡ b → fault x ≡ none → fault y ≡ none
+        one y late less true same here = ap fault (eqb-true y x same) ∙ here
+        one y late less false same here = let other = eqb-false y x same in p .met y late (omega arith)
 
 pub ruleset pass-exits = (pass-first, pass-done, next-fits, pass-fault, pass-turn)
 

@@ -1,13 +1,17 @@
-// The verdict on the types of a section, in document 01's order: type by type rule 1 and the chain; then, type by type
-// again, rules 2 to 5 in rising number of refusal. The first fault is the answer, with the number of its type.
+// The two passes over the types of a section, in document 01's order: type by type rule 1 and the chain; then, type by type
+// again, rules 2 to 5 in rising number of refusal. The first fault is the answer, with the number of its type. The first asks how long
+// a chain is, so it needs the depths; the second asks who is below whom, so it needs the ranges. section_decide puts both.
 use scope::Place;
 use scope::Verdict;
 use scope::refusals;
 ghost use Prim.Native.Nat.{_-_};
 ghost use mathlib.Core.Path.{_≡_};
+ghost use mathlib.Core.Bool.{true, false};
 ghost use Rattle.scope.specs.Judging.{linksFault, ruleFault, scan};
 ghost use Rattle.type_table.specs.View.{view, bothCodes};
-ghost use Rattle.section_judge.specs.Verdict.{faultIs, ruledIs, clausesFault, followFault, faultOf, judgeFrom};
+ghost use Rattle.type_hierarchy.specs.Ranged.{Ranged};
+ghost use Rattle.section_judge.specs.Verdict.{faultIs, ruledIs, clausesFault, followFault, faultOf};
+ghost use Rattle.section_judge.specs.Ready.{Chained, Ready, Linkable, Scannable};
 
 // The number of the first rule that a type breaks.
 pub enum Fault {
@@ -17,6 +21,7 @@ pub enum Fault {
 
 // Rule 1 and the chain, of one type.
 fn links_fault(rows: &[u16], shared: &[u16], codes: &[u16], x: u64) -> Fault
+    requires { ⌜ Chained (now rows) (bothCodes (now shared) (now codes)) x ⌝ }
     ensures { λ r. ⌜ r ≡ faultIs (linksFault (view (now (rows .entry)) (bothCodes (now (shared .entry)) (now (codes .entry)))) x) ⌝ }
 {
     if !type_reach::in_reach(rows, shared, codes, x) {
@@ -25,7 +30,7 @@ fn links_fault(rows: &[u16], shared: &[u16], codes: &[u16], x: u64) -> Fault
     if !type_chain::super_earlier_and_open(rows, shared, codes, x) {
         return Fault::Number(refusals::BAD_SUPERTYPE);
     }
-    if !type_chain::short_chain(rows, shared, codes, x) {
+    if !type_chain::short_chain(rows, x) {
         return Fault::Number(refusals::OVERSIZE);
     }
     Fault::Nothing
@@ -62,6 +67,7 @@ fn clauses_fault(rows: &[u16], shared: &[u16], codes: &[u16], x: u64) -> Fault
 
 // Rules 2 to 5, of one type.
 fn rule_fault(rows: &[u16], shared: &[u16], codes: &[u16], x: u64) -> Fault
+    requires { ⌜ Ranged (now rows) (bothCodes (now shared) (now codes)) ⌝ }
     ensures { λ r. ⌜ r ≡ faultIs (ruleFault (view (now (rows .entry)) (bothCodes (now (shared .entry)) (now (codes .entry)))) x) ⌝ }
 {
     if !type_matching::matches_super(rows, shared, codes, x) {
@@ -72,6 +78,7 @@ fn rule_fault(rows: &[u16], shared: &[u16], codes: &[u16], x: u64) -> Fault
 
 // The fault of one type, in the pass over the links or in the pass over the other rules.
 fn fault_of(rows: &[u16], shared: &[u16], codes: &[u16], links: bool, x: u64) -> Fault
+    requires { ⌜ Ready links (now rows) (bothCodes (now shared) (now codes)) x ⌝ }
     ensures { λ r. ⌜ r ≡ faultIs (faultOf links (view (now (rows .entry)) (bothCodes (now (shared .entry)) (now (codes .entry)))) x) ⌝ }
 {
     if links {
@@ -90,6 +97,7 @@ fn scan_types(
     first: u64,
     n: u64,
 ) -> Verdict
+    requires { ⌜ Scannable links first n (now rows) (bothCodes (now shared) (now codes)) ⌝ }
     ensures { λ r. let types = view (now (rows .entry)) (bothCodes (now (shared .entry)) (now (codes .entry))) in
         ⌜ r ≡ ruledIs (scan (faultOf links types) first (n - first)) ⌝ }
 {
@@ -104,14 +112,20 @@ fn scan_types(
     Verdict::Accepted(x)
 }
 
-// The two passes over the types from `first` on of n: how many types there are, or a refusal's number and the type at fault.
-pub fn judge_types(rows: &[u16], shared: &[u16], codes: &[u16], first: u64, n: u64) -> Verdict
+// The first pass, over the types from `first` on of n, once the end words are depths.
+pub fn judge_links(rows: &[u16], shared: &[u16], codes: &[u16], first: u64, n: u64) -> Verdict
+    requires { ⌜ Linkable first n (now rows) (bothCodes (now shared) (now codes)) ⌝ }
     ensures { λ r. let types = view (now (rows .entry)) (bothCodes (now (shared .entry)) (now (codes .entry))) in
-        ⌜ r ≡ ruledIs (judgeFrom first types n) ⌝ }
+        ⌜ r ≡ ruledIs (scan (faultOf true types) first (n - first)) ⌝ }
 {
-    let links = scan_types(rows, shared, codes, true, first, n);
-    match links {
-        Verdict::Accepted(_) => scan_types(rows, shared, codes, false, first, n),
-        Verdict::Refused(number, place) => Verdict::Refused(number, place),
-    }
+    scan_types(rows, shared, codes, true, first, n)
+}
+
+// The second pass, once the table has its ranges.
+pub fn judge_rules(rows: &[u16], shared: &[u16], codes: &[u16], first: u64, n: u64) -> Verdict
+    requires { ⌜ Ranged (now rows) (bothCodes (now shared) (now codes)) ⌝ }
+    ensures { λ r. let types = view (now (rows .entry)) (bothCodes (now (shared .entry)) (now (codes .entry))) in
+        ⌜ r ≡ ruledIs (scan (faultOf false types) first (n - first)) ⌝ }
+{
+    scan_types(rows, shared, codes, false, first, n)
 }

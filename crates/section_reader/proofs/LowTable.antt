@@ -15,10 +15,10 @@ use Rattle.scope.specs.Reading.{got}
 use Rattle.scope.specs.Lists.{joined}
 use Rattle.scope.specs.Sections.{readAfter}
 use Rattle.scope.specs.Syntax.{Form, Definition, Group, firstOf}
-use Rattle.scope.specs.Memory.{formCodes, formWords, flag, orZero, spareWords}
+use Rattle.scope.specs.Memory.{formCodes, formWords, flag, orZero}
 use Rattle.lent_u16.specs.Words.{wordLimit}
 use Rattle.type_table.specs.Kept.{keptOption, keptVal, keptField, keptForm, keptSupers, keptDefinition}
-use Rattle.type_table.specs.View.{furtherOf, row, rowsOf, codesOf}
+use Rattle.type_table.specs.View.{furtherOf, row, rowsOf, codesOf, noRange}
 use Rattle.section_definition.specs.Rows.{low}
 use Rattle.section_group.specs.Lent.{keptAll}
 use Rattle.section_reader.proofs.Modest.{Each, no-more, one-more, each-append, Few, few-fields, few-values, Modest, read-fits}
@@ -62,8 +62,8 @@ further-word [] = omega arith
 further-word (x ∷ []) = omega arith
 further-word (x ∷ y ∷ more) = omega arith
 
-spare-words : Each Word spareWords
-spare-words = let small : Word 0 = omega arith in one-more small (one-more small (one-more small (one-more small no-more)))
+range-words : Each Word noRange
+range-words = let small : Word 0 = omega arith in one-more small (one-more small (one-more small (one-more small no-more)))
 
 row-words : (first : ℕ) (d : Definition) → Modest d → first < codesSize + mostBytes → Each Word (row first (keptDefinition d))
 unfolding row keptDefinition
@@ -77,7 +77,7 @@ row-words first d m h =
     (one-more (first-word (d .supers))
     (one-more (link-word (d .describes))
     (one-more (link-word (d .descriptor))
-    (one-more from (one-more to (one-more reach (one-more used (one-more (further-word (d .supers)) spare-words)))))))))
+    (one-more from (one-more to (one-more reach (one-more used (one-more (further-word (d .supers)) range-words)))))))))
 
 rows-words : (first : ℕ) {ds : List Definition} → Each Modest ds → first + length (codesOf (keptAll ds)) < codesSize + mostBytes → Each Word (rowsOf first (keptAll ds))
 unfolding rowsOf codesOf

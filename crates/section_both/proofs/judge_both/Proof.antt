@@ -1,5 +1,5 @@
 -- `section_both::judge_both` meets its contract: the library decides, or the joined list.
-use Rattle.section_both.proofs.Joining.{first-refused, own-room, own-decides}
+use Rattle.section_both.proofs.Joining.{first-refused, own-opened, own-decides}
 use borrow.Author.Needs.{needs}
 use Rattle.section_both.proofs.judge_both.Statement.{statement}
 use Rattle.section_both.proofs.judge_both.Tie as tie
@@ -14,7 +14,7 @@ enum-known-first-2 : tie.Need-enum-known-first-2
 enum-known-first-2 c = search needs
 
 judge-addon-requires : tie.Need-judge-addon-requires
-judge-addon-requires c κs = own-room _ (c .before .before .before .before .before .before .before .before .before .before .before .before .before .before .before .before .before .before .before .pre) (c .before .before .before .before .before .before .before .before .before .before .judge-library .ensures) (c .before .before .before .before .first2 .given .1)
+judge-addon-requires c κs = own-opened _ (c .before .before .before .before .before .before .before .before .before .before .before .before .before .before .before .before .before .before .before .pre) (c .before .before .before .before .before .before .before .before .before .before .judge-library .ensures) (c .before .before .before .before .first2 .given .1)
 
 with-before-requires : tie.Need-with-before-requires
 with-before-requires c κs = search needs

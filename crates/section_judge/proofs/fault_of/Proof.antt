@@ -1,14 +1,15 @@
 -- `section_judge::fault_of` meets its contract: the flag says which pass it is.
 use borrow.Author.Needs.{needs}
 use Rattle.section_judge.proofs.Faults.{pass-exits}
+use Rattle.section_judge.proofs.Passes.{ready-exits}
 use Rattle.section_judge.proofs.fault_of.Statement.{statement}
 use Rattle.section_judge.proofs.fault_of.Tie as tie
 
 links-fault-requires : tie.Need-links-fault-requires
-links-fault-requires c κs = search needs
+links-fault-requires c κs = search (ready-exits, needs)
 
 rule-fault-requires : tie.Need-rule-fault-requires
-rule-fault-requires c κs = search needs
+rule-fault-requires c κs = search (ready-exits, needs)
 
 returns : tie.Need-returns
 returns c = search (pass-exits, needs)

@@ -3,6 +3,7 @@ use Prim.Native.Nat.{_-_}
 use borrow.Author.Needs.{needs}
 use Rattle.type_table.specs.View.{view, bothCodes}
 use Rattle.section_judge.proofs.Scanning.{Pass, pass-exits}
+use Rattle.section_judge.proofs.Passes.{ready-exits}
 use Rattle.section_judge.specs.Verdict.{faultOf}
 use Rattle.section_judge.proofs.scan_types.Statement.{statement}
 use Rattle.section_judge.proofs.scan_types.Tie as tie
@@ -17,7 +18,7 @@ loop-holds : tie.Need-loop-holds Inv-loop μ-loop
 loop-holds c = search (pass-exits, needs)
 
 fault-of-requires : tie.Need-fault-of-requires Inv-loop μ-loop
-fault-of-requires c κs = search (pass-exits, needs)
+fault-of-requires c κs = search (ready-exits, needs)
 
 enum-known-fault : tie.Need-enum-known-fault Inv-loop μ-loop
 enum-known-fault c = search (pass-exits, needs)
