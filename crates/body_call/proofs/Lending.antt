@@ -23,6 +23,7 @@ use Rattle.scope.proofs.Impossible.{impossible}
 use Rattle.section_reader.proofs.Modest.{Each, no-more, one-more, Few, few-fields, few-values, Modest, read-fits, each-append}
 use Rattle.body_state.proofs.Alike.{both-false}
 use Rattle.type_table.specs.View.{bothCodes}
+use Rattle.type_hierarchy.specs.Ranged.{Ranged}
 use Rattle.lent_limits.proofs.Enough.{table-sizes}
 use Rattle.section_both.specs.declared.TwoJudged.{TwoJudged}
 use Rattle.section_both.specs.declared.TwoJudged
@@ -73,6 +74,20 @@ body-is : (library section s : List ℕ) (x : ℕ) → judgeBody library section
 unfolding judgeBody judgeSections sizedOn typedOn
 body-is library section s x = then-types (judgeJoined library section) (λ ds. sizedOn ds s x)
 
+-- what an accepted pair hands on to its bodies
+
+module _ {library section rows shared codes rows₁ shared₁ codes₁ : List ℕ} {v : TwoJudged} (a : BothJudged library section rows shared codes rows₁ shared₁ codes₁ v)
+    {before count : ℕ} (e : v ≡ TwoJudged.the-variants.Accepted before count) where
+  pub may-range : Ranged rows₁ (bothCodes shared₁ codes₁)
+  may-range = let (j, judged, first, many) = both-accepted (judgeJoined library section) (a .answer) e in a .ranged j judged
+
+  pub may-size : (x : ℕ) {work : List ℕ} → Fresh work → Sized rows₁ (bothCodes shared₁ codes₁) work count x
+  may-size x fresh =
+      let (j, judged, first, many) = both-accepted (judgeJoined library section) (a .answer) e in
+      let b = joined-bounded library section judged in
+      let seen = viewed library section judged (a .stands j judged) in
+      record { fresh = fresh; known = omega (arith, b .types, many); few = λ ps rs f. b .parameters x ps rs (ap (λ (ts : ℕ → Definition). ts x .form) (sym seen) ∙ f) }
+
 module _ {library section rows shared codes rows₁ shared₁ codes₁ : List ℕ} {v : TwoJudged} (a : BothJudged library section rows shared codes rows₁ shared₁ codes₁ v) (s : List ℕ) (x : ℕ) where
   pub lent-refused : {n : ℕ} {p : Place} → v ≡ TwoJudged.the-variants.Refused n p → LentJudged library section s x (Verdict.the-variants.Refused n p)
   lent-refused e = record { answer = rw (body-is library section s x, both-refused (judgeJoined library section) (a .answer) e) refl }
@@ -83,13 +98,6 @@ module _ {library section rows shared codes rows₁ shared₁ codes₁ : List �
         let (j, judged, first, many) = both-accepted (judgeJoined library section) (a .answer) e in
         let b = joined-bounded library section judged .types in
         omega (arith, b, many)
-
-    pub may-size : {work : List ℕ} → Fresh work → Sized rows₁ (bothCodes shared₁ codes₁) work count x
-    may-size fresh =
-        let (j, judged, first, many) = both-accepted (judgeJoined library section) (a .answer) e in
-        let b = joined-bounded library section judged in
-        let seen = viewed library section judged (a .stands j judged) in
-        record { fresh = fresh; known = omega (arith, b .types, many); few = λ ps rs f. b .parameters x ps rs (ap (λ (ts : ℕ → Definition). ts x .form) (sym seen) ∙ f) }
 
     with-types : (k : Joined) → judgeJoined library section ≡ accepted k → count ≡ length (k .types) → {work work′ : List ℕ} {r : Verdict} → SizedJudged rows₁ (bothCodes shared₁ codes₁) work work′ s count x r → LentJudged library section s x r
     with-types k judged many j =
@@ -145,4 +153,4 @@ module _ {library section s : List ℕ} {x : ℕ} {rows shared codes work : List
         workAfter = z .workZero ∙ ap (λ (n : ℕ). replicate n 0) w;
       }
 
-pub ruleset lent-exits = (lent-refused, count-fits, may-size, lent-judged, table-small, work-small, enough-judged, lent-prepared, body-judged)
+pub ruleset lent-exits = (lent-refused, count-fits, may-range, may-size, lent-judged, table-small, work-small, enough-judged, lent-prepared, body-judged)

@@ -12,6 +12,7 @@ ghost use Rattle.scope.specs.Bodies.{withinOperands, doPlan};
 ghost use Rattle.body_state.specs.State.{stack, plainOf, plannedOf, contextAt, stateAt, Upright, Stepped};
 ghost use Rattle.body_effects.specs.Effects.{afterPlain};
 ghost use Rattle.type_table.specs.View.{bothCodes};
+ghost use Rattle.type_hierarchy.specs.Ranged.{Ranged};
 
 // The operands are taken, and `left` of the frame's stay: the plan's values are given, and its local is set.
 fn give_plain(
@@ -74,6 +75,7 @@ fn do_plain(
     plan: Plain,
 ) -> Step
     requires { ⌜ Upright (now work) (scene .locals) check ⌝ }
+    requires { ⌜ Ranged (now rows) (bothCodes (now shared) (now codes)) ⌝ }
     ensures { λ r.
         let before = now (work .entry) in
         let after = now (work .exit) in
@@ -118,6 +120,7 @@ pub fn do_planned(
     planned: Planned,
 ) -> Step
     requires { ⌜ Upright (now work) (scene .locals) check ⌝ }
+    requires { ⌜ Ranged (now rows) (bothCodes (now shared) (now codes)) ⌝ }
     ensures { λ r.
         let before = now (work .entry) in
         let after = now (work .exit) in

@@ -11,6 +11,7 @@ ghost use Rattle.scope.specs.Instructions.{end};
 ghost use Rattle.body_state.specs.State.{contextAt, stateAt, valuesOf, Upright, Stepped};
 ghost use Rattle.body_end.specs.Ends.{EndsWith, Inner, steppedOut};
 ghost use Rattle.type_table.specs.View.{bothCodes};
+ghost use Rattle.type_hierarchy.specs.Ranged.{Ranged};
 
 // Whether a frame may end: its results are there and nothing else; or the refusal's number.
 pub enum End {
@@ -29,6 +30,7 @@ fn end_with(
     height: u32,
     dead: bool,
 ) -> End
+    requires { ⌜ Ranged (now rows) (bothCodes (now shared) (now codes)) ⌝ }
     ensures { λ r. ⌜ EndsWith (now (rows .entry)) (bothCodes (now (shared .entry)) (now (codes .entry))) (now (work .entry)) list base height dead r ⌝ }
 {
     let taken = body_operands::take_list(rows, shared, codes, work, list, base, height, dead);
@@ -87,6 +89,7 @@ pub fn close(
     check: Check,
 ) -> Step
     requires { ⌜ Upright (now work) (scene .locals) check ⌝ }
+    requires { ⌜ Ranged (now rows) (bothCodes (now shared) (now codes)) ⌝ }
     ensures { λ r.
         let before = now (work .entry) in
         let after = now (work .exit) in

@@ -13,6 +13,7 @@ ghost use Rattle.scope.specs.Order.{itFits, unfit};
 ghost use Rattle.scope.specs.Bodies.{fit};
 ghost use Rattle.type_table.specs.View.{view, bothCodes};
 ghost use Rattle.type_fit.specs.Outcomes.{fitIs};
+ghost use Rattle.type_hierarchy.specs.Ranged.{Ranged};
 ghost use Rattle.body_state.specs.State.{operandAtCode, wantedAtCode};
 
 // A reference where one is wanted: it fits, and a number does not.
@@ -25,6 +26,7 @@ fn as_reference(reference: bool) -> Fit
 // "An unknown is below every type": a non-null reference of unknown heap, below every reference type. Most operands are of the
 // very type that is wanted, so that is asked first.
 pub fn fit_word(rows: &[u16], shared: &[u16], codes: &[u16], o: u64, w: u64) -> Fit
+    requires { ⌜ Ranged (now rows) (bothCodes (now shared) (now codes)) ⌝ }
     ensures { λ r. ⌜ r ≡ fitIs (fit (view (now (rows .entry)) (bothCodes (now (shared .entry)) (now (codes .entry)))) (operandAtCode o) (wantedAtCode w)) ⌝ }
 {
     if o == w {

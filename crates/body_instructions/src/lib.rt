@@ -4,6 +4,7 @@ use body_loop::Ended;
 use body_state::Scene;
 ghost use Rattle.body_loop.specs.Loop.{Begun, JudgedFrom};
 ghost use Rattle.type_table.specs.View.{bothCodes};
+ghost use Rattle.type_hierarchy.specs.Ranged.{Ranged};
 
 // One entry for each first byte, by its pairs of binary digits: how many operands, the code of their type, the code of the
 // result's type (00 i32, 01 i64, 10 f32, 11 f64); 0 where the byte is no numeric code.
@@ -293,6 +294,7 @@ pub fn judge_all(
     at: usize,
 ) -> Ended
     requires { ⌜ Begun (now work) scene (now s) at ⌝ }
+    requires { ⌜ Ranged (now rows) (bothCodes (now shared) (now codes)) ⌝ }
     ensures { λ r. ⌜ JudgedFrom (now (rows .entry)) (bothCodes (now (shared .entry)) (now (codes .entry))) (now (work .entry)) (now (work .exit)) scene (now (s .entry)) at r ⌝ }
 {
     let table = NUMERIC;

@@ -10,6 +10,7 @@ use type_table::Shape;
 ghost use mathlib.Core.Path.{_≡_};
 ghost use Rattle.body_judge.specs.Typed.{finishedAs, Typing, TypedJudged, Sized, SizedJudged};
 ghost use Rattle.type_table.specs.View.{bothCodes};
+ghost use Rattle.type_hierarchy.specs.Ranged.{Ranged};
 
 // Last, 5: nothing follows the last `end`.
 fn finish(s: &[u8], ended: Ended) -> Verdict
@@ -37,6 +38,7 @@ fn judge_typed(
     number: u64,
 ) -> Verdict
     requires { ⌜ Typing (now rows) (bothCodes (now shared) (now codes)) (now work) (now s) types number ⌝ }
+    requires { ⌜ Ranged (now rows) (bothCodes (now shared) (now codes)) ⌝ }
     ensures { λ r. ⌜ TypedJudged (now (rows .entry)) (bothCodes (now (shared .entry)) (now (codes .entry))) (now (work .entry)) (now (work .exit)) (now (s .entry)) types number r ⌝ }
 {
     let shape = type_table::shape_of(rows, shared, codes, number);
@@ -83,6 +85,7 @@ pub fn judge_sized(
     number: u64,
 ) -> Verdict
     requires { ⌜ Sized (now rows) (bothCodes (now shared) (now codes)) (now work) types number ⌝ }
+    requires { ⌜ Ranged (now rows) (bothCodes (now shared) (now codes)) ⌝ }
     ensures { λ r. ⌜ SizedJudged (now (rows .entry)) (bothCodes (now (shared .entry)) (now (codes .entry))) (now (work .entry)) (now (work .exit)) (now (s .entry)) types number r ⌝ }
 {
     if sizes::MOST_BYTES < s.len() {

@@ -8,6 +8,7 @@ ghost use mathlib.Core.List.{_++_};
 ghost use Rattle.scope.specs.BodyRules.{fromTop};
 ghost use Rattle.scope.specs.Bodies.{takeAll};
 ghost use Rattle.type_table.specs.View.{view, bothCodes};
+ghost use Rattle.type_hierarchy.specs.Ranged.{Ranged};
 ghost use Rattle.body_state.specs.State.{wantsAt, valuesOf, stack};
 ghost use Rattle.body_operands.specs.Taking.{leftOf, leftIn};
 
@@ -28,6 +29,7 @@ fn take_some(
     height: u32,
     dead: bool,
 ) -> Left
+    requires { ⌜ Ranged (now rows) (bothCodes (now shared) (now codes)) ⌝ }
     ensures { λ r.
         let types = view (now (rows .entry)) (bothCodes (now (shared .entry)) (now (codes .entry))) in
         let words = now (work .entry) in
@@ -54,6 +56,7 @@ pub fn take_list(
     height: u32,
     dead: bool,
 ) -> Left
+    requires { ⌜ Ranged (now rows) (bothCodes (now shared) (now codes)) ⌝ }
     ensures { λ r.
         let types = view (now (rows .entry)) (bothCodes (now (shared .entry)) (now (codes .entry))) in
         let words = now (work .entry) in
@@ -92,6 +95,7 @@ pub fn take_plan(
     height: u32,
     dead: bool,
 ) -> Left
+    requires { ⌜ Ranged (now rows) (bothCodes (now shared) (now codes)) ⌝ }
     ensures { λ r.
         let types = view (now (rows .entry)) (bothCodes (now (shared .entry)) (now (codes .entry))) in
         let words = now (work .entry) in

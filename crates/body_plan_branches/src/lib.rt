@@ -8,6 +8,7 @@ use body_state::Values;
 use scope::refusals;
 use type_table::Link;
 ghost use Rattle.type_table.specs.View.{view, bothCodes};
+ghost use Rattle.type_hierarchy.specs.Ranged.{Ranged};
 ghost use Rattle.body_plan_labels.specs.Labels.{labelsAt};
 ghost use Rattle.body_plan_cast_forms.specs.Forms.{castBetween};
 ghost use Rattle.body_plan_branches.specs.Branches.{castOp, descOp, CastLabel, Branching};
@@ -49,6 +50,7 @@ pub fn br_on_cast(
     target: Reference,
     fail: bool,
 ) -> Planned
+    requires { ⌜ Ranged (now rows) (bothCodes (now shared) (now codes)) ⌝ }
     ensures { λ r.
         let types = view (now (rows .entry)) (bothCodes (now (shared .entry)) (now (codes .entry))) in
         let labels = labelsAt (bothCodes (now (shared .entry)) (now (codes .entry))) (now (work .entry)) scene depth in
@@ -84,6 +86,7 @@ pub fn br_on_cast_desc(
     target: Reference,
     fail: bool,
 ) -> Planned
+    requires { ⌜ Ranged (now rows) (bothCodes (now shared) (now codes)) ⌝ }
     ensures { λ r.
         let types = view (now (rows .entry)) (bothCodes (now (shared .entry)) (now (codes .entry))) in
         let labels = labelsAt (bothCodes (now (shared .entry)) (now (codes .entry))) (now (work .entry)) scene depth in

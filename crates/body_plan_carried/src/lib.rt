@@ -8,6 +8,7 @@ use body_state::Values;
 use scope::refusals;
 use type_fit::Fit;
 ghost use Rattle.type_table.specs.View.{view, bothCodes};
+ghost use Rattle.type_hierarchy.specs.Ranged.{Ranged};
 ghost use Rattle.body_plan_carried.specs.Carried.{SplitOf, Small, Carries};
 
 // A list's last type by its code, and those before it.
@@ -56,6 +57,7 @@ pub fn carries(
     label: Values,
 ) -> Planned
     requires { ⌜ Small source falls ⌝ }
+    requires { ⌜ Ranged (now rows) (bothCodes (now shared) (now codes)) ⌝ }
     ensures { λ r. ⌜ Carries (bothCodes (now (shared .entry)) (now (codes .entry))) (view (now (rows .entry)) (bothCodes (now (shared .entry)) (now (codes .entry)))) first source carried falls label r ⌝ }
 {
     let split = split_last(shared, codes, label);

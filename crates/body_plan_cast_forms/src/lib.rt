@@ -4,6 +4,7 @@ use body_state::Planned;
 use body_state::Values;
 use scope::refusals;
 ghost use Rattle.type_table.specs.View.{view, bothCodes};
+ghost use Rattle.type_hierarchy.specs.Ranged.{Ranged};
 ghost use Rattle.body_plan_cast_forms.specs.Forms.{Low, FormCarries, Casts};
 
 // A reference type: whether it may be null, and its heap type's code.
@@ -24,6 +25,7 @@ fn form_carries(
     label: Values,
 ) -> Planned
     requires { ⌜ Low (source .heap) (target .heap) ⌝ }
+    requires { ⌜ Ranged (now rows) (bothCodes (now shared) (now codes)) ⌝ }
     ensures { λ r. ⌜ FormCarries (bothCodes (now (shared .entry)) (now (codes .entry))) (view (now (rows .entry)) (bothCodes (now (shared .entry)) (now (codes .entry)))) first source target fail label r ⌝ }
 {
     let from = body_plan_parts::ref_code(source.null, source.heap);
@@ -47,6 +49,7 @@ pub fn casts(
     label: Values,
 ) -> Planned
     requires { ⌜ Low (source .heap) (target .heap) ⌝ }
+    requires { ⌜ Ranged (now rows) (bothCodes (now shared) (now codes)) ⌝ }
     ensures { λ r. ⌜ Casts (bothCodes (now (shared .entry)) (now (codes .entry))) (view (now (rows .entry)) (bothCodes (now (shared .entry)) (now (codes .entry)))) first source target fail label r ⌝ }
 {
     let related = body_plan_rest::one_hierarchy(rows, shared, codes, source.heap, target.heap);

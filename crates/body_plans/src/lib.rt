@@ -20,6 +20,7 @@ ghost use Rattle.body_state.specs.State.{contextAt, stateAt};
 ghost use Rattle.body_decoded.specs.Decoded.{instrOf};
 ghost use Rattle.body_plans.specs.Acts.{actOf};
 ghost use Rattle.type_table.specs.View.{bothCodes};
+ghost use Rattle.type_hierarchy.specs.Ranged.{Ranged};
 
 // What an instruction does: it opens a block or, where the bool says so, a loop, with that result (0 none, else one more
 // than its code); it closes the innermost frame; or it has a plan.
@@ -41,6 +42,7 @@ pub fn act_of(
     i: Instruction,
 ) -> Act
     requires { ⌜ Tabled (now table) ⌝ }
+    requires { ⌜ Ranged (now rows) (bothCodes (now shared) (now codes)) ⌝ }
     ensures { λ r.
         let context = contextAt (now (rows .entry)) (bothCodes (now (shared .entry)) (now (codes .entry))) (now (work .entry)) scene in
         let state = stateAt (now (work .entry)) (scene .locals) check in

@@ -12,6 +12,7 @@ ghost use Rattle.scope.specs.Syntax.{nullable, nonNull, defined, exact};
 ghost use Rattle.scope.specs.BodyRules.{value};
 ghost use Rattle.scope.specs.Bodies.{known, fits, nonNullOf, withinOperands};
 ghost use Rattle.type_table.specs.View.{view, bothCodes};
+ghost use Rattle.type_hierarchy.specs.Ranged.{Ranged};
 ghost use Rattle.body_state.specs.State.{operandAtCode, stack, contextAt, stateAt, Upright, Stepped};
 ghost use Rattle.body_references.specs.OneMore.{withTop, nonNullDone, descriptorDone};
 
@@ -73,6 +74,7 @@ pub fn do_non_null(
     check: Check,
 ) -> Step
     requires { ⌜ Upright (now work) (scene .locals) check ⌝ }
+    requires { ⌜ Ranged (now rows) (bothCodes (now shared) (now codes)) ⌝ }
     ensures { λ r.
         let before = now (work .entry) in
         let after = now (work .exit) in
@@ -105,6 +107,7 @@ pub fn do_non_null(
 
 // "(ref y), exact when the operand is below (ref null (exact x))": of the three outcomes that is the first alone.
 fn descriptor_word(rows: &[u16], shared: &[u16], codes: &[u16], o: u32, x: u16, y: u16) -> u32
+    requires { ⌜ Ranged (now rows) (bothCodes (now shared) (now codes)) ⌝ }
     ensures { λ r.
         let types = view (now (rows .entry)) (bothCodes (now (shared .entry)) (now (codes .entry))) in
         let exactly = fits types (operandAtCode o) (value (nullable (exact x))) in
@@ -133,6 +136,7 @@ pub fn do_descriptor(
     y: u16,
 ) -> Step
     requires { ⌜ Upright (now work) (scene .locals) check ⌝ }
+    requires { ⌜ Ranged (now rows) (bothCodes (now shared) (now codes)) ⌝ }
     ensures { λ r.
         let before = now (work .entry) in
         let after = now (work .exit) in

@@ -9,6 +9,7 @@ ghost use Rattle.body_decoded.specs.Decoded.{instrOf};
 ghost use Rattle.body_state.specs.State.{contextAt, stateAt};
 ghost use Rattle.body_step.specs.Stepping.{Standing, SteppedAt};
 ghost use Rattle.type_table.specs.View.{bothCodes};
+ghost use Rattle.type_hierarchy.specs.Ranged.{Ranged};
 
 // One instruction at the place `at`: its tests, its operands, 28 and 4.
 pub fn step(
@@ -23,6 +24,7 @@ pub fn step(
     i: Instruction,
 ) -> Step
     requires { ⌜ Standing (now table) (now work) (scene .locals) check at ⌝ }
+    requires { ⌜ Ranged (now rows) (bothCodes (now shared) (now codes)) ⌝ }
     ensures { λ r.
         let before = now (work .entry) in
         let after = now (work .exit) in

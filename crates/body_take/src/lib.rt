@@ -8,6 +8,7 @@ ghost use mathlib.Core.Path.{_≡_};
 ghost use mathlib.Core.List.{[], _∷_};
 ghost use Rattle.scope.specs.Bodies.{takeAll};
 ghost use Rattle.type_table.specs.View.{view, bothCodes};
+ghost use Rattle.type_hierarchy.specs.Ranged.{Ranged};
 ghost use Rattle.body_state.specs.State.{wantedAtCode, stack};
 ghost use Rattle.body_take.specs.Took.{tookOf};
 
@@ -28,6 +29,7 @@ pub fn take_one(
     height: u32,
     dead: bool,
 ) -> Take
+    requires { ⌜ Ranged (now rows) (bothCodes (now shared) (now codes)) ⌝ }
     ensures { λ r.
         let types = view (now (rows .entry)) (bothCodes (now (shared .entry)) (now (codes .entry))) in
         let words = now (work .entry) in

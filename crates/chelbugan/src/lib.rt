@@ -6,12 +6,12 @@ ghost use Rattle.run_buffers.specs.States.{stateOf, memory};
 ghost use Rattle.chelbugan_told.specs.Told.{SectionTold, TypeTold, BodyTold, RunTold};
 ghost use Rattle.chelbugan.specs.Version.{version};
 
-// The version, 2.0.0: request 5 of document 02 gave each call a library.
+// The version, 2.0.1: request 5 of document 02 gave each call a library; since then each row has the range of what is below it.
 const MAJOR: u64 = 2;
 
 const MINOR: u64 = 0;
 
-const PATCH: u64 = 0;
+const PATCH: u64 = 1;
 
 // Which calls these are, as 10,000 times the first number, 100 times the second and the third.
 #[no_mangle]

@@ -93,6 +93,7 @@ module _ {s rows codes work ends : List ℕ} {count : ℕ} {c o e l p b : List �
               (omega (arith, may .room .locals, started .size))
               (may .room .operands)
               (may .room .blocks);
+          ranged = may .placing .table .ranged;
           room = may .room .counts;
         }
 

@@ -12,6 +12,7 @@ use Rattle.scope.specs.Running.{run, trialOf, Trial}
 use Rattle.scope.specs.Memory.{StateWords, stateWords, wiped}
 use Rattle.scope.specs.Answers.{lentAfter, machineOf, ranAs, ranOf}
 use Rattle.scope.specs.Layout.{countsSize, objectsSize, cellsSize, localsSize, operandsSize, blocksSize}
+use Rattle.type_hierarchy.specs.Ranged.{Ranged}
 use Rattle.run_ends.specs.Matching.{EndsOf}
 use Rattle.run_state.specs.Machines.{Words, words, machineAt, programAt, startStage}
 use Rattle.run_buffers.specs.States.{Written}
@@ -55,6 +56,7 @@ pub record Tried (s : List ℕ) (want : Judged Trial) (state state′ : StateWor
 
 pub record Startable (s rows codes ends : List ℕ) (count : ℕ) (state : StateWords) (results first : ℕ) : Type 0 where
   pub runnable : Runnable s rows codes ends count (wordsOf state) results first
+  pub ranged : Ranged rows codes
   pub room : countsSize ≤ length (state .counts)
 
 -- the ending of the written machine's run from there

@@ -8,6 +8,7 @@ ghost use Rattle.run_state.specs.Machines.{words};
 ghost use Rattle.run_step.specs.Carried.{StepOf};
 ghost use Rattle.run_loop.specs.Runs.{Readable, Runnable, RanFrom};
 ghost use Rattle.type_table.specs.View.{bothCodes};
+ghost use Rattle.type_hierarchy.specs.Ranged.{Ranged};
 
 // The next step: of the instruction at the stage's place.
 fn step_next(
@@ -26,6 +27,7 @@ fn step_next(
     stage: Stage,
 ) -> Stepped
     requires { ⌜ Readable (now s) (now ends) count (words (now objects) (now cells) (now locals) (now operands) (now blocks)) stage ⌝ }
+    requires { ⌜ Ranged (now rows) (bothCodes (now shared) (now codes)) ⌝ }
     ensures { λ r.
         let before = words (now (objects .entry)) (now (cells .entry)) (now (locals .entry)) (now (operands .entry)) (now (blocks .entry)) in
         let after = words (now (objects .exit)) (now (cells .exit)) (now (locals .exit)) (now (operands .exit)) (now (blocks .exit)) in
@@ -73,6 +75,7 @@ pub fn run_from(
     budget: u64,
 ) -> Ending
     requires { ⌜ Runnable (now s) (now rows) (bothCodes (now shared) (now codes)) (now ends) count (words (now objects) (now cells) (now locals) (now operands) (now blocks)) results first ⌝ }
+    requires { ⌜ Ranged (now rows) (bothCodes (now shared) (now codes)) ⌝ }
     ensures { λ r.
         let before = words (now (objects .entry)) (now (cells .entry)) (now (locals .entry)) (now (operands .entry)) (now (blocks .entry)) in
         let after = words (now (objects .exit)) (now (cells .exit)) (now (locals .exit)) (now (operands .exit)) (now (blocks .exit)) in

@@ -6,6 +6,7 @@ use run_value::Value;
 use scope::traps;
 ghost use Rattle.scope.specs.Instructions.{ref-test, ref-cast, br-on-cast, br-on-cast-fail, ref-cast-desc-eq, br-on-cast-desc-eq, br-on-cast-desc-eq-fail};
 ghost use Rattle.type_table.specs.View.{heapAtCode, bothCodes};
+ghost use Rattle.type_hierarchy.specs.Ranged.{Ranged};
 ghost use Rattle.body_decoded.specs.Decoded.{castOf};
 ghost use Rattle.run_move_casts.specs.Casts.{CastPlans, DescriptorPlans};
 
@@ -20,6 +21,7 @@ pub fn test_move(
     null: bool,
     h: u64,
 ) -> Move
+    requires { ⌜ Ranged (now rows) (bothCodes (now shared) (now codes)) ⌝ }
     ensures { λ r. ⌜ CastPlans (now (rows .entry)) (bothCodes (now (shared .entry)) (now (codes .entry))) (now (objects .entry)) n first (ref-test null (heapAtCode h)) r ⌝ }
 {
     let one = Move::Gives(1, Value::I32(1));
@@ -38,6 +40,7 @@ pub fn cast_move(
     null: bool,
     h: u64,
 ) -> Move
+    requires { ⌜ Ranged (now rows) (bothCodes (now shared) (now codes)) ⌝ }
     ensures { λ r. ⌜ CastPlans (now (rows .entry)) (bothCodes (now (shared .entry)) (now (codes .entry))) (now (objects .entry)) n first (ref-cast null (heapAtCode h)) r ⌝ }
 {
     let onward = Move::Leaves(0);
@@ -70,6 +73,7 @@ pub fn on_cast_move(
     null: bool,
     h: u64,
 ) -> Move
+    requires { ⌜ Ranged (now rows) (bothCodes (now shared) (now codes)) ⌝ }
     ensures { λ r. ⌜ CastPlans (now (rows .entry)) (bothCodes (now (shared .entry)) (now (codes .entry))) (now (objects .entry)) n first (br-on-cast (castOf l «source_null» source null h)) r ⌝ }
 {
     let target = h;
@@ -103,6 +107,7 @@ pub fn on_cast_fail_move(
     null: bool,
     h: u64,
 ) -> Move
+    requires { ⌜ Ranged (now rows) (bothCodes (now shared) (now codes)) ⌝ }
     ensures { λ r. ⌜ CastPlans (now (rows .entry)) (bothCodes (now (shared .entry)) (now (codes .entry))) (now (objects .entry)) n first (br-on-cast-fail (castOf l «source_null» source null h)) r ⌝ }
 {
     let onward = Move::Leaves(0);

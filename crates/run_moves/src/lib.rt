@@ -9,6 +9,7 @@ use scope::traps;
 ghost use Rattle.body_decoded.specs.Named.{Modest};
 ghost use Rattle.run_moves.specs.Moving.{MoveOf};
 ghost use Rattle.type_table.specs.View.{bothCodes};
+ghost use Rattle.type_hierarchy.specs.Ranged.{Ranged};
 
 // What an instruction inside its block comes to; one that opens or closes a block has no move. An operand is read only where the
 // instruction looks at it: most look at one or none.
@@ -25,6 +26,7 @@ pub fn move_of(
     i: Instruction,
 ) -> Move
     requires { ⌜ Modest i ⌝ }
+    requires { ⌜ Ranged (now rows) (bothCodes (now shared) (now codes)) ⌝ }
     ensures { λ r.
         ⌜ MoveOf
         (now (rows .entry)) (bothCodes (now (shared .entry)) (now (codes .entry)))

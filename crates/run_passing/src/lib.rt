@@ -8,6 +8,7 @@ use type_table::Link;
 ghost use mathlib.Core.Path.{_≡_};
 ghost use Rattle.run_passing.specs.Passes.{PassesAs, PassesDescriptorAs, chosenOf, CastChosen, DescriptorChosen};
 ghost use Rattle.type_table.specs.View.{bothCodes};
+ghost use Rattle.type_hierarchy.specs.Ranged.{Ranged};
 
 // Whether a value passes a cast; or it is missing or no reference.
 pub enum Passing {
@@ -26,6 +27,7 @@ fn passes_cast(
     null: bool,
     h: u64,
 ) -> Passing
+    requires { ⌜ Ranged (now rows) (bothCodes (now shared) (now codes)) ⌝ }
     ensures { λ r. ⌜ PassesAs (now (rows .entry)) (bothCodes (now (shared .entry)) (now (codes .entry))) (now (objects .entry)) n top null h r ⌝ }
 {
     let reference = run_state::reference_of(top);
@@ -87,6 +89,7 @@ pub fn move_by_type(
     yes: Move,
     no: Move,
 ) -> Move
+    requires { ⌜ Ranged (now rows) (bothCodes (now shared) (now codes)) ⌝ }
     ensures { λ r. ⌜ CastChosen (now (rows .entry)) (bothCodes (now (shared .entry)) (now (codes .entry))) (now (objects .entry)) n first null h yes no r ⌝ }
 {
     let passes = passes_cast(rows, shared, codes, objects, n, first, null, h);

@@ -66,7 +66,7 @@ module _ {library section s : List ℕ} {x : ℕ} {b : Body} (p : Parts library 
         let f = verdict-again in
         let many : count ≡ length (b .types) = cc in
         let again = judged-again in
-        record { types = viewed library section (again .judged) (a .stands (again .both) (again .judged)) ∙ ap typesOf (again .same); many = many; few = omega (arith, few-types p) }
+        record { types = viewed library section (again .judged) (a .stands (again .both) (again .judged)) ∙ ap typesOf (again .same); many = many; few = omega (arith, few-types p); ranged = a .ranged (again .both) (again .judged) }
 
     pub count-fits : {before count : ℕ} → v ≡ TwoJudged.the-variants.Accepted before count → count < 2 ^ 16
     count-fits e = let few = sections-again e .few in omega arith

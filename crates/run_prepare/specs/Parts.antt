@@ -10,6 +10,7 @@ use Rattle.scope.specs.Syntax.{func, typesOf}
 use Rattle.scope.specs.Judging.{accepted, judgeSections}
 use Rattle.scope.specs.Bodies.{Body}
 use Rattle.type_table.specs.View.{valAtCode, codesAt, view}
+use Rattle.type_hierarchy.specs.Ranged.{Ranged}
 use Rattle.body_state.specs.State.{valAtWord}
 use Rattle.body_start.specs.Beginning.{localsFirst}
 use Rattle.run_ends.specs.Matching.{codeAt, Balanced}
@@ -24,11 +25,12 @@ pub record Parts (library section s : List ℕ) (x : ℕ) (b : Body) : Type 0 wh
   pub code : b .code ≡ codeAt s first
   pub balanced : Balanced 0 (codeAt s first)
 
--- the table says the body's types, and there are as many as the section's verdict counts
+-- the table says the body's types, there are as many as the section's verdict counts, and they have their ranges
 pub record TypesAgain (b : Body) (rows codes : List ℕ) (count : ℕ) : Type 0 where
   pub types : view rows codes ≡ typesOf (b .types)
   pub many : count ≡ length (b .types)
   pub few : count ≤ mostTypes
+  pub ranged : Ranged rows codes
 
 -- the codes of the table, n from `first` on and m from `second` on, say the parameters and the results
 pub record FunctionAgain (b : Body) (codes : List ℕ) (first n second m : ℕ) : Type 0 where

@@ -6,6 +6,7 @@ use run_state::Stepped;
 ghost use Rattle.run_state.specs.Machines.{words};
 ghost use Rattle.run_step.specs.Carried.{Movable, Carried, Inside, InsideIs, Steppable, StepOf};
 ghost use Rattle.type_table.specs.View.{bothCodes};
+ghost use Rattle.type_hierarchy.specs.Ranged.{Ranged};
 
 // A move, carried out. Nothing is written where it traps.
 fn carry_out(
@@ -103,6 +104,7 @@ fn step_inside(
     i: Instruction,
 ) -> Stepped
     requires { ⌜ Inside (now s) (now ends) count (words (now objects) (now cells) (now locals) (now operands) (now blocks)) stage i ⌝ }
+    requires { ⌜ Ranged (now rows) (bothCodes (now shared) (now codes)) ⌝ }
     ensures { λ r.
         let before = words (now (objects .entry)) (now (cells .entry)) (now (locals .entry)) (now (operands .entry)) (now (blocks .entry)) in
         let after = words (now (objects .exit)) (now (cells .exit)) (now (locals .exit)) (now (operands .exit)) (now (blocks .entry)) in
@@ -156,6 +158,7 @@ pub fn step(
     i: Instruction,
 ) -> Stepped
     requires { ⌜ Steppable (now s) (now ends) count (words (now objects) (now cells) (now locals) (now operands) (now blocks)) stage i next ⌝ }
+    requires { ⌜ Ranged (now rows) (bothCodes (now shared) (now codes)) ⌝ }
     ensures { λ r.
         let before = words (now (objects .entry)) (now (cells .entry)) (now (locals .entry)) (now (operands .entry)) (now (blocks .entry)) in
         let after = words (now (objects .exit)) (now (cells .exit)) (now (locals .exit)) (now (operands .exit)) (now (blocks .exit)) in

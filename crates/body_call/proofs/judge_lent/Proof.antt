@@ -1,6 +1,6 @@
 -- `body_call::judge_lent` meets its contract.
 use borrow.Author.Needs.{needs}
-use Rattle.body_call.proofs.Lending.{lent-exits}
+use Rattle.body_call.proofs.Lending.{lent-exits, may-range, may-size}
 use Rattle.body_call.proofs.judge_lent.Statement.{statement}
 use Rattle.body_call.proofs.judge_lent.Tie as tie
 
@@ -17,7 +17,10 @@ cast-judge-sized : tie.Need-cast-judge-sized
 cast-judge-sized c = search (lent-exits, needs)
 
 judge-sized-requires : tie.Need-judge-sized-requires
-judge-sized-requires c κs = search (lent-exits, needs)
+judge-sized-requires c κs =
+    let both = c .before .before .before .before .before .before .before .before .before .before .before .before .before .judge-both .ensures in
+    let accepted = c .before .before .before .before .before .judged2 .given .1 in
+    (may-size both accepted _ (c .before .before .before .before .before .before .before .before .before .before .before .before .before .before .before .before .before .before .before .before .before .before .before .before .pre .fresh), may-range both accepted)
 
 same-length : tie.Need-same-length
 same-length c = search (lent-exits, needs)

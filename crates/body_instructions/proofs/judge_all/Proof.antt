@@ -12,7 +12,7 @@ slice-aggregate-judge-from c = search needs
 
 judge-from-requires : tie.Need-judge-from-requires
 unfolding entryOf numericOf
-judge-from-requires c κs = record { tabled = record { is = refl }; begun = search needs }
+judge-from-requires c κs = (record { tabled = record { is = refl }; begun = search needs }, search needs)
 
 same-length : tie.Need-same-length
 same-length c = search needs

@@ -41,7 +41,7 @@ same-length-2 : tie.Need-same-length-2
 same-length-2 c = search (typed-exits, needs)
 
 returns-3 : tie.Need-returns-3
-returns-3 c = search (typed-exits, needs)
+returns-3 c = let typing = c .before .before .before .before .before .before .before .before .before .before .before .before .before .before .before .before .before .before .before .before .before .pre .0 in search (typing, typed-exits, needs)
 
 pub judge-typed-spec : {M : Type 1} → statement M
 judge-typed-spec =

@@ -44,7 +44,7 @@ returns-3 c =
 
 returns-4 : tie.Need-returns-4
 returns-4 c =
-    carried-below _ _ _ _ _ _ _ (c .before .before .before .before .before .before .split-last .ensures) (c .before .before .before .before .split .given .1) (c .before .before .val-fit .ensures) (c .enum-told4 .given .1) (c .before .before .before .before .before .before .before .before .before .before .pre)
+    carried-below _ _ _ _ _ _ _ (c .before .before .before .before .before .before .split-last .ensures) (c .before .before .before .before .split .given .1) (c .before .before .val-fit .ensures) (c .enum-told4 .given .1) (c .before .before .before .before .before .before .before .before .before .before .pre .0)
 
 pub carries-spec : {M : Type 1} → statement M
 carries-spec =

@@ -1,6 +1,6 @@
 -- `run_step::step_inside` meets its contract.
 use borrow.Author.Needs.{needs}
-use Rattle.run_step.proofs.Stepping.{inside-movable, inside-exits}
+use Rattle.run_step.proofs.Stepping.{inside-movable, inside-carried, inside-exits}
 use Rattle.run_step.proofs.step_inside.Statement.{statement}
 use Rattle.run_step.proofs.step_inside.Tie as tie
 
@@ -23,7 +23,7 @@ same-length-4 : tie.Need-same-length-4
 same-length-4 c = search (inside-exits, needs)
 
 returns : tie.Need-returns
-returns c = search (inside-exits, needs)
+returns c = inside-carried (c .before .before .before .before .before .before .before .before .before .before .before .before .before .move-of .ensures) (c .before .before .before .before .before .before .before .before .before .before .before .before .before .before .before .before .before .before .before .before .before .before .before .before .before .before .before .before .pre .0) (c .before .before .before .before .before .before .before .before .carry-out .ensures)
 
 pub step-inside-spec : {M : Type 1} → statement M
 step-inside-spec =
