@@ -17,7 +17,7 @@ use Rattle.scope.specs.Layout.{codesSize}
 use Rattle.scope.specs.Lists.{joined}
 use Rattle.scope.specs.Syntax.{Definition, typesOf}
 use Rattle.scope.specs.Judging.{plain, Judged, accepted, rejected, andThen, Joined, judgeJoined, Held, heldAt, askType, partOf}
-use Rattle.scope.specs.Memory.{libraryTypes, addonTypes, joinedRows, joinedShared, joinedCodes}
+use Rattle.scope.specs.Memory.{startsOf, endsOf, libraryTypes, addonTypes, joinedRows, joinedShared, joinedCodes}
 use Rattle.scope.specs.Answers.{tableLent, lentEnough, lentAfter, sectionCall, askCall, askedOf, askedTypes, askTable, TypeAsked, TypeHanded}
 use Rattle.scope.proofs.Impossible.{contradiction}
 use Rattle.scope.proofs.Truths.{none-is-not-some}
@@ -256,7 +256,7 @@ module _ {library s : List ℕ} {x : ℕ} {rows shared codes rows′ shared′ c
         let j = is .both in
         let there = promise .rowsAfter ∙ ap (lentAfter joinedRows rows) (table-said library s x t (is .allowed) (is .present)) in
         let entry : getElem? (libraryTypes j ++ addonTypes j) x ≡ some d = ap (λ (ds : List Definition). getElem? ds x) (take-append-drop (j .before) (j .types)) ∙ is .present in
-        rw there (both-rows-say (libraryTypes j) (addonTypes j) codesSize 0 x _ entry)
+        rw there (both-rows-say (startsOf (j .types)) (endsOf (j .types)) (libraryTypes j) (addonTypes j) 0 codesSize (length (libraryTypes j)) 0 x _ entry)
 
   pub of-handed : OfHanded promise
   of-handed =

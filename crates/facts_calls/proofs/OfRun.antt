@@ -31,6 +31,8 @@ use Rattle.facts_runs.specs.Counting as counting
 use Rattle.facts_runs.specs.Counting.{stepsOf, taken, allocations, hasLoop}
 use Rattle.facts_runs.proofs.Allocations.{objects-counted}
 use Rattle.facts_runs.proofs.Loopless.{loopless-stops, loopless-steps}
+use Rattle.facts_steps.specs.Runs.{Begins, RunsTo}
+use Rattle.facts_steps.proofs.Runs.{run-by-rules}
 use Rattle.facts_refusals.proofs.Bodies.{body-no, no-body}
 use Rattle.facts_calls.specs.Lent.{RunSuffices, RunShort}
 use Rattle.facts_calls.specs.Meant.{IsBody, CanRun, RunSaysNo, by-body, by-budget, by-parameters}
@@ -176,6 +178,11 @@ module _ {library section s : List ℕ} {x budget : ℕ} {m m′ : RunMemory} {r
           blocks = promise .blocks ∙ held (λ w. w .blocks);
         }
 
+    by-rules : (first : Machine) → Begins b first → RunsTo (programOf b) budget 0 first (ran-soundly .ending)
+    unfolding ran-soundly
+    by-rules first begins =
+        run-by-rules .runs (programOf b) budget 0 first ending .0 (ap (run (programOf b) budget 0) (sym (run-by-rules .begins b first .0 begins)))
+
     state-held : HoldsState (stateWords s (machineOf (ran-soundly .ending))) (m′ .state)
     state-held =
         record {
@@ -225,6 +232,7 @@ module _ {library section s : List ℕ} {x budget : ℕ} {m m′ : RunMemory} {r
   of-run =
       record {
         ran = ran-soundly;
+        ruled = by-rules;
         state = state-held;
         onlyThen = only-then;
         objects = objects-made;

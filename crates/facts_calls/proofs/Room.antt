@@ -10,7 +10,7 @@ use Rattle.scope.specs.Lists.{joined}
 use Rattle.scope.specs.Layout.{rowSpan, rowsSize, codesSize}
 use Rattle.scope.specs.Syntax.{Definition}
 use Rattle.scope.specs.Judging.{Joined}
-use Rattle.scope.specs.Memory.{filled, rowsFrom, libraryTypes, addonTypes, joinedRows, joinedShared, joinedCodes}
+use Rattle.scope.specs.Memory.{filled, startsOf, endsOf, rowsFrom, libraryTypes, addonTypes, joinedRows, joinedShared, joinedCodes}
 use Rattle.facts_sections.specs.Allowed.{Allowed}
 use Rattle.facts_calls.specs.Lent.{TableSuffices}
 use Rattle.facts_calls.specs.Zero.{ZeroBeyond}
@@ -29,11 +29,13 @@ table-fits j a =
     let rest : addonTypes j ≡ joined (a .groups) = ap (λ (k : Joined). drop (k .before) (k .types)) (sym (a .joins)) ∙ drop-append-seam (a .shared) (joined (a .groups)) in
     let few : length (joinedShared j) < codesSize = rw (own, ← a .libraryAllowed .types) (section-long (a .libraryAllowed .section)) in
     let more : length (joinedCodes j) < codesSize = rw rest (section-long (a .section)) in
-    let first : ℕ = length (rowsFrom codesSize (libraryTypes j)) in
-    let second : ℕ = length (rowsFrom 0 (addonTypes j)) in
-    let lengths : length (joinedRows j) ≡ first + second = length-append (rowsFrom codesSize (libraryTypes j)) (rowsFrom 0 (addonTypes j)) in
-    let a-rows : first ≡ length (libraryTypes j) * rowSpan = rows-length (libraryTypes j) codesSize in
-    let b-rows : second ≡ length (addonTypes j) * rowSpan = rows-length (addonTypes j) 0 in
+    let starts = startsOf (j .types) in
+    let ends = endsOf (j .types) in
+    let one = rowsFrom starts ends 0 codesSize (libraryTypes j) in
+    let two = rowsFrom starts ends (length (libraryTypes j)) 0 (addonTypes j) in
+    let lengths : length (joinedRows j) ≡ length one + length two = length-append one two in
+    let a-rows : length one ≡ length (libraryTypes j) * rowSpan = rows-length starts ends (libraryTypes j) 0 codesSize in
+    let b-rows : length two ≡ length (addonTypes j) * rowSpan = rows-length starts ends (addonTypes j) (length (libraryTypes j)) 0 in
     let a-many : length (libraryTypes j) ≡ length (a .shared) = ap length own in
     let b-many : length (addonTypes j) ≡ length (joined (a .groups)) = ap length rest in
     let together = a .section .sizes .types in

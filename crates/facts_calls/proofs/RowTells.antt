@@ -17,7 +17,7 @@ use Rattle.scope.specs.Sizes.{mostBytes}
 use Rattle.scope.specs.Layout.{codesSize}
 use Rattle.scope.specs.Syntax.{Val, Field, Form, struct, func, Definition, Group}
 use Rattle.scope.specs.Judging.{Joined}
-use Rattle.scope.specs.Memory.{fieldCode, valCode, formCodes, formWords, rowWords, rowsFrom, tableCodes, libraryTypes, addonTypes, joinedRows}
+use Rattle.scope.specs.Memory.{fieldCode, valCode, formCodes, formWords, startsOf, endsOf, rowWords, rowsFrom, tableCodes, libraryTypes, addonTypes, joinedRows}
 use Rattle.scope.proofs.Truths.{decided}
 use Rattle.facts_sections.specs.Writing.{Sevens, last-seven, seven-more, Unsigned, a-numeral, WritesVal, i32-type, i64-type, f32-type, f64-type, nullable-reference, reference, abstract-alone, WritesField, a-field, Entries, no-entry, an-entry, count-and-entries, Listed, listed, WritesForm, a-struct-form, a-func-form, WritesDefinition, a-definition, WritesGroup, several, alone, WritesGroups, no-group, a-group, WritesSection, a-section}
 use Rattle.facts_sections.specs.Allowed.{Section, Allowed}
@@ -118,29 +118,29 @@ section-long section = written-few (section .writing) (section .sizes .bytes)
 
 -- where a row says that its codes begin
 
-row-begins : (first : ℕ) (d : Definition) (more : List ℕ) → getElem? (rowWords first d ++ more) 10 ≡ some first
+row-begins : (first start end : ℕ) (d : Definition) (more : List ℕ) → getElem? (rowWords first start end d ++ more) 10 ≡ some first
 unfolding rowWords
-row-begins first d more = go (d .form)
+row-begins first start end d more = go (d .form)
   where
-    go : (f : Form) → getElem? ((formWords f ++ behindForm first d) ++ more) 10 ≡ some first
+    go : (f : Form) → getElem? ((formWords f ++ behindForm first start end d) ++ more) 10 ≡ some first
     go (struct fs) = refl
     go (func ps rs) = refl
 
-rows-begin : (ds : List Definition) (first x : ℕ) (more : List ℕ) → x < length ds → getElem? (rowsFrom first ds ++ more) (codesBeginAt x) ≡ some (first + length (tableCodes (take x ds)))
+rows-begin : (start end : ℕ → ℕ) (ds : List Definition) (n first x : ℕ) (more : List ℕ) → x < length ds → getElem? (rowsFrom start end n first ds ++ more) (codesBeginAt x) ≡ some (first + length (tableCodes (take x ds)))
 unfolding rowsFrom
-rows-begin [] first x more h = absurd (omega arith)
-rows-begin (d ∷ ds) first zero more h =
-    let rest = rowsFrom (first + length (formCodes (d .form))) ds in
+rows-begin start end [] n first x more h = absurd (omega arith)
+rows-begin start end (d ∷ ds) n first zero more h =
+    let rest = rowsFrom start end (suc n) (first + length (formCodes (d .form))) ds in
     let none-before : first ≡ first + 0 = omega arith in
-    rw (append-append (rowWords first d) rest more) (row-begins first d (rest ++ more) ∙ ap some none-before)
-rows-begin (d ∷ ds) first (suc x) more h =
+    rw (append-append (rowWords first (start n) (end n) d) rest more) (row-begins first (start n) (end n) d (rest ++ more) ∙ ap some none-before)
+rows-begin start end (d ∷ ds) n first (suc x) more h =
     let codes = formCodes (d .form) in
-    let rest = rowsFrom (first + length codes) ds in
-    let later = rows-begin ds (first + length codes) x more (omega arith) in
-    let at : codesBeginAt (suc x) ≡ length (rowWords first d) + codesBeginAt x = rw (row-length first d) (omega arith) in
+    let rest = rowsFrom start end (suc n) (first + length codes) ds in
+    let later = rows-begin start end ds (suc n) (first + length codes) x more (omega arith) in
+    let at : codesBeginAt (suc x) ≡ length (rowWords first (start n) (end n) d) + codesBeginAt x = rw (row-length first (start n) (end n) d) (omega arith) in
     let all = length-append codes (tableCodes (take x ds)) in
     let sum : first + length codes + length (tableCodes (take x ds)) ≡ first + length (codes ++ tableCodes (take x ds)) = omega arith in
-    ap (getElem? ((rowWords first d ++ rest) ++ more)) at ∙ rw (append-append (rowWords first d) rest more) (further (rowWords first d) (rest ++ more) (codesBeginAt x)) ∙ later ∙ ap some sum
+    ap (getElem? ((rowWords first (start n) (end n) d ++ rest) ++ more)) at ∙ rw (append-append (rowWords first (start n) (end n) d) rest more) (further (rowWords first (start n) (end n) d) (rest ++ more) (codesBeginAt x)) ∙ later ∙ ap some sum
 
 part-few : (x : ℕ) (ds : List Definition) → length (tableCodes (take x ds)) ≤ length (tableCodes ds)
 part-few x ds =
@@ -177,25 +177,25 @@ row-tells j a x inside more = go (decided (ltb x (j .before)))
     many : length (libraryTypes j) ≡ j .before
     many = ap length own ∙ sym before
 
-    split : joinedRows j ++ more ≡ rowsFrom codesSize (libraryTypes j) ++ (rowsFrom 0 (addonTypes j) ++ more)
-    split = append-append (rowsFrom codesSize (libraryTypes j)) (rowsFrom 0 (addonTypes j)) more
+    split : joinedRows j ++ more ≡ rowsFrom (startsOf (j .types)) (endsOf (j .types)) 0 codesSize (libraryTypes j) ++ (rowsFrom (startsOf (j .types)) (endsOf (j .types)) (length (libraryTypes j)) 0 (addonTypes j) ++ more)
+    split = append-append (rowsFrom (startsOf (j .types)) (endsOf (j .types)) 0 codesSize (libraryTypes j)) (rowsFrom (startsOf (j .types)) (endsOf (j .types)) (length (libraryTypes j)) 0 (addonTypes j)) more
 
     go : (ltb x (j .before) ≡ true) ⊎ (ltb x (j .before) ≡ false) → RowTells (joinedRows j ++ more) j x
     go (inl below) =
         let less : x < j .before = ltb-true _ _ below in
-        let there = rows-begin (libraryTypes j) codesSize x (rowsFrom 0 (addonTypes j) ++ more) (omega (arith, many)) in
+        let there = rows-begin (startsOf (j .types)) (endsOf (j .types)) (libraryTypes j) 0 codesSize x (rowsFrom (startsOf (j .types)) (endsOf (j .types)) (length (libraryTypes j)) 0 (addonTypes j) ++ more) (omega (arith, many)) in
         let part = part-few x (libraryTypes j) in
         a-library-row less (ap (λ (ws : List ℕ). getElem? ws (codesBeginAt x)) split ∙ there) (omega (arith, few))
     go (inr beyond) =
         let past : j .before ≤ x = ltb-false _ _ beyond in
         let all = ap length both in
         let lengths = length-append (libraryTypes j) (addonTypes j) in
-        let rows = rows-length (libraryTypes j) codesSize in
-        let there = rows-begin (addonTypes j) 0 (x - j .before) more (omega (arith, many)) in
+        let rows = rows-length (startsOf (j .types)) (endsOf (j .types)) (libraryTypes j) 0 codesSize in
+        let there = rows-begin (startsOf (j .types)) (endsOf (j .types)) (addonTypes j) (length (libraryTypes j)) 0 (x - j .before) more (omega (arith, many)) in
         let part = part-few (x - j .before) (addonTypes j) in
-        let at : codesBeginAt x ≡ length (rowsFrom codesSize (libraryTypes j)) + codesBeginAt (x - j .before) = omega (arith, many) in
+        let at : codesBeginAt x ≡ length (rowsFrom (startsOf (j .types)) (endsOf (j .types)) 0 codesSize (libraryTypes j)) + codesBeginAt (x - j .before) = omega (arith, many) in
         let from-zero : 0 + length (tableCodes (take (x - j .before) (addonTypes j))) ≡ length (tableCodes (take (x - j .before) (addonTypes j))) = omega arith in
         an-addon-row past
-        (ap (λ (ws : List ℕ). getElem? ws (codesBeginAt x)) split ∙ ap (getElem? (rowsFrom codesSize (libraryTypes j) ++ (rowsFrom 0 (addonTypes j) ++ more))) at
-        ∙ further (rowsFrom codesSize (libraryTypes j)) (rowsFrom 0 (addonTypes j) ++ more) (codesBeginAt (x - j .before)) ∙ there ∙ ap some from-zero)
+        (ap (λ (ws : List ℕ). getElem? ws (codesBeginAt x)) split ∙ ap (getElem? (rowsFrom (startsOf (j .types)) (endsOf (j .types)) 0 codesSize (libraryTypes j) ++ (rowsFrom (startsOf (j .types)) (endsOf (j .types)) (length (libraryTypes j)) 0 (addonTypes j) ++ more))) at
+        ∙ further (rowsFrom (startsOf (j .types)) (endsOf (j .types)) 0 codesSize (libraryTypes j)) (rowsFrom (startsOf (j .types)) (endsOf (j .types)) (length (libraryTypes j)) 0 (addonTypes j) ++ more) (codesBeginAt (x - j .before)) ∙ there ∙ ap some from-zero)
         (omega (arith, few-more))

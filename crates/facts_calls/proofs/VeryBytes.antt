@@ -153,8 +153,8 @@ further [] ys k = rw zero-add
 further (x ∷ xs) ys k = rw suc-add (further xs ys k)
 
 -- what stands in a row behind the words of its form
-abbrev pub behindForm : ℕ → Definition → List ℕ
-behindForm first d =
+abbrev pub behindForm : ℕ → ℕ → ℕ → Definition → List ℕ
+behindForm first start end d =
     flag (d .isOpen)
     ∷ orZero (superOf d)
     ∷ orZero (d .describes)
@@ -164,50 +164,52 @@ behindForm first d =
     ∷ d .reach
     ∷ first
     ∷ (length (d .supers) - 1)
+    ∷ start
+    ∷ end
     ∷ spareWords
 
-pub row-length : (first : ℕ) (d : Definition) → length (rowWords first d) ≡ rowSpan
+pub row-length : (first start end : ℕ) (d : Definition) → length (rowWords first start end d) ≡ rowSpan
 unfolding rowWords
-row-length first d = go (d .form)
+row-length first start end d = go (d .form)
   where
-    go : (f : Form) → length (formWords f ++ behindForm first d) ≡ rowSpan
+    go : (f : Form) → length (formWords f ++ behindForm first start end d) ≡ rowSpan
     go (struct fs) = refl
     go (func ps rs) = refl
 
-row-says : (first : ℕ) (d : Definition) (more : List ℕ) → (getElem? (rowWords first d ++ more) 7 ≡ some (d .from)) × (getElem? (rowWords first d ++ more) 8 ≡ some (d .to))
+row-says : (first start end : ℕ) (d : Definition) (more : List ℕ) → (getElem? (rowWords first start end d ++ more) 7 ≡ some (d .from)) × (getElem? (rowWords first start end d ++ more) 8 ≡ some (d .to))
 unfolding rowWords
-row-says first d more = go (d .form)
+row-says first start end d more = go (d .form)
   where
-    go : (f : Form) → (getElem? ((formWords f ++ behindForm first d) ++ more) 7 ≡ some (d .from)) × (getElem? ((formWords f ++ behindForm first d) ++ more) 8 ≡ some (d .to))
+    go : (f : Form) → (getElem? ((formWords f ++ behindForm first start end d) ++ more) 7 ≡ some (d .from)) × (getElem? ((formWords f ++ behindForm first start end d) ++ more) 8 ≡ some (d .to))
     go (struct fs) = (refl, refl)
     go (func ps rs) = (refl, refl)
 
-pub rows-say : (ds : List Definition) (first x : ℕ) (more : List ℕ) {d : Definition} → getElem? ds x ≡ some d
-    → (getElem? (rowsFrom first ds ++ more) (beginsAt x) ≡ some (d .from)) × (getElem? (rowsFrom first ds ++ more) (endsAt x) ≡ some (d .to))
+pub rows-say : (start end : ℕ → ℕ) (ds : List Definition) (n first x : ℕ) (more : List ℕ) {d : Definition} → getElem? ds x ≡ some d
+    → (getElem? (rowsFrom start end n first ds ++ more) (beginsAt x) ≡ some (d .from)) × (getElem? (rowsFrom start end n first ds ++ more) (endsAt x) ≡ some (d .to))
 unfolding rowsFrom
-rows-say [] first x more e = absurd (none-is-not-some e)
-rows-say (d ∷ ds) first zero more {d = it} e =
+rows-say start end [] n first x more e = absurd (none-is-not-some e)
+rows-say start end (d ∷ ds) n first zero more {d = it} e =
     let same : d ≡ it = cc in
-    let rest = rowsFrom (first + length (formCodes (d .form))) ds in
-    rw (append-append (rowWords first d) rest more, ← same) (row-says first d (rest ++ more))
-rows-say (d ∷ ds) first (suc x) more {d = it} e =
-    let rest = rowsFrom (first + length (formCodes (d .form))) ds in
-    let (a, b) = rows-say ds (first + length (formCodes (d .form))) x more e in
-    let begins : beginsAt (suc x) ≡ length (rowWords first d) + beginsAt x = rw (row-length first d) (omega arith) in
-    let ends : endsAt (suc x) ≡ length (rowWords first d) + endsAt x = rw (row-length first d) (omega arith) in (
-      ap (getElem? ((rowWords first d ++ rest) ++ more)) begins ∙ rw (append-append (rowWords first d) rest more) (further (rowWords first d) (rest ++ more) (beginsAt x)) ∙ a,
-      ap (getElem? ((rowWords first d ++ rest) ++ more)) ends ∙ rw (append-append (rowWords first d) rest more) (further (rowWords first d) (rest ++ more) (endsAt x)) ∙ b,
+    let rest = rowsFrom start end (suc n) (first + length (formCodes (d .form))) ds in
+    rw (append-append (rowWords first (start n) (end n) d) rest more, ← same) (row-says first (start n) (end n) d (rest ++ more))
+rows-say start end (d ∷ ds) n first (suc x) more {d = it} e =
+    let rest = rowsFrom start end (suc n) (first + length (formCodes (d .form))) ds in
+    let (a, b) = rows-say start end ds (suc n) (first + length (formCodes (d .form))) x more e in
+    let begins : beginsAt (suc x) ≡ length (rowWords first (start n) (end n) d) + beginsAt x = rw (row-length first (start n) (end n) d) (omega arith) in
+    let ends : endsAt (suc x) ≡ length (rowWords first (start n) (end n) d) + endsAt x = rw (row-length first (start n) (end n) d) (omega arith) in (
+      ap (getElem? ((rowWords first (start n) (end n) d ++ rest) ++ more)) begins ∙ rw (append-append (rowWords first (start n) (end n) d) rest more) (further (rowWords first (start n) (end n) d) (rest ++ more) (beginsAt x)) ∙ a,
+      ap (getElem? ((rowWords first (start n) (end n) d ++ rest) ++ more)) ends ∙ rw (append-append (rowWords first (start n) (end n) d) rest more) (further (rowWords first (start n) (end n) d) (rest ++ more) (endsAt x)) ∙ b,
     )
 
 -- the rows of both sections
 
-pub rows-length : (ds : List Definition) (first : ℕ) → length (rowsFrom first ds) ≡ length ds * rowSpan
+pub rows-length : (start end : ℕ → ℕ) (ds : List Definition) (n first : ℕ) → length (rowsFrom start end n first ds) ≡ length ds * rowSpan
 unfolding rowsFrom
-rows-length [] first = refl
-rows-length (d ∷ ds) first =
-    let later = rows-length ds (first + length (formCodes (d .form))) in
-    let this = row-length first d in
-    let all = length-append (rowWords first d) (rowsFrom (first + length (formCodes (d .form))) ds) in
+rows-length start end [] n first = refl
+rows-length start end (d ∷ ds) n first =
+    let later = rows-length start end ds (suc n) (first + length (formCodes (d .form))) in
+    let this = row-length first (start n) (end n) d in
+    let all = length-append (rowWords first (start n) (end n) d) (rowsFrom start end (suc n) (first + length (formCodes (d .form))) ds) in
     omega arith
 
 -- an entry of two lists is one of the first, or one of the second
@@ -219,26 +221,26 @@ first-entry (y ∷ xs) ys (suc x) h = first-entry xs ys x (omega arith)
 pub second-entry : {A : Type 0} (xs ys : List A) (x : ℕ) → length xs ≤ x → getElem? (xs ++ ys) x ≡ getElem? ys (x - length xs)
 second-entry xs ys x h = let at : x ≡ length xs + (x - length xs) = omega arith in ap (getElem? (xs ++ ys)) at ∙ further xs ys (x - length xs)
 
-pub both-rows-say : (ls ds : List Definition) (first base x : ℕ) (more : List ℕ) {d : Definition} → getElem? (ls ++ ds) x ≡ some d
-    → (getElem? ((rowsFrom first ls ++ rowsFrom base ds) ++ more) (beginsAt x) ≡ some (d .from)) × (getElem? ((rowsFrom first ls ++ rowsFrom base ds) ++ more) (endsAt x) ≡ some (d .to))
-both-rows-say ls ds first base x more {d} e = go (decided (ltb x (length ls)))
+pub both-rows-say : (start end : ℕ → ℕ) (ls ds : List Definition) (n first m base x : ℕ) (more : List ℕ) {d : Definition} → getElem? (ls ++ ds) x ≡ some d
+    → (getElem? ((rowsFrom start end n first ls ++ rowsFrom start end m base ds) ++ more) (beginsAt x) ≡ some (d .from)) × (getElem? ((rowsFrom start end n first ls ++ rowsFrom start end m base ds) ++ more) (endsAt x) ≡ some (d .to))
+both-rows-say start end ls ds n first m base x more {d} e = go (decided (ltb x (length ls)))
   where
-    split : (rowsFrom first ls ++ rowsFrom base ds) ++ more ≡ rowsFrom first ls ++ (rowsFrom base ds ++ more)
-    split = append-append (rowsFrom first ls) (rowsFrom base ds) more
+    split : (rowsFrom start end n first ls ++ rowsFrom start end m base ds) ++ more ≡ rowsFrom start end n first ls ++ (rowsFrom start end m base ds ++ more)
+    split = append-append (rowsFrom start end n first ls) (rowsFrom start end m base ds) more
 
     go : (ltb x (length ls) ≡ true) ⊎ (ltb x (length ls) ≡ false)
-        → (getElem? ((rowsFrom first ls ++ rowsFrom base ds) ++ more) (beginsAt x) ≡ some (d .from)) × (getElem? ((rowsFrom first ls ++ rowsFrom base ds) ++ more) (endsAt x) ≡ some (d .to))
+        → (getElem? ((rowsFrom start end n first ls ++ rowsFrom start end m base ds) ++ more) (beginsAt x) ≡ some (d .from)) × (getElem? ((rowsFrom start end n first ls ++ rowsFrom start end m base ds) ++ more) (endsAt x) ≡ some (d .to))
     go (inl below) =
         let there : getElem? ls x ≡ some d = sym (first-entry ls ds x (ltb-true _ _ below)) ∙ e in
-        rw split (rows-say ls first x (rowsFrom base ds ++ more) there)
+        rw split (rows-say start end ls n first x (rowsFrom start end m base ds ++ more) there)
     go (inr beyond) =
         let past : length ls ≤ x = ltb-false _ _ beyond in
         let there : getElem? ds (x - length ls) ≡ some d = sym (second-entry ls ds x past) ∙ e in
-        let many = rows-length ls first in
-        let begins : beginsAt x ≡ length (rowsFrom first ls) + beginsAt (x - length ls) = omega arith in
-        let ends : endsAt x ≡ length (rowsFrom first ls) + endsAt (x - length ls) = omega arith in
-        let (a, b) = rows-say ds base (x - length ls) more there in
+        let many = rows-length start end ls n first in
+        let begins : beginsAt x ≡ length (rowsFrom start end n first ls) + beginsAt (x - length ls) = omega arith in
+        let ends : endsAt x ≡ length (rowsFrom start end n first ls) + endsAt (x - length ls) = omega arith in
+        let (a, b) = rows-say start end ds m base (x - length ls) more there in
         rw split (
-          ap (getElem? (rowsFrom first ls ++ (rowsFrom base ds ++ more))) begins ∙ further (rowsFrom first ls) (rowsFrom base ds ++ more) (beginsAt (x - length ls)) ∙ a,
-          ap (getElem? (rowsFrom first ls ++ (rowsFrom base ds ++ more))) ends ∙ further (rowsFrom first ls) (rowsFrom base ds ++ more) (endsAt (x - length ls)) ∙ b,
+          ap (getElem? (rowsFrom start end n first ls ++ (rowsFrom start end m base ds ++ more))) begins ∙ further (rowsFrom start end n first ls) (rowsFrom start end m base ds ++ more) (beginsAt (x - length ls)) ∙ a,
+          ap (getElem? (rowsFrom start end n first ls ++ (rowsFrom start end m base ds ++ more))) ends ∙ further (rowsFrom start end n first ls) (rowsFrom start end m base ds ++ more) (endsAt (x - length ls)) ∙ b,
         )

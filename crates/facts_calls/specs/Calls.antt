@@ -1,6 +1,7 @@
 -- Demand 2, whole, over the public calls: what each call answers, from its own promise alone (scope's specs/Answers.antt).
 -- This page is read with scope/specs, specs/Zero.antt, specs/Lent.antt and specs/Meant.antt, and the relations that these name: Allowed
--- (facts_sections), Derivation (facts_bodies), BodySaysNo (facts_refusals), EndsWell (scope's proofs/Soundness.antt).
+-- (facts_sections), Derivation (facts_bodies), BodySaysNo (facts_refusals), RunsTo (facts_steps), EndsWell (scope's
+-- proofs/Soundness.antt).
 -- proofs/Holds.antt proves it.
 use Prim.Native.Nat.{ℕ, _≤_, _+_, _*_, _<_}
 use mathlib.Core.Path.{_≡_}
@@ -18,6 +19,7 @@ use Rattle.scope.specs.Refusals.{bufferTooSmall}
 use Rattle.scope.specs.declared.Place.{Place}
 use Rattle.scope.specs.Judging.{plain, Joined}
 use Rattle.scope.specs.Bodies.{Body, instructions}
+use Rattle.scope.specs.Machine.{Machine}
 use Rattle.scope.specs.Running.{startOf, programOf}
 use Rattle.scope.specs.Memory.{joinedRows, joinedShared, joinedCodes, StateWords, stateWords}
 use Rattle.scope.specs.Answers.{machineOf, SectionJudged, BodyJudged, RunMemory, RunTried}
@@ -25,6 +27,7 @@ use Rattle.scope.proofs.Soundness.{Trap, RanSoundly}
 use Rattle.facts_sections.specs.Allowed.{Allowed}
 use Rattle.facts_sections.specs.FirstFault.{Refused}
 use Rattle.facts_runs.specs.Counting.{taken, allocations, hasLoop}
+use Rattle.facts_steps.specs.Runs.{Begins, RunsTo}
 use Rattle.facts_refusals.specs.Sections.{SaysNo}
 use Rattle.facts_refusals.specs.Bodies.{BodySaysNo, BodyPlace}
 use Rattle.facts_calls.specs.Zero.{Zero, Holds, ZeroBeyond}
@@ -119,6 +122,9 @@ module _ {library section s : List ℕ} {x budget : ℕ} {m m′ : RunMemory} {r
     -- The answer and the six buffers are those of the written steps: of a run that is done, at a trap or spent after exactly the
     -- steps that it says, each of them a `step` from `startOf b` on.
     pub ran : (b : Body) → RunSuffices m → CanRun library section s x budget b → RanSoundly s b budget m m′ r
+    -- By the written rules: from a machine that begins as document 01 says, a rule for each step leads to that ending.
+    pub ruled : (b : Body) (t : RunSuffices m) (c : CanRun library section s x budget b) (first : Machine) → Begins b first
+        → RunsTo (programOf b) budget 0 first (ran b t c .ending)
     -- "Lent memory then holds the heap, .. and zero beyond"
     pub state : (b : Body) (t : RunSuffices m) (c : CanRun library section s x budget b) → HoldsState (stateWords s (machineOf (ran b t c .ending))) (m′ .state)
     -- and done, at a trap or spent only where the buffers suffice and the body can be run

@@ -5,7 +5,7 @@ use Prim.Native.Nat.{ℕ}
 use mathlib.Core.Path.{_≡_}
 use mathlib.Core.Bool.{true, false}
 use mathlib.Core.List.{List, [], _∷_, _++_, map}
-use lib.ListN.{length}
+use lib.ListN.{length, replicate}
 use Rattle.scope.specs.Refusals.{bytesEnd, badNumber, notListed, padded}
 use Rattle.scope.specs.Reading.{Read, got, refused}
 use Rattle.scope.specs.Abstract.{ANY, EQ}
@@ -87,6 +87,25 @@ numericRead = map (λ b. got (op (numeric b)) 1) (upward 0x45 128)
 abbrev pub unlisted : List ℕ
 unlisted = upward 0x04 7 ++ 0x0E ∷ upward 0x10 10 ++ upward 0x1B 5 ++ upward 0x23 30 ++ upward 0xC5 11 ++ 0xD2 ∷ upward 0xD5 38 ++ upward 0xFC 4
 
+-- FB and each number of one byte, and nothing more: the number's code is not listed, or its first immediate is missing
+abbrev pub numbersFB : List (Read Instr)
+numbersFB =
+    -- 00 to 02, 05
+    replicate 3 (refused bytesEnd 2)
+    ++ replicate 2 (refused notListed 1)
+    ++ refused bytesEnd 2
+    -- 14 to 19
+    ∷ replicate 14 (refused notListed 1)
+    ++ replicate 6 (refused bytesEnd 2)
+    -- 20 to 26
+    ++ replicate 6 (refused notListed 1)
+    ++ replicate 7 (refused bytesEnd 2)
+    ++ replicate 0x59 (refused notListed 1)
+
+-- and each from 128 to 255, of two bytes
+abbrev pub twoBytesFB : List (Read Instr)
+twoBytesFB = replicate 128 (refused notListed 1)
+
 pub record No : Type 0 where
   pub bytes : List ℕ
   pub says : Read Instr
@@ -130,6 +149,23 @@ faulty =
     ∷ record { bytes = 0x42 ∷ 0x80 ∷ 0x80 ∷ 0x80 ∷ 0x80 ∷ 0x80 ∷ 0x80 ∷ 0x80 ∷ 0x80 ∷ 0xC0 ∷ 0x7F ∷ []; says = refused padded 1 }
     ∷ record { bytes = 0x41 ∷ 0x80 ∷ 0x80 ∷ 0x80 ∷ 0x80 ∷ 0x80 ∷ 0x00 ∷ []; says = refused badNumber 1 }
     ∷ record { bytes = 0x41 ∷ 0x80 ∷ 0x80 ∷ []; says = refused bytesEnd 1 }
+    -- "flags 0 to 3": a code byte of its own, said before the label is read, in each of the four
+    ∷ record { bytes = 0xFB ∷ 0x18 ∷ 0x04 ∷ 0x80 ∷ []; says = refused notListed 2 }
+    ∷ record { bytes = 0xFB ∷ 0x19 ∷ 0x05 ∷ 0x01 ∷ 0x6D ∷ 0x6D ∷ []; says = refused notListed 2 }
+    ∷ record { bytes = 0xFB ∷ 0x25 ∷ 0x06 ∷ 0x01 ∷ 0x6D ∷ 0x62 ∷ 0x03 ∷ []; says = refused notListed 2 }
+    ∷ record { bytes = 0xFB ∷ 0x26 ∷ 0x07 ∷ 0x01 ∷ 0x6D ∷ 0x62 ∷ 0x03 ∷ []; says = refused notListed 2 }
+    ∷ record { bytes = 0xFB ∷ 0x18 ∷ []; says = refused bytesEnd 2 }
+    -- a block's type, a heap type that is negative and no abstract code, and the number after 62
+    ∷ record { bytes = 0x02 ∷ 0x00 ∷ []; says = refused notListed 1 }
+    ∷ record { bytes = 0x03 ∷ []; says = refused bytesEnd 1 }
+    ∷ record { bytes = 0x02 ∷ 0x63 ∷ 0x69 ∷ []; says = refused notListed 2 }
+    ∷ record { bytes = 0xD0 ∷ 0x69 ∷ []; says = refused notListed 1 }
+    ∷ record { bytes = 0xD0 ∷ 0x62 ∷ []; says = refused bytesEnd 2 }
+    ∷ record { bytes = 0xFB ∷ 0x14 ∷ 0x74 ∷ []; says = refused notListed 2 }
+    -- each label, source and target at its own first byte
+    ∷ record { bytes = 0xFB ∷ 0x18 ∷ 0x00 ∷ []; says = refused bytesEnd 3 }
+    ∷ record { bytes = 0xFB ∷ 0x18 ∷ 0x00 ∷ 0x01 ∷ 0x69 ∷ 0x6D ∷ []; says = refused notListed 4 }
+    ∷ record { bytes = 0xFB ∷ 0x18 ∷ 0x00 ∷ 0x01 ∷ 0x6D ∷ 0x69 ∷ []; says = refused notListed 5 }
     -- the range ends at C4, and FC begins no instruction
     ∷ record { bytes = 0xC5 ∷ []; says = refused notListed 0 }
     ∷ record { bytes = 0xFC ∷ 0x00 ∷ []; says = refused notListed 0 }

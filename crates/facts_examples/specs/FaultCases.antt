@@ -74,6 +74,19 @@ byteCases =
       mended = 0x02 ∷ 0x5F ∷ 0x00 ∷ 0x5F ∷ 0x80 ∷ 0x80 ∷ 0x80 ∷ 0x80 ∷ 0x80 ∷ [];
       saidThen = record { number = badNumber; place = 4 };
     }
+    -- a field that is neither fixed nor mutable, at that byte, before a field's type that is not listed; and where that byte is missing
+    ∷ record {
+      bytes = 0x01 ∷ 0x5F ∷ 0x02 ∷ 0x7F ∷ 0x02 ∷ 0x7B ∷ 0x00 ∷ [];
+      said = record { number = notListed; place = 4 };
+      mended = 0x01 ∷ 0x5F ∷ 0x02 ∷ 0x7F ∷ 0x01 ∷ 0x7B ∷ 0x00 ∷ [];
+      saidThen = record { number = notListed; place = 5 };
+    }
+    ∷ record {
+      bytes = 0x01 ∷ 0x5F ∷ 0x02 ∷ 0x63 ∷ 0x00 ∷ 0xFF ∷ 0x7E ∷ [];
+      said = record { number = notListed; place = 5 };
+      mended = 0x01 ∷ 0x5F ∷ 0x02 ∷ 0x63 ∷ 0x00 ∷ 0x00 ∷ 0x7E ∷ [];
+      saidThen = record { number = bytesEnd; place = 7 };
+    }
     -- a number out of range before that it is negative
     ∷ record {
       bytes = 0x01 ∷ 0x5F ∷ 0x01 ∷ 0x63 ∷ 0x80 ∷ 0x80 ∷ 0x80 ∷ 0x80 ∷ 0x60 ∷ 0x00 ∷ [];

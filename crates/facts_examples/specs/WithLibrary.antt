@@ -62,15 +62,15 @@ numbers =
     -- the add-on may mention the library's, and its own
     ∷ record { computed = take 2 (sectionWords oneStruct (0x01 ∷ 0x5F ∷ 0x02 ∷ 0x63 ∷ 0x00 ∷ 0x00 ∷ 0x63 ∷ 0x01 ∷ 0x00 ∷ [])); says = 1 ∷ 2 ∷ [] }
     ∷ record { computed = sectionWords oneStruct (0x01 ∷ 0x5F ∷ 0x01 ∷ 0x63 ∷ 0x02 ∷ 0x00 ∷ []); says = atType 6 1 }
-    -- rows of both, and where their codes begin; the definitions' places count in the section that holds them
+    -- rows of both, where their codes begin, and the ranges (the library's type 1 to 3, the one below it 2 to 3); the definitions' places count in the section that holds them
     ∷ record {
       computed = sectionWords openStruct belowIt;
-      says = (1 ∷ 2 ∷ []) ++ (1 ∷ 0 ∷ 0 ∷ 1 ∷ 0 ∷ 0 ∷ 0 ∷ 1 ∷ 5 ∷ 1 ∷ 32_768 ∷ 0 ∷ 0 ∷ 0 ∷ 0 ∷ 0 ∷ []) ++ (1 ∷ 0 ∷ 0 ∷ 0 ∷ 1 ∷ 0 ∷ 0 ∷ 1 ∷ 6 ∷ 2 ∷ 0 ∷ 0 ∷ 0 ∷ 0 ∷ 0 ∷ 0 ∷ []);
+      says = (1 ∷ 2 ∷ []) ++ (1 ∷ 0 ∷ 0 ∷ 1 ∷ 0 ∷ 0 ∷ 0 ∷ 1 ∷ 5 ∷ 1 ∷ 32_768 ∷ 0 ∷ 1 ∷ 3 ∷ 0 ∷ 0 ∷ []) ++ (1 ∷ 0 ∷ 0 ∷ 0 ∷ 1 ∷ 0 ∷ 0 ∷ 1 ∷ 6 ∷ 2 ∷ 0 ∷ 0 ∷ 2 ∷ 3 ∷ 0 ∷ 0 ∷ []);
     }
     -- codes of the library, then of the add-on: an i32; a mutable (ref null 0) and an i64
     ∷ record {
       computed = sectionWords (0x01 ∷ 0x5F ∷ 0x01 ∷ 0x7F ∷ 0x00 ∷ []) (0x01 ∷ 0x5F ∷ 0x02 ∷ 0x63 ∷ 0x00 ∷ 0x01 ∷ 0x7E ∷ 0x00 ∷ []);
-      says = (1 ∷ 2 ∷ []) ++ (1 ∷ 1 ∷ 0 ∷ 0 ∷ 0 ∷ 0 ∷ 0 ∷ 1 ∷ 5 ∷ 1 ∷ 32_768 ∷ 0 ∷ 0 ∷ 0 ∷ 0 ∷ 0 ∷ []) ++ (1 ∷ 2 ∷ 0 ∷ 0 ∷ 0 ∷ 0 ∷ 0 ∷ 1 ∷ 8 ∷ 2 ∷ 0 ∷ 0 ∷ 0 ∷ 0 ∷ 0 ∷ 0 ∷ []) ++ (0 ∷ []) ++ (51 ∷ 2 ∷ []);
+      says = (1 ∷ 2 ∷ []) ++ (1 ∷ 1 ∷ 0 ∷ 0 ∷ 0 ∷ 0 ∷ 0 ∷ 1 ∷ 5 ∷ 1 ∷ 32_768 ∷ 0 ∷ 1 ∷ 2 ∷ 0 ∷ 0 ∷ []) ++ (1 ∷ 2 ∷ 0 ∷ 0 ∷ 0 ∷ 0 ∷ 0 ∷ 1 ∷ 8 ∷ 2 ∷ 0 ∷ 0 ∷ 2 ∷ 3 ∷ 0 ∷ 0 ∷ []) ++ (0 ∷ []) ++ (51 ∷ 2 ∷ []);
     }
     -- the supertype chain is counted over both
     ∷ record { computed = sectionWords longChain (0x01 ∷ 0x50 ∷ 0x01 ∷ 0x3F ∷ 0x5F ∷ 0x00 ∷ []); says = atType 4 64 }

@@ -10,6 +10,8 @@ use Rattle.scope.proofs.Impossible.{impossible}
 use Rattle.scope.proofs.Truths.{decided}
 use Rattle.scope.proofs.Accepted.{Passes, accepted-passes}
 use Rattle.scope.proofs.Order.{tested-value-order, value-order-tested}
+use Rattle.scope.specs.BodyRules.{value}
+use Rattle.scope.specs.Bodies.{known, fits, fit}
 use Rattle.facts_nulls.specs.Outcomes.{Below, BelowButForNull, NotBelow, ThreeOutcomes}
 
 -- of a type that is not below, only a nullable reference becomes another by being made non-null
@@ -111,12 +113,17 @@ module _ {ds : List Definition} (passes : Passes ds) (v w : Val) where
     λ t. would-back (typesOf ds) v w (not-tested (t .0), (t .1 .0, t .1 .1, value-order-tested passes (nonNull (t .1 .0)) w (t .1 .2))),
   )
 
+of-operand : (ts : Types) (v w : Val) → fit ts (known v) (value w) ≡ valFit ts v w
+unfolding fit fits valFit
+of-operand ts v w = refl
+
 pub three-outcomes : ThreeOutcomes
 three-outcomes =
     record {
       fits = λ ts v w. (fits-below ts v w, below-fits ts v w);
       would = λ ts v w. (would-said ts v w, would-back ts v w);
       not = λ ts v w. (not-said ts v w, not-back ts v w);
+      operand = of-operand;
       one = one-of;
       apart = λ ts v w. (fits-or-would ts v w, fits-or-not ts v w, would-or-not ts v w);
       related = λ library section j e v w. (fits-related (accepted-passes library section e) v w, would-related (accepted-passes library section e) v w);

@@ -7,6 +7,8 @@ use mathlib.Core.List.{List}
 use Rattle.scope.specs.Syntax.{Heap, Val, nullable, nonNull, Types, typesOf}
 use Rattle.scope.specs.Order.{itFits, butForNull, unfit, ValOrder, valBelow, valFit}
 use Rattle.scope.specs.Judging.{accepted, Joined, judgeJoined}
+use Rattle.scope.specs.BodyRules.{value}
+use Rattle.scope.specs.Bodies.{known, fit}
 
 -- below
 abbrev pub Below : Types → Val → Val → Type 0
@@ -25,6 +27,8 @@ pub record ThreeOutcomes : Type 0 where
   pub fits : (ts : Types) (v w : Val) → (valFit ts v w ≡ itFits) ↔ Below ts v w
   pub would : (ts : Types) (v w : Val) → (valFit ts v w ≡ butForNull) ↔ BelowButForNull ts v w
   pub not : (ts : Types) (v w : Val) → (valFit ts v w ≡ unfit) ↔ NotBelow ts v w
+  -- the test that serves an operand of known type is this test
+  pub operand : (ts : Types) (v w : Val) → fit ts (known v) (value w) ≡ valFit ts v w
   -- one of them always is the outcome
   pub one : (ts : Types) (v w : Val) → (valFit ts v w ≡ itFits) ⊎ ((valFit ts v w ≡ butForNull) ⊎ (valFit ts v w ≡ unfit))
   -- and of what the order says for each, no two hold of the same types

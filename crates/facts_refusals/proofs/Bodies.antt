@@ -24,6 +24,8 @@ use Rattle.scope.specs.Bodies.{Code, judgeFrom, localsAt, Function, functionOf,
 use Rattle.scope.proofs.Impossible.{contradiction}
 use Rattle.scope.proofs.Truths.{none-is-not-some}
 use Rattle.scope.proofs.Accepted.{accepted-passes}
+use Rattle.facts_sections.proofs.Exactly.{accepted-exactly}
+use Rattle.facts_sections.proofs.FaultOrder.{refused-exactly}
 use Rattle.facts_bodies.specs.Premises.{ValReached}
 use Rattle.facts_bodies.specs.Typing.{InstrsAt, FunctionType, TypedBody}
 use Rattle.facts_bodies.proofs.Premises.{Ordered, passes-ordered, allBelow, tested-value-reached, value-reached-tested}
@@ -172,13 +174,13 @@ module _ (library section s : List ℕ) (x : ℕ) where
         → given o (rejected notAFunction (plain 0)) (λ f. judgedOf (bodyAt ds f s)) ≡ rejected number place → BodySaysNo library section s x number place
     typed-no small none found e =
         let (a, b) = rejected-one e in
-        as-said (by-type judged small (λ f t. none-is-not-some (sym found ∙ function-found ds x t))) a b
+        as-said (by-type (accepted-exactly library section _ .0 judged) small (λ f t. none-is-not-some (sym found ∙ function-found ds x t))) a b
     typed-no small (some f) found e =
-        read-says f (record { before = many; judged = judged; small = small; isFunction = found-function ds x found }) (bodyAt ds f s) refl e
+        read-says f (record { before = many; allowed = accepted-exactly library section _ .0 judged; small = small; isFunction = found-function ds x found }) (bodyAt ds f s) refl e
 
     sized-no : {number : ℕ} {place : Place} (t : Bool) → ltb mostBytes (length s) ≡ t
         → cond t (rejected oversize (plain 0)) (given (functionOf (typesOf ds x .form)) (rejected notAFunction (plain 0)) (λ f. judgedOf (bodyAt ds f s))) ≡ rejected number place → BodySaysNo library section s x number place
-    sized-no true large e = let (a, b) = rejected-one e in as-said (by-size judged (ltb-true _ _ large)) a b
+    sized-no true large e = let (a, b) = rejected-one e in as-said (by-size (accepted-exactly library section _ .0 judged) (ltb-true _ _ large)) a b
     sized-no false fits e = typed-no (ltb-false _ _ fits) (functionOf (typesOf ds x .form)) refl e
 
   pub body-no : {number : ℕ} {place : Place} → judgeBody library section s x ≡ rejected number place → BodySaysNo library section s x number place
@@ -188,7 +190,7 @@ module _ (library section s : List ℕ) (x : ℕ) where
       go : (v : Judged Joined) → judgeJoined library section ≡ v
           → andThen (andThen v (λ j. accepted (j .types))) (λ ds. cond (ltb mostBytes (length s)) (rejected oversize (plain 0)) (given (functionOf (typesOf ds x .form)) (rejected notAFunction (plain 0)) (λ f. judgedOf (bodyAt ds f s)))) ≡ rejected number place
           → BodySaysNo library section s x number place
-      go (rejected n p) judged f = let (a, b) = rejected-one f in as-said (by-section judged) a b
+      go (rejected n p) judged f = let (a, b) = rejected-one f in as-said (by-section (refused-exactly library section n p .0 judged)) a b
       go (accepted j) judged f = sized-no (j .types) judged (ltb mostBytes (length s)) refl f
 
   no-function : {ds : List Definition} → ((f : Function) → ¬ FunctionType ds x f) → functionOf (typesOf ds x .form) ≡ none
@@ -208,7 +210,7 @@ module _ (library section s : List ℕ) (x : ℕ) where
   module _ {ds : List Definition} {f : Function} (begins : Begins library section s x ds f) where
     begun : judgeBody library section s x ≡ judgedOf (bodyAt ds f s)
     unfolding judgeBody judgeSections
-    begun = rw (begins .judged, le-ltb _ _ (begins .small), function-found ds x (begins .isFunction))
+    begun = rw (accepted-exactly library section _ .1 (begins .allowed), le-ltb _ _ (begins .small), function-found ds x (begins .isFunction))
 
     read-refused : {number place : ℕ} → bodyAt ds f s ≡ refused number place → judgeBody library section s x ≡ rejected number (plain place)
     read-refused e = begun ∙ ap judgedOf e
@@ -224,20 +226,20 @@ module _ (library section s : List ℕ) (x : ℕ) where
     instruction-refused : {ls : List Val} {first number place : ℕ} → LocalsStand s ds f ls first → FirstFaulty (contextOf ds f ls) (startState f ls) s first number place → bodyAt ds f s ≡ refused number place
     unfolding bodyAt
     instruction-refused {ls} stand faulty =
-        rw (stand .counted, locals-got s (length ds) (stand .reads) (stand .locals), faulty-refused (contextOf ds f ls) (ordered ds (begins .judged)) s (length s) (faulty .reads) (faulty .derivable) (faulty .faulty) (omega arith))
+        rw (stand .counted, locals-got s (length ds) (stand .reads) (stand .locals), faulty-refused (contextOf ds f ls) (ordered ds (accepted-exactly library section _ .1 (begins .allowed))) s (length s) (faulty .reads) (faulty .derivable) (faulty .faulty) (omega arith))
 
     rest-refused : {ls : List Val} {is : List Instr} {first stop : ℕ} → LocalsStand s ds f ls first → InstrsAt s first is stop → TypedBody (contextOf ds f ls) (startState f ls) is
         → ¬ (stop ≡ length s) → bodyAt ds f s ≡ refused leftOver stop
     unfolding bodyAt
     rest-refused {ls} stand reads typed left =
-        let (code, walk, same) = typed-got (contextOf ds f ls) (ordered ds (begins .judged)) s (length s) typed reads (omega arith) in
+        let (code, walk, same) = typed-got (contextOf ds f ls) (ordered ds (accepted-exactly library section _ .1 (begins .allowed))) s (length s) typed reads (omega arith) in
         rw (stand .counted, locals-got s (length ds) (stand .reads) (stand .locals), walk, not-at-end left)
 
   pub no-body : {number : ℕ} {place : Place} → BodySaysNo library section s x number place → judgeBody library section s x ≡ rejected number place
   unfolding judgeBody judgeSections
-  no-body (by-section judged) = rw judged
-  no-body (by-size judged large) = rw (judged, lt-ltb _ _ large)
-  no-body (by-type judged small no-type) = rw (judged, le-ltb _ _ small, no-function no-type)
+  no-body (by-section no′) = rw (refused-exactly library section _ _ .1 no′)
+  no-body (by-size allowed large) = rw (accepted-exactly library section _ .1 allowed, lt-ltb _ _ large)
+  no-body (by-type allowed small no-type) = rw (accepted-exactly library section _ .1 allowed, le-ltb _ _ small, no-function no-type)
   no-body (by-count begins e) = read-refused begins (count-refused begins e)
   no-body (by-locals begins counted faulty) = read-refused begins (locals-refused begins counted faulty)
   no-body (by-instruction begins stand faulty) = read-refused begins (instruction-refused begins stand faulty)

@@ -19,6 +19,7 @@ use Rattle.scope.specs.Bodies.{State, scopeOf, Function}
 use Rattle.scope.proofs.Computes.{computes}
 use Rattle.scope.proofs.Forward.{never-back, unsigned-takes, val-takes}
 use Rattle.scope.proofs.ForwardBodies.{instr-takes}
+use Rattle.facts_sections.proofs.FaultOrder.{refused-exactly}
 use Rattle.facts_sections.specs.FirstFault as rules
 use Rattle.facts_sections.specs.FirstFault.{FirstBroken, broken, kept-then}
 use Rattle.facts_codes.specs.Proper.{CodeListed, ProperOp, Proper}
@@ -202,7 +203,7 @@ module _ (library section s : List ℕ) (x : ℕ) where
   stand-end stand = entries-end (number-end 0 (stand .counted)) (stand .reads)
 
   said-place : {number : ℕ} {place : Place} → BodySaysNo library section s x number place → BodyPlace library section s x number place
-  said-place (by-section {number = n} {place = p} judged) = of-section (says-no library section n p judged)
+  said-place (by-section {number = n} {place = p} no′) = of-section (says-no library section n p (refused-exactly library section n p .1 no′))
   said-place (by-size judged large) = of-whole-size
   said-place (by-type judged small no-type) = of-type-number
   said-place (by-count begins e) = bytes-place (unsigned-heeds 32 .heeds s 0 (omega arith)) e

@@ -16,11 +16,12 @@ use Rattle.scope.specs.Syntax.{Heap, Val, nullable, nonNull, Definition, Types}
 use Rattle.scope.specs.Order.{ValOrder, valBelow}
 use Rattle.scope.specs.Sections.{valAt}
 use Rattle.scope.specs.declared.Place.{Place}
-use Rattle.scope.specs.Judging.{plain, accepted, rejected, Joined, judgeJoined}
+use Rattle.scope.specs.Judging.{plain, rejected, Joined}
 use Rattle.scope.specs.Instructions.{Op, Instr, block, loop, end, op, instrAt}
 use Rattle.scope.specs.BodyRules.{Context, Wanted, Plan, fault, fromTop}
 use Rattle.scope.specs.Bodies.{Operand, known, Frame, ofBlock, ofLoop, State, scopeOf, goesOn, judgeInstr, Function, startState, contextOf, judgeBody}
-use Rattle.facts_sections.specs.FirstFault.{FirstBroken}
+use Rattle.facts_sections.specs.Allowed.{Allowed}
+use Rattle.facts_sections.specs.FirstFault.{FirstBroken, Refused}
 use Rattle.facts_sections.specs.FirstFault as rules
 use Rattle.facts_bodies.specs.Premises.{Each, ValReached, Meets, Takes, Puts}
 use Rattle.facts_bodies.specs.Rules.{Rule}
@@ -152,7 +153,7 @@ pub data FaultyEntry (count : ℕ) (s : List ℕ) : ℕ → ℕ → ℕ → ℕ 
 -- the sections are allowed, the body's size too, and x is the number of a function type of the joined list
 pub record Begins (library section s : List ℕ) (x : ℕ) (ds : List Definition) (f : Function) : Type 0 where
   pub before : ℕ
-  pub judged : judgeJoined library section ≡ accepted (record { before = before; types = ds })
+  pub allowed : Allowed library section (record { before = before; types = ds })
   pub small : length s ≤ mostBytes
   pub isFunction : FunctionType ds x f
 
@@ -166,11 +167,11 @@ pub record LocalsStand (s : List ℕ) (ds : List Definition) (f : Function) (ls 
 
 pub data BodySaysNo (library section s : List ℕ) (x : ℕ) : ℕ → Place → Type 1 where
   -- "section,
-  by-section : {number : ℕ} {place : Place} → judgeJoined library section ≡ rejected number place → BodySaysNo library section s x number place
+  by-section : {number : ℕ} {place : Place} → Refused library section number place → BodySaysNo library section s x number place
   -- body size,
-  by-size : {j : Joined} → judgeJoined library section ≡ accepted j → mostBytes < length s → BodySaysNo library section s x oversize (plain 0)
+  by-size : {j : Joined} → Allowed library section j → mostBytes < length s → BodySaysNo library section s x oversize (plain 0)
   -- 27,
-  by-type : {j : Joined} → judgeJoined library section ≡ accepted j → length s ≤ mostBytes → ((f : Function) → ¬ FunctionType (j .types) x f)
+  by-type : {j : Joined} → Allowed library section j → length s ≤ mostBytes → ((f : Function) → ¬ FunctionType (j .types) x f)
       → BodySaysNo library section s x notAFunction (plain 0)
   -- the locals entry by entry (bytes, 6, 4),
   by-count : {ds : List Definition} {f : Function} {number place : ℕ} → Begins library section s x ds f → u32 s 0 ≡ refused number place

@@ -31,14 +31,14 @@ only-cells : {heap : Store} {n : ℕ} → Cells heap n → cellsOf heap ≡ n
 only-cells no-cells = refl
 only-cells (more-cells more) = rw (only-cells more)
 
-no-room : (heap : Store) (n : ℕ) → hasRoom heap n ≡ false → NoRoom heap n
+pub no-room : (heap : Store) (n : ℕ) → hasRoom heap n ≡ false → NoRoom heap n
 no-room heap n e = go (ltb (length heap) mostObjects) refl e
   where
     go : (t : Bool) → ltb (length heap) mostObjects ≡ t → t && leb (cellsOf heap + n) mostCells ≡ false → NoRoom heap n
     go true few f = let many = leb-false _ _ f in too-few-cells (cells-stand heap) many
     go false many f = all-objects (ltb-false _ _ many)
 
-room-none : (heap : Store) (n : ℕ) → NoRoom heap n → hasRoom heap n ≡ false
+pub room-none : (heap : Store) (n : ℕ) → NoRoom heap n → hasRoom heap n ≡ false
 room-none heap n full = go (hasRoom heap n) refl full
   where
     go : (t : Bool) → hasRoom heap n ≡ t → NoRoom heap n → t ≡ false

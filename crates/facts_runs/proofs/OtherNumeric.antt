@@ -43,11 +43,11 @@ missing-among b (r ∷ rows) e (is-later among) = go (eqb b (r .0)) e (λ f. mis
 pub lines-are-done : codesOf deeds ≡ doneCodes
 lines-are-done = refl
 
-no-line : (b : ℕ) → deedOf b ≡ none → ¬ Among b doneCodes
+pub no-line : (b : ℕ) → deedOf b ≡ none → ¬ Among b doneCodes
 unfolding deedOf
 no-line b e among = missing-among b deeds e (rw lines-are-done among)
 
-not-listed : (b : ℕ) → ¬ Among b doneCodes → deedOf b ≡ none
+pub not-listed : (b : ℕ) → ¬ Among b doneCodes → deedOf b ≡ none
 unfolding deedOf
 not-listed b no′ = go (find b deeds) refl
   where

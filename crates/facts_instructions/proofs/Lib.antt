@@ -1,0 +1,5 @@
+pub mod Reading
+pub mod Exactly
+pub mod Faults
+pub mod InstructionFaults
+pub mod Examples

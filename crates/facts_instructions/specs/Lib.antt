@@ -1,0 +1,4 @@
+pub mod Writing
+pub mod Laws
+pub mod Faults
+pub mod InstructionFaults

@@ -1,0 +1,3 @@
+pub mod StateLayout
+pub mod Laws
+pub mod Pinned

@@ -1,0 +1,12 @@
+pub mod Places
+pub mod Said
+pub mod Numbers
+pub mod Casts
+pub mod Branches
+pub mod Making
+pub mod Told
+pub mod Is
+pub mod Trapped
+pub mod Laws
+pub mod Runs
+pub mod Examples

@@ -1,0 +1,10 @@
+pub mod Places
+pub mod Numbers
+pub mod Casts
+pub mod Making
+pub mod Branches
+pub mod Trapping
+pub mod Rules
+pub mod Laws
+pub mod Samples
+pub mod Runs
