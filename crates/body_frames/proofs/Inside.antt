@@ -143,7 +143,7 @@ module _ {work work′ : List ℕ} {count at : ℕ} {st : Check} (o : Opening wo
       rw
       (e .isLoop′, e .result′, e .base′, e .height′, e .dead′, flag-back isLoop, flag-back (st .dead), result-is result small, os, outer, sets-alike alike (o .upright .few) (st .depth + 1) (omega arith))
 
-  opened : stateAt work′ count r ≡ record { frames = frameOf isLoop (blockResults result) (stack work (st .base) (st .height)) (st .dead) (setsAt work (st .depth + 1) 0 count) ∷ framesAt work count (st .depth); operands = []; dead = false; isSet = setsAt work (st .depth + 1) 0 count }
+  pub opened : stateAt work′ count r ≡ record { frames = frameOf isLoop (blockResults result) (stack work (st .base) (st .height)) (st .dead) (setsAt work (st .depth + 1) 0 count) ∷ framesAt work count (st .depth); operands = []; dead = false; isSet = setsAt work (st .depth + 1) 0 count }
   unfolding stateAt framesAt stack
   opened =
       let deeper : st .depth + 1 + 1 ≡ st .depth + 2 = omega arith in
@@ -151,7 +151,7 @@ module _ {work work′ : List ℕ} {count at : ℕ} {st : Check} (o : Opening wo
       let sets = ap (λ (m : ℕ). setsAt work′ m 0 count) deeper ∙ sets-inside work′ (e .below) (e .stamp′) (o .upright .few) (o .stamped) in
       rw (e .check) (λ i. record { frames = frames i; operands = []; dead = false; isSet = sets i })
 
-  opened-upright : Upright work′ count r
+  pub opened-upright : Upright work′ count r
   opened-upright =
       let under : Rests work′ (st .depth) (frameWord work′ (st .depth + 2) baseWord) = rw (e .base′) (rests-alike (st .depth) below (o .upright .rests)) in
       let sum : st .base + st .height ≡ frameWord work′ (st .depth + 2) baseWord + frameWord work′ (st .depth + 2) heightWord = rw (e .base′, e .height′) in
@@ -165,7 +165,7 @@ module _ {work work′ : List ℕ} {count at : ℕ} {st : Check} (o : Opening wo
         rests = rw (add-one (st .depth)) rests;
       })
 
-  opened-stamped : Stamped work′ count (r .depth) (at + 1)
+  pub opened-stamped : Stamped work′ count (r .depth) (at + 1)
   opened-stamped = rw (e .check) (record { locals = locals; frames = frames })
     where
       locals : (i : ℕ) → i < count → getD work′ (stampsFrom + i) 0 < at + 1

@@ -26,7 +26,7 @@ fn result_reached(types: u16, result: u64) -> bool
 }
 
 // The frame is written, and the check stands in it.
-fn enter(work: &mut [u32], check: Check, is_loop: bool, result: u32, at: u32) -> Check
+pub fn enter(work: &mut [u32], check: Check, is_loop: bool, result: u32, at: u32) -> Check
     requires { ⌜ Entering (now work) check ⌝ }
     ensures { λ r. ⌜ Entered (now (work .entry)) (now (work .exit)) check «is_loop» result at r ⌝ }
 {

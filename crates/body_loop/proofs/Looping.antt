@@ -1,159 +1,112 @@
--- One instruction after the other: what is still to be judged, with those before it counted, is what was to be judged.
+-- A run of told instructions, then one turn: what is still to be judged, with those before it counted, is what was to be judged.
 use Prim.Native.Nat.{ℕ, zero, suc, _+_, _-_, _^_, _<_, _≤_}
-use mathlib.Core.Path.{_≡_, refl, sym, ap, ap₂, _∙_}
-use mathlib.Core.Bool.{false}
+use mathlib.Core.Path.{_≡_, refl, sym, ap, _∙_}
 use mathlib.Core.List.{List, [], _∷_}
 use native.Mathlib.Omega.{arith}
-use lib.ListN.{getD, length}
-use mir.Syntax.{w64}
-use mir.Val.{Fits}
-use Rattle.scope.specs.Sizes.{mostTypes, mostLocals}
+use lib.ListN.{length}
 use Rattle.scope.specs.Refusals.{bytesEnd}
-use Rattle.scope.specs.Reading.{Read, got, refused, then}
-use Rattle.scope.specs.Instructions.{Instr, instrAt}
-use Rattle.scope.specs.BodyRules.{Context, Ruled}
-use Rattle.scope.specs.Bodies.{State, Next, Code, onRuled, onNext, judgeInstr, judgeFrom}
-use Rattle.type_table.specs.View.{valAtCode, codesAt, view}
-use Rattle.body_immediates.specs.declared.Instruction.{Instruction}
-use Rattle.body_immediates.specs.declared.InstructionRead.{InstructionRead}
-use Rattle.body_immediates.specs.declared.InstructionRead
-use Rattle.body_immediates.specs.Coding.{instructionOf, instructionIs}
-use Rattle.body_immediates.proofs.Laws.{instruction-got, instruction-refused}
-use Rattle.body_instruction.proofs.Laws.{instruction-ahead}
-use Rattle.body_decoded.specs.Decoded.{instrOf}
-use Rattle.body_decoded.proofs.Short.{read-short}
-use Rattle.body_decoded.proofs.Kept.{instr-kept}
+use Rattle.scope.specs.Reading.{Read, got, refused}
+use Rattle.scope.specs.Bodies.{State, Code, judgeFrom}
+use Rattle.scope.specs.BodyRules.{Context}
 use Rattle.body_state.specs.declared.Check.{Check}
 use Rattle.body_state.specs.declared.Scene.{Scene}
-use Rattle.body_state.specs.declared.Step.{Step}
-use Rattle.body_state.specs.declared.Step
-use Rattle.body_state.specs.State.{valAtWord, contextAt, stateAt, Upright, Stamped, stepOf}
-use Rattle.body_frames.specs.Frames.{Opening}
-use Rattle.body_step.specs.Stepping.{SteppedAt}
+use Rattle.body_state.specs.State.{contextAt, stateAt}
+use Rattle.body_progress.specs.Standing.{checkOf}
+use Rattle.body_progress.specs.declared.Progress.{Progress}
+use Rattle.body_progress.specs.Counted.{counted, judgedOn, Running}
+use Rattle.body_quick.specs.Runs.{Ran}
+use Rattle.body_quick.specs.Runs.{Ready as RunReady}
+use Rattle.body_lap.specs.declared.Lap.{Lap}
+use Rattle.body_lap.specs.declared.Lap
+use Rattle.body_lap.specs.Laps.{Lapping, lapOf, Lapped}
 use Rattle.body_loop.specs.declared.Ended.{Ended}
 use Rattle.body_loop.specs.declared.Ended
-use Rattle.body_loop.specs.Loop.{begin, Begun, endedIs, JudgedFrom}
+use Rattle.body_loop.specs.Loop.{begin, Begun, Ready, endedIs, JudgedFrom}
 
--- the locals' types stand as they stood, and so does what a body is checked against
+abbrev pub endedOf : Read ℕ → Ended
+endedOf (got n stop) = Ended.the-variants.Finished n stop
+endedOf (refused n p) = Ended.the-variants.Refused n p
 
-codes-same : (work work′ : List ℕ) (at n : ℕ) → ((i : ℕ) → i < at + n → getD work′ i 0 ≡ getD work i 0) → codesAt valAtWord work′ at n ≡ codesAt valAtWord work at n
-unfolding codesAt
-codes-same work work′ at zero same = refl
-codes-same work work′ at (suc n) same = ap₂ (λ (w : ℕ) vs. valAtWord w ∷ vs) (same at (omega arith)) (codes-same work work′ (at + 1) n (λ i h. same i (omega arith)))
+ended-counted : (n : ℕ) (o : Read Code) → endedIs n o ≡ endedOf (counted n o)
+ended-counted n (got code stop) = refl
+ended-counted n (refused m p) = refl
 
-context-same : (rows codes work work′ : List ℕ) (k : Scene) → k .locals ≤ mostLocals → ((i : ℕ) → i < mostLocals → getD work′ i 0 ≡ getD work i 0) → contextAt rows codes work′ k ≡ contextAt rows codes work k
-unfolding contextAt
-context-same rows codes work work′ k few same =
-    let locals = codes-same work work′ 0 (k .locals) (λ i h. same i (omega arith)) in
-    λ i. record { types = view rows codes; count = k .types; locals = locals i; results = codesAt valAtCode codes (k .first) (k .results) }
+-- the general path after those that are told
 
--- no stamp is later than the next instruction
-later : {work : List ℕ} {count depth at next : ℕ} → at < next → Stamped work count depth (at + 1) → Stamped work count depth next
-later h s = record { locals = λ i l. let old = s .locals i l in omega arith; frames = λ m l. let old = s .frames m l in omega arith }
+pub lap-ready : {table work : List ℕ} {k : Scene} {s : List ℕ} {state : Progress} → Lapping table work k s state → RunReady table work k s state
+lap-ready p = record { tabled = p .tabled; running = p .running; short = p .short }
 
--- one instruction of the definition
+pub lap-next : {table work work₁ rows codes : List ℕ} {k : Scene} {s : List ℕ} {state run : Progress} → Lapping table work k s state → Ran rows codes work work₁ k s state run → Lapping table work₁ k s run
+lap-next p q = record { tabled = p .tabled; running = q .running; few = p .few; short = p .short }
 
-module _ (left : ℕ) (c : Context) (st : State) (s : List ℕ) (next : ℕ) (more : 0 < left) where
-  one-more : left ≡ suc (left - 1)
-  one-more = omega arith
+pub lap-after : {work work₁ work₂ rows codes : List ℕ} {k : Scene} {s : List ℕ} {state run : Progress} {r : Lap} → Ran rows codes work work₁ k s state run → Lapped rows codes work₁ work₂ k s run r → Lapped rows codes work work₂ k s state r
+lap-after q t = record { answer = q .same ∙ t .answer; running = t .running; further = λ to f. let a = q .further in let b = t .further to f in omega arith; size = t .size ∙ q .size }
 
-  from-refused : {n place : ℕ} → instrAt s next ≡ refused n place → judgeFrom left c st s next ≡ refused n place
-  unfolding judgeFrom
-  from-refused {n} {place} e = ap (λ (l : ℕ). judgeFrom l c st s next) one-more ∙ rw e
-
-  -- what comes after an instruction, by what came of it
-  rest : (j : Instr) (following : ℕ) → Ruled Next → Read Code
-  rest j following v = onRuled v (λ n. refused n next) (λ n. onNext n (λ st′. then (judgeFrom (left - 1) c st′ s following) (λ code stop. got ((next, j) ∷ code) stop)) (got ((next, j) ∷ []) following))
-
-  from-read : {j : Instr} {following : ℕ} → instrAt s next ≡ got j following → judgeFrom left c st s next ≡ rest j following (judgeInstr c st j)
-  unfolding judgeFrom rest
-  from-read e = ap (λ (l : ℕ). judgeFrom l c st s next) one-more ∙ rw e
-
-from-none : {left : ℕ} (c : Context) (st : State) (s : List ℕ) (next : ℕ) → left ≤ 0 → judgeFrom left c st s next ≡ refused bytesEnd next
-unfolding judgeFrom
-from-none {left} c st s next h = let none : left ≡ 0 = omega arith in rw none
-
--- the count
-
-count-one : (before : ℕ) (place : ℕ) (j : Instr) (o : Read Code) → endedIs before (then o (λ code stop. got ((place, j) ∷ code) stop)) ≡ endedIs (before + 1) o
-count-one before place j (got code stop) = let sum : before + suc (length code) ≡ before + 1 + length code = omega arith in rw sum
-count-one before place j (refused n p) = refl
+pub ruleset round-exits = (lap-ready, lap-next, lap-after)
 
 -- the loop
 
-pub record Going (rows codes work₀ : List ℕ) (k : Scene) (s : List ℕ) (at : ℕ) (work : List ℕ) (next count left : ℕ) (st : Check) : Type 0 where
-  pub same : endedIs 0 (judgeFrom (length s) (contextAt rows codes work₀ k) (stateAt work₀ (k .locals) begin) s at) ≡ endedIs count (judgeFrom left (contextAt rows codes work k) (stateAt work (k .locals) st) s next)
-  pub upright : Upright work (k .locals) st
-  pub stamped : Stamped work (k .locals) (st .depth) next
-  pub inside : next ≤ length s
-  pub counted : count + left ≡ length s
+pub record Going (rows codes work₀ : List ℕ) (k : Scene) (s : List ℕ) (at : ℕ) (work : List ℕ) (left : ℕ) (state : Progress) : Type 0 where
+  pub same : endedIs 0 (judgeFrom (length s) (contextAt rows codes work₀ k) (stateAt work₀ (k .locals) begin) s at) ≡ endedOf (judgedOn rows codes k s work state)
+  pub running : Running work k s state
+  pub turns : length s ≤ state .count + left
   pub size : length work ≡ length work₀
 
-pub going-first : (rows codes : List ℕ) {work : List ℕ} {k : Scene} {s : List ℕ} {at : ℕ} → Begun work k s at → Going rows codes work k s at work at 0 (length s) (record { depth = 0; base = 0; height = 0; dead = false })
-going-first rows codes b = record { same = refl; upright = b .upright; stamped = b .stamped; inside = b .inside; counted = omega arith; size = refl }
+all-left : (n : ℕ) → n ≡ n - 0
+all-left n = omega arith
 
-module _ {rows codes work₀ : List ℕ} {k : Scene} {s : List ℕ} {at : ℕ} {work : List ℕ} {next count left : ℕ} {st : Check} (g : Going rows codes work₀ k s at work next count left st) where
+pub going-first : (rows codes : List ℕ) {table work : List ℕ} {k : Scene} {s : List ℕ} {at : ℕ} → Ready table work k s at → Going rows codes work k s at work (length s) (record { count = 0; next = at; depth = 0; base = 0; top = 0; dead = 0 })
+going-first rows codes {work = work} {k = k} {s = s} {at = at} r =
+    let b = r .begun in
+    record {
+      same = ended-counted 0 (judgeFrom (length s) (contextAt rows codes work k) (stateAt work (k .locals) begin) s at) ∙ ap (λ (n : ℕ). endedOf (counted 0 (judgeFrom n (contextAt rows codes work k) (stateAt work (k .locals) begin) s at))) (all-left (length s));
+      running = record { stands = record { upright = b .upright; ordered = record { above = omega arith; low = omega arith }; flag = omega arith }; stamped = b .stamped; inside = b .inside; fewer = omega arith };
+      turns = omega arith;
+      size = refl;
+    }
+
+no-left : (n count left : ℕ) → n ≤ count + left → left ≤ 0 → n - count ≡ 0
+no-left n count left h z = omega arith
+
+from-none : (c : Context) (st : State) (s : List ℕ) (next : ℕ) → judgeFrom 0 c st s next ≡ refused bytesEnd next
+unfolding judgeFrom
+from-none c st s next = refl
+
+module _ {rows codes work₀ : List ℕ} {k : Scene} {s : List ℕ} {at : ℕ} {work : List ℕ} {left : ℕ} {state : Progress} (g : Going rows codes work₀ k s at work left state) where
   pub going-size : length work ≡ length work₀
   going-size = g .size
 
-  judged : {r : Ended} → r ≡ endedIs count (judgeFrom left (contextAt rows codes work k) (stateAt work (k .locals) st) s next) → {work′ : List ℕ} → length work′ ≡ length work → JudgedFrom rows codes work₀ work′ k s at r
-  judged e l = record { answer = e ∙ sym (g .same); size = l ∙ g .size }
+  pub going-out : left ≤ 0 → JudgedFrom rows codes work₀ work k s at (Ended.the-variants.Refused bytesEnd (state .next))
+  going-out z =
+      let none = no-left (length s) (state .count) left (g .turns) z in
+      let c = contextAt rows codes work k in
+      let st = stateAt work (k .locals) (checkOf (state .depth) (state .base) (state .top) (state .dead)) in
+      record {
+        answer = sym (g .same ∙ ap (λ (n : ℕ). endedOf (counted (state .count) (judgeFrom n c st s (state .next)))) none ∙ ap (λ (o : Read Code). endedOf (counted (state .count) o)) (from-none c st s (state .next)));
+        size = g .size;
+      }
 
-  pub going-out : left ≤ 0 → JudgedFrom rows codes work₀ work k s at (Ended.the-variants.Refused bytesEnd next)
-  going-out h = judged (rw (from-none {left = left} (contextAt rows codes work k) (stateAt work (k .locals) st) s next h)) refl
+  pub going-lap : {table : List ℕ} → Ready table work₀ k s at → Lapping table work k s state
+  going-lap r = record { tabled = r .tabled; running = g .running; few = r .begun .few; short = r .begun .short }
 
-  module _ (more : 0 < left) {r : InstructionRead} (a : r ≡ instructionIs (instrAt s next)) where
-    pub going-refused : {n place : ℕ} → r ≡ InstructionRead.the-variants.Refused n place → JudgedFrom rows codes work₀ work k s at (Ended.the-variants.Refused n place)
-    going-refused e = judged (rw (from-refused left (contextAt rows codes work k) (stateAt work (k .locals) st) s next more (instruction-refused (instrAt s next) a e))) refl
+  module _ {lap : Lap} where
+    module _ {work′ : List ℕ} (t : Lapped rows codes work work′ k s state lap) where
+      pub lapped-size : length work′ ≡ length work₀
+      lapped-size = t .size ∙ g .size
 
-    module _ (b : Begun work₀ k s at) {i : Instruction} {following : ℕ} (e : r ≡ InstructionRead.the-variants.Is i following) where
-      pub going-opening : Opening work (k .locals) st next
-      going-opening = record { upright = g .upright; stamped = g .stamped; early = omega (arith, g .inside, b .short) }
+      lapped : {x : Lap} → lap ≡ x → endedIs 0 (judgeFrom (length s) (contextAt rows codes work₀ k) (stateAt work₀ (k .locals) begin) s at) ≡ endedOf (lapOf rows codes k s work′ x)
+      lapped f = g .same ∙ ap endedOf (t .answer) ∙ ap (λ (y : Lap). endedOf (lapOf rows codes k s work′ y)) f
 
-      -- what the definition says of what was read is what it says of the code's instruction
-      read-as : (j : Instr) → instrAt s next ≡ got j following → i ≡ instructionOf j → judgeFrom left (contextAt rows codes work k) (stateAt work (k .locals) st) s next ≡ rest left (contextAt rows codes work k) (stateAt work (k .locals) st) s next more j following (judgeInstr (contextAt rows codes work k) (stateAt work (k .locals) st) (instrOf i))
-      unfolding contextAt
-      read-as j read same =
-          let c = contextAt rows codes work k in
-          let st′ = stateAt work (k .locals) st in
-          let few : c .count ≤ mostTypes = b .few in
-          let one = instr-kept c few st′ j (read-short s next read) in
-          from-read left c st′ s next more read ∙ ap (rest left c st′ s next more j following) (sym (ap (λ (x : Instruction). judgeInstr c st′ (instrOf x)) same ∙ one))
+      pub going-refused : {n place : ℕ} → lap ≡ Lap.the-variants.Refused n place → JudgedFrom rows codes work₀ work′ k s at (Ended.the-variants.Refused n place)
+      going-refused f = record { answer = sym (lapped f); size = t .size ∙ g .size }
 
-      module _ {work′ : List ℕ} {step : Step} (p : SteppedAt work work′ (k .locals) next (judgeInstr (contextAt rows codes work k) (stateAt work (k .locals) st) (instrOf i)) step) where
-        -- the body's verdict from here, by the step
-        here : (j : Instr) → instrAt s next ≡ got j following → i ≡ instructionOf j → judgeFrom left (contextAt rows codes work k) (stateAt work (k .locals) st) s next ≡ rest left (contextAt rows codes work k) (stateAt work (k .locals) st) s next more j following (stepOf work′ (k .locals) step)
-        here j read same = read-as j read same ∙ ap (rest left (contextAt rows codes work k) (stateAt work (k .locals) st) s next more j following) (sym (p .answer))
+      pub going-finished : {n following : ℕ} → lap ≡ Lap.the-variants.Finished n following → JudgedFrom rows codes work₀ work′ k s at (Ended.the-variants.Finished n following)
+      going-finished f = record { answer = sym (lapped f); size = t .size ∙ g .size }
 
-        pub going-fault : {n : ℕ} → step ≡ Step.the-variants.Fault n → JudgedFrom rows codes work₀ work′ k s at (Ended.the-variants.Refused n next)
-        unfolding rest
-        going-fault f = let (j, read, same) = instruction-got (instrAt s next) a e in judged (rw (here j read same, f) refl) (p .size)
+      pub going-turn : {state′ : Progress} → lap ≡ Lap.the-variants.On state′ → 0 < left → Going rows codes work₀ k s at work′ (left - 1) state′
+      going-turn {state′} f h =
+          let further = t .further state′ f in
+          let turns = g .turns in
+          record { same = lapped f; running = t .running state′ f; turns = omega arith; size = t .size ∙ g .size }
 
-        pub going-finished : step ≡ Step.the-variants.Finished → JudgedFrom rows codes work₀ work′ k s at (Ended.the-variants.Finished (count + 1) following)
-        unfolding rest
-        going-finished f = let (j, read, same) = instruction-got (instrAt s next) a e in judged (rw (here j read same, f) refl) (p .size)
-
-        pub count-fits : length s < 2 ^ 64 → Fits w64 (count + 1)
-        count-fits l = record { fits = omega (arith, g .counted) }
-
-        module _ {st′ : Check} (f : step ≡ Step.the-variants.On st′) where
-          turn : (j : Instr) → instrAt s next ≡ got j following → i ≡ instructionOf j → Going rows codes work₀ k s at work′ following (count + 1) (left - 1) st′
-          unfolding rest
-          turn j read same =
-              let ahead = instruction-ahead {s = s} {at = next} a e in
-              let context = context-same rows codes work work′ k (g .upright .few) (p .types) in
-              let next-one = here j read same ∙ ap (λ (x : Step). rest left (contextAt rows codes work k) (stateAt work (k .locals) st) s next more j following (stepOf work′ (k .locals) x)) f in
-              let counted = count-one count next j (judgeFrom (left - 1) (contextAt rows codes work k) (stateAt work′ (k .locals) st′) s following) in
-              record {
-                same = g .same ∙ ap (endedIs count) next-one ∙ counted ∙ ap (λ (c : Context). endedIs (count + 1) (judgeFrom (left - 1) c (stateAt work′ (k .locals) st′) s following)) (sym context);
-                upright = p .upright st′ f;
-                stamped = later (ahead .forward) (p .stamped st′ f);
-                inside = ahead .inside;
-                counted = omega (arith, g .counted);
-                size = p .size ∙ g .size;
-              }
-
-          pub going-turn : Going rows codes work₀ k s at work′ following (count + 1) (left - 1) st′
-          going-turn = let (j, read, same) = instruction-got (instrAt s next) a e in turn j read same
-
-pub ruleset loop-exits = (going-first, going-size, going-out, going-refused, going-opening, going-fault, going-finished, count-fits, going-turn)
+pub ruleset loop-exits = (going-first, going-size, going-out, going-lap, lapped-size, going-refused, going-finished, going-turn)

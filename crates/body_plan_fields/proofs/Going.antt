@@ -62,13 +62,13 @@ pub ruleset found-exits = (field-there, field-beyond, field-refused)
 
 -- struct.get and struct.set
 
-get-is : (ts : Types) (count x i : ℕ) (locals results : List Val) (here : Scope) → planOf (contextOn ts count locals results) here (struct-get x i)
+pub get-is : (ts : Types) (count x i : ℕ) (locals results : List Val) (here : Scope) → planOf (contextOn ts count locals results) here (struct-get x i)
     ≡ andRuled (fieldAt ts count x i) (λ f. takes (value (nullable (defined x)) ∷ []) (values (f .holds ∷ [])))
 unfolding planOf fieldAt structAt
 get-is ts count x i locals results here =
     found-then (ltb x count && true) outOfReach (fieldsOf (ts x .form)) badStruct _ ∙ need-then (test (ltb x count && true) outOfReach (need (fieldsOf (ts x .form)) badStruct allowed)) (λ fs. getElem? fs i) badStruct _
 
-set-is : (ts : Types) (count x i : ℕ) (locals results : List Val) (here : Scope) → planOf (contextOn ts count locals results) here (struct-set x i)
+pub set-is : (ts : Types) (count x i : ℕ) (locals results : List Val) (here : Scope) → planOf (contextOn ts count locals results) here (struct-set x i)
     ≡ andRuled (fieldAt ts count x i) (λ f. changeable f (takes (value (f .holds) ∷ value (nullable (defined x)) ∷ []) (values [])))
 unfolding planOf fieldAt structAt
 set-is ts count x i locals results here =
@@ -88,7 +88,7 @@ module _ {ts : Types} {count x i : ℕ} {r : Field} (a : FieldOf ts count x i r)
   set-refused codes q = record { is = λ locals results here. rw (set-is ts count x i locals results here, refused-is q) }
 
   module _ {c : ℕ} (q : r ≡ Field.the-variants.Is c) where
-    found-is : fieldAt ts count x i ≡ allowed (fieldAtCode c)
+    pub found-is : fieldAt ts count x i ≡ allowed (fieldAtCode c)
     unfolding fieldRuled
     found-is = sym (a .is) ∙ rw q
 

@@ -18,7 +18,7 @@ pub enum Field {
 }
 
 // A field of a type in reach.
-fn field_of(rows: &[u16], shared: &[u16], codes: &[u16], types: u16, x: u64, i: u64) -> Field
+pub fn field_of(rows: &[u16], shared: &[u16], codes: &[u16], types: u16, x: u64, i: u64) -> Field
     ensures { λ r. ⌜ FieldOf (view (now (rows .entry)) (bothCodes (now (shared .entry)) (now (codes .entry)))) types x i r ⌝ }
 {
     let found = body_plan_structs::struct_of(rows, shared, codes, types, x);

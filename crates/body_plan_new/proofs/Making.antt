@@ -26,12 +26,12 @@ use Rattle.body_plan_structs.proofs.Describing.{no-fields, fields-are, struct-s
 -- what each rule asks of the struct that was found
 
 module _ (ts : Types) (count x : ℕ) (locals results : List Val) (here : Scope) where
-  new-is : planOf (contextOn ts count locals results) here (struct-new x)
+  pub new-is : planOf (contextOn ts count locals results) here (struct-new x)
       ≡ andRuled (undescribedAt ts count x) (λ fs. takes (fromTop (holdsOf fs)) (values (nonNull (exact x) ∷ [])))
   unfolding planOf structAt undescribedAt
   new-is = found-then (ltb x count && true) outOfReach (fieldsOf (ts x .form)) badStruct _ ∙ test-then (structAt ts count x) (isNone (ts x .descriptor)) badStruct _
 
-  desc-is : planOf (contextOn ts count locals results) here (struct-new-desc x)
+  pub desc-is : planOf (contextOn ts count locals results) here (struct-new-desc x)
       ≡ andRuled (describedAt ts count x) (λ p. takes (value (nullable (exact (p .1))) ∷ fromTop (holdsOf (p .0))) (values (nonNull (exact x) ∷ [])))
   unfolding planOf structAt describedAt
   desc-is =

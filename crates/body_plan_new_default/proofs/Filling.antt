@@ -42,12 +42,12 @@ module _ {codes : List ℕ} {first n : ℕ} (top x : ℕ) {r : Bool} (e : r ≡ 
 -- what each rule asks of the struct that was found
 
 module _ (ts : Types) (count x : ℕ) (locals results : List Val) (here : Scope) where
-  default-is : planOf (contextOn ts count locals results) here (struct-new-default x)
+  pub default-is : planOf (contextOn ts count locals results) here (struct-new-default x)
       ≡ andRuled (undescribedAt ts count x) (λ fs. defaulted fs (takes [] (values (nonNull (exact x) ∷ []))))
   unfolding planOf structAt undescribedAt
   default-is = found-then (ltb x count && true) outOfReach (fieldsOf (ts x .form)) badStruct _ ∙ test-then (structAt ts count x) (isNone (ts x .descriptor)) badStruct _
 
-  default-desc-is : planOf (contextOn ts count locals results) here (struct-new-default-desc x)
+  pub default-desc-is : planOf (contextOn ts count locals results) here (struct-new-default-desc x)
       ≡ andRuled (describedAt ts count x) (λ p. defaulted (p .0) (takes (value (nullable (exact (p .1))) ∷ []) (values (nonNull (exact x) ∷ []))))
   unfolding planOf structAt describedAt
   default-desc-is =

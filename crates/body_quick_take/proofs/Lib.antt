@@ -1,0 +1,3 @@
+pub mod Takings
+pub mod Tellings
+pub mod Asking
