@@ -7,10 +7,11 @@
 # test: what can be tested without proving anything: the pages, the plain checker, the program, the archive from outside.
 # check: run the gate. compare: the library against the plain checker on COUNT requests. floats: its float operations against
 # the processor's own on PAIRS pairs each. valgrind: the library under it.
+# counts: instructions of the benchmark's inputs, beside those of the last landing.
 # bench: times, to docs/BENCH.md and docs/EMBEDDING.md. figures: code, stack and sums of both machines' archives, to docs/EMBEDDING.md.
 # The library needs the Rattle toolchain's rt, all else cargo, on x86-64 or Arm. With CHELBUGAN_LIB_DIR, a folder with a
 # libchelbugan.a that is there, nothing is proved and rt is not needed.
-.PHONY: all library cargo install install-program uninstall clean demo test check compare floats valgrind bench figures
+.PHONY: all library cargo install install-program uninstall clean demo test check compare floats valgrind counts bench figures
 
 REQUESTS := examples/requests.txt
 SEED := 1
@@ -122,6 +123,9 @@ valgrind: library cargo
 
 bench: library cargo
 	@cd bench && cargo run --release --quiet
+
+counts: library cargo
+	@bench/counts
 
 figures: cargo
 	@bench/figures

@@ -49,8 +49,8 @@ extern "C" {
 /* The version of this header: 10,000 times the first number, 100 times the second, and the third. chelbugan_version() is the
  * archive's. Where the first numbers are equal the calls have one shape, and what this header names means the same; the second
  * number changes with what is accepted, the third with which refusal is given. */
-#define CHELBUGAN_VERSION 20000
-#define CHELBUGAN_VERSION_TEXT "2.0.0"
+#define CHELBUGAN_VERSION 20001
+#define CHELBUGAN_VERSION_TEXT "2.0.1"
 
 /* What each call returns: 0 is a refusal, everything else is a yes. Only a trial run has more than one. */
 #define CHELBUGAN_NO 0
@@ -147,8 +147,8 @@ extern "C" {
 #define CHELBUGAN_ANSWER 4
 
 /* Row x of the table begins at rows[CHELBUGAN_ROW_WORDS * x]: the library's types first, then the add-on's. A number that may
- * be missing is 0 for none, else one more than the number. Words 9 and 11 are the loader's own (docs/LAYOUT.md); words 12 to
- * 15 are 0 and kept for later versions. */
+ * be missing is 0 for none, else one more than the number. Words 9 and 11 are the loader's own (docs/LAYOUT.md); words 14 and
+ * 15 are 0 and kept for later versions. x is below y exactly where x is y, or START of y <= START of x < END of y. */
 #define CHELBUGAN_ROW_WORDS 16
 #define CHELBUGAN_ROW_FORM 0       /* CHELBUGAN_FORM_.. */
 #define CHELBUGAN_ROW_FIELDS 1     /* fields of a struct, parameters of a function */
@@ -161,6 +161,8 @@ extern "C" {
 #define CHELBUGAN_ROW_TO 8         /* offset after its last byte */
 #define CHELBUGAN_ROW_REACH 9      /* it may name the types below this number */
 #define CHELBUGAN_ROW_CODE 10      /* where its codes begin, and which section holds it: below */
+#define CHELBUGAN_ROW_START 12     /* where the range of its subtypes starts: its own place */
+#define CHELBUGAN_ROW_END 13       /* where that range ends */
 #define CHELBUGAN_FORM_STRUCT 1
 #define CHELBUGAN_FORM_FUNCTION 2
 
@@ -236,7 +238,7 @@ extern "C" {
 /* The version of the archive, as CHELBUGAN_VERSION has the header's. A host that takes an archive as it comes asks it first.
  *
  *   if (chelbugan_version() / 10000 == CHELBUGAN_VERSION / 10000)
- *       printf("version %llu\n", (unsigned long long)chelbugan_version());   // version 20000
+ *       printf("version %llu\n", (unsigned long long)chelbugan_version());   // version 20001
  */
 uint64_t chelbugan_version(void);
 

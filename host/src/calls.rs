@@ -40,7 +40,7 @@ pub const BLOCKS: usize = 189;
 
 /// The archive's version that this wrapper is written for, as [`version`] tells it. The first number is that of the calls'
 /// shape.
-pub const VERSION: u64 = 20_000;
+pub const VERSION: u64 = 20_001;
 
 /// What a trial run is lent: scratch, then the state that it leaves.
 pub struct RunMemory<'a> {

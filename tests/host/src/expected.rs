@@ -32,18 +32,37 @@ const IN_SHARED: usize = 32_768;
 /// The library's types first, with their codes in `shared`; then the add-on's.
 pub fn table(types: &[Type]) -> TableWords {
     let mut words = TableWords::default();
-    for found in types {
+    let ranges = ranges(types);
+    for (found, range) in types.iter().zip(ranges) {
         let (codes, more) = match found.input {
             Input::Library => (&mut words.shared, IN_SHARED),
             Input::Addon => (&mut words.codes, 0),
         };
-        words.rows.extend(row(found, more + codes.len()));
+        words.rows.extend(row(found, more + codes.len(), range));
         codes.extend(codes_of(&found.definition.form));
     }
     words
 }
 
-fn row(found: &Type, first_code: usize) -> [u16; 16] {
+/// Where each type stands, from 1 on, and where what is below it ends: types in the order of a walk that goes down to the subtypes
+/// of a type before it goes on to the next, lower numbers first.
+fn ranges(types: &[Type]) -> Vec<(u16, u16)> {
+    fn place(types: &[Type], above: Option<u32>, next: &mut u16, ranges: &mut [(u16, u16)]) {
+        for (number, found) in types.iter().enumerate() {
+            if found.definition.supertypes.first().copied() == above {
+                let start = *next;
+                *next += 1;
+                place(types, Some(number as u32), next, ranges);
+                ranges[number] = (start, *next);
+            }
+        }
+    }
+    let mut ranges = vec![(0, 0); types.len()];
+    place(types, None, &mut 1, &mut ranges);
+    ranges
+}
+
+fn row(found: &Type, first_code: usize, (start, end): (u16, u16)) -> [u16; 16] {
     let Definition { open, supertypes, describes, descriptor, form } = &found.definition;
     let (kind, fields, results) = match form {
         Form::Struct(fields) => (1, fields.len(), 0),
@@ -62,8 +81,8 @@ fn row(found: &Type, first_code: usize) -> [u16; 16] {
         found.reach as u16,
         first_code as u16,
         0,
-        0,
-        0,
+        start,
+        end,
         0,
         0,
     ]

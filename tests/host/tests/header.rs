@@ -379,6 +379,6 @@ fn examples_print_what_they_say() {
     assert!(compiled.expect("a C compiler").success());
     let said = Command::new(&built).output().expect("the examples run");
     let wanted =
-        b"version 20000\n2 types\n\x4F\x01\x00\x5F\x01\x7F\x002 instructions\n2 steps, i32 7\n";
+        b"version 20001\n2 types\n\x4F\x01\x00\x5F\x01\x7F\x002 instructions\n2 steps, i32 7\n";
     assert_eq!(said.stdout, wanted, "{}", String::from_utf8_lossy(&said.stdout));
 }

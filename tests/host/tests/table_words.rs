@@ -16,7 +16,7 @@ const SECTION: [u8; 17] = [
     0x03,
 ];
 
-/// form, fields, results, open; supertype, describes, descriptor; from, to, reach; first code; five words that are 0
+/// form, fields, results, open; supertype, describes, descriptor; from, to, reach; first code; 0; start and end of the range; two words that are 0
 type Row = [u16; 16];
 
 /// The words of a table by hand, zero beyond.
@@ -39,10 +39,10 @@ impl Words {
 fn of_the_pair() -> Words {
     Words {
         rows: vec![
-            [1, 1, 0, 1, 0, 0, 0, 1, 7, 1, 32_768, 0, 0, 0, 0, 0],
-            [2, 1, 1, 0, 0, 0, 0, 7, 13, 2, 32_769, 0, 0, 0, 0, 0],
-            [1, 2, 0, 0, 1, 0, 0, 1, 12, 3, 0, 0, 0, 0, 0, 0],
-            [2, 0, 1, 0, 0, 0, 0, 12, 17, 4, 2, 0, 0, 0, 0, 0],
+            [1, 1, 0, 1, 0, 0, 0, 1, 7, 1, 32_768, 0, 1, 3, 0, 0],
+            [2, 1, 1, 0, 0, 0, 0, 7, 13, 2, 32_769, 0, 3, 4, 0, 0],
+            [1, 2, 0, 0, 1, 0, 0, 1, 12, 3, 0, 0, 2, 3, 0, 0],
+            [2, 0, 1, 0, 0, 0, 0, 12, 17, 4, 2, 0, 4, 5, 0, 0],
         ],
         // mutable i32: 2 * 0 + 1; (ref null 0): 5 + 2 * 10; i64: 1
         shared: vec![1, 25, 1],
@@ -78,8 +78,8 @@ fn a_pair_with_codes_in_both() {
 fn pairs_without_codes() {
     let bare = Words {
         rows: vec![
-            [1, 0, 0, 0, 0, 0, 0, 1, 3, 1, 32_768, 0, 0, 0, 0, 0],
-            [1, 0, 0, 0, 0, 0, 0, 1, 3, 2, 0, 0, 0, 0, 0, 0],
+            [1, 0, 0, 0, 0, 0, 0, 1, 3, 1, 32_768, 0, 1, 2, 0, 0],
+            [1, 0, 0, 0, 0, 0, 0, 1, 3, 2, 0, 0, 2, 3, 0, 0],
         ],
         shared: vec![],
         codes: vec![],
@@ -94,10 +94,10 @@ fn pairs_without_codes() {
     ];
     let described = Words {
         rows: vec![
-            [1, 0, 0, 1, 0, 0, 2, 3, 9, 2, 32_768, 0, 0, 0, 0, 0],
-            [1, 0, 0, 1, 0, 1, 0, 9, 15, 2, 32_768, 0, 0, 0, 0, 0],
-            [1, 0, 0, 0, 1, 0, 4, 3, 10, 4, 0, 0, 0, 0, 0, 0],
-            [1, 0, 0, 0, 2, 3, 0, 10, 17, 4, 0, 0, 0, 0, 0, 0],
+            [1, 0, 0, 1, 0, 0, 2, 3, 9, 2, 32_768, 0, 1, 3, 0, 0],
+            [1, 0, 0, 1, 0, 1, 0, 9, 15, 2, 32_768, 0, 3, 5, 0, 0],
+            [1, 0, 0, 0, 1, 0, 4, 3, 10, 4, 0, 0, 2, 3, 0, 0],
+            [1, 0, 0, 0, 2, 3, 0, 10, 17, 4, 0, 0, 4, 5, 0, 0],
         ],
         shared: vec![],
         codes: vec![],
@@ -110,6 +110,9 @@ fn pairs_without_codes() {
 fn a_section_that_becomes_the_library() {
     let mut alone = of_the_pair();
     alone.rows.truncate(2);
+    // nothing is below type 0 now
+    alone.rows[0][12..14].copy_from_slice(&[1, 2]);
+    alone.rows[1][12..14].copy_from_slice(&[2, 3]);
     let as_library = Words { codes: vec![], ..alone };
     held(&Request::section(&[0x00]).after(&LIBRARY), &Answer::Count(2), Some(&as_library));
     let mut rows = as_library.rows;
