@@ -8,7 +8,7 @@ const END: &str = "<!-- end -->";
 const HEAD: &str = "| Machine | Version | Section | Body | Run |\n|---|---|---|---|---|\n";
 
 /// A section, a body and a run.
-const SLOWEST: [&str; 3] = ["hostile", "64 fields given", "casts up a chain"];
+const SLOWEST: [&str; 3] = ["hostile", "br_if with 64 values", "f64"];
 
 pub fn inputs() -> Vec<Input> {
     let [section, body, run] = SLOWEST;

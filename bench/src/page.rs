@@ -23,7 +23,7 @@ The proved loader and the plain checker of `tests/plain` judge the same inputs, 
 
 - *ordinary*: families of a short and a long kind with their descriptors, and functions over them; accepted.
 - *refused late*: the same with one byte left over.
-- *hostile*: a chain of 63 steps, and functions whose 128 parameters and results each walk all of it, near the slowest that a section can be ([ARCHITECTURE.md](ARCHITECTURE.md)); accepted.
+- *hostile*: a chain of 63 steps, and functions whose 128 parameters and results are each compared with one far up it, near the slowest that a section can be ([ARCHITECTURE.md](ARCHITECTURE.md)); accepted.
 
 {}
 ![Nanoseconds for each byte of a section](bench-sections.svg)
@@ -33,7 +33,7 @@ The proved loader and the plain checker of `tests/plain` judge the same inputs, 
 A library and a section after it; the bytes are those of both, and of a body the body's alone. All are accepted.
 
 - *ordinary pair*: half of the bytes are a library as the ordinary section above; the other half are kinds below the library's, their descriptors, and functions over them.
-- *hostile pair*: a library as the hostile section above, and after it functions that walk the library's chain.
+- *hostile pair*: a library as the hostile section above, and after it functions that are compared far up the library's chain.
 - *small*: a library of five types and a section of two, and a body of theirs. Clearing the lent memory is most of the time.
 
 {}
@@ -44,9 +44,9 @@ All are accepted, so that every byte is looked at. The body's section is judged 
 
 - *ordinary*: objects made with their descriptors, fields read and written, tests, casts, loops and blocks.
 - *arithmetic*: constants and numeric codes of every kind over locals; conversions.
-- *casts up a chain*: each branching cast walks a chain of 63 supertypes twice.
+- *casts up a chain*: each branching cast asks twice for a type 63 supertypes away.
 - *blocks, 256 locals*: blocks opened and closed, 63 of them one in the other, with 256 locals that have no default.
-- *64 fields given*: structs made of 64 operands, each of which walks the chain to its field's type.
+- *64 fields given*: structs made of 64 operands, each of a type up to 63 supertypes below its field's.
 - *64 fields by default*: structs of 64 fields made by default.
 - *br_if with 64 values*: each takes 64 values and gives them back.
 - *br_if out of 63 blocks*: each looks for the label that lies furthest out.
