@@ -44,11 +44,11 @@ unfolding climbs
 climbs_to_itself zero ts x = eq-eqb x x refl
 climbs_to_itself (suc steps) ts x = either_first _ (eq-eqb x x refl)
 
-pub chain_is_climbed : (steps : ℕ) {ts : Types} {x y : ℕ} → Chain ts x y → short_chain steps ts x ≡ true → climbs steps ts x y ≡ true
+pub chain_is_climbed : {ts : Types} (steps : ℕ) {x y : ℕ} → Chain ts x y → short_chain steps ts x ≡ true → climbs steps ts x y ≡ true
 unfolding climbs short_chain
-chain_is_climbed steps {ts} {x} here short = climbs_to_itself steps ts x
+chain_is_climbed {ts} steps {x} here short = climbs_to_itself steps ts x
 chain_is_climbed zero (above e c) short = absurd (false≢true (rw e at short))
-chain_is_climbed (suc steps) {ts} {x} {y} (above e c) short = rw e (either_second (same_type x y) (chain_is_climbed steps c (rw e at short)))
+chain_is_climbed {ts} (suc steps) {x} {y} (above e c) short = rw e (either_second (same_type x y) (chain_is_climbed steps c (rw e at short)))
 
 module _ {ds : List Definition} (passes : Passes ds) where
   pub chain_keeps_kind : {x y : ℕ} → Chain (types_of ds) x y → kind_of (types_of ds x).form ≡ kind_of (types_of ds y).form

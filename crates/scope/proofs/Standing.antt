@@ -152,16 +152,16 @@ pub lands :
     {b : Body} {n : ℕ} {frames fs : List Frame} {f : Frame} {st : State} {code : Code} → Opens n frames f fs → st.frames ≡ frames → Stands b st code
     → Accepts (context_for b) st code → Stands b (left_of f fs) (past_ends (suc n) code)
 unfolding past_ends
-lands {b} {st} opens q stands (last {i = i} e) = let (g, gs, is) = some_frame opens in absurd (not_finished (context_for b) st i (q ∙ is) e)
-lands {b} {st} opens q stands (next {i = op o} e more) =
-    lands opens (kept_frames ((op_keeps (context_for b) st o).tells _ e) ∙ q) (further stands e) more
-lands {b} {st} opens q stands (next {i = block rs} e more) =
+lands {b} {n} {st = st} opens q stands (last {i = i} e) = let (g, gs, is) = some_frame opens in absurd (not_finished (context_for b) st i (q ∙ is) e)
+lands {b} {n} {st = st} opens q stands (next {i = op o} e more) =
+    lands {n = n} opens (kept_frames ((op_keeps (context_for b) st o).tells _ e) ∙ q) (further stands e) more
+lands {b} {n} {st = st} opens q stands (next {i = block rs} e more) =
     let (g, is) = entered_frames ((block_enters (context_for b) st rs).tells _ e) in
-    lands (deeper (rw (← q) at opens)) is (further stands e) more
-lands {b} {st} opens q stands (next {i = loop rs} e more) =
+    lands {n = suc n} (deeper (rw (← q) at opens)) is (further stands e) more
+lands {b} {n} {st = st} opens q stands (next {i = loop rs} e more) =
     let (g, is) = entered_frames ((loop_enters (context_for b) st rs).tells _ e) in
-    lands (deeper (rw (← q) at opens)) is (further stands e) more
-lands {b} {st} (innermost {f = f} {fs = fs}) q stands (next {i = end} {code = code} e more) =
+    lands {n = suc n} (deeper (rw (← q) at opens)) is (further stands e) more
+lands {b} {st = st} (innermost {f = f} {fs = fs}) q stands (next {i = end} {code = code} e more) =
     subst (Stands b (left_of f fs)) (sym (past_none code)) (rw (after-end (context_for b) st q e) at (further stands e))
-lands {b} {st} (deeper {e = g} {es = fs} opens) q stands (next {i = end} e more) =
-    lands opens (ap (λ (s : State). s.frames) (after-end (context_for b) st q e) ∙ left_frames g fs) (further stands e) more
+lands {b} {st = st} (deeper {n = n} {e = g} {es = fs} opens) q stands (next {i = end} e more) =
+    lands {n = n} opens (ap (λ (s : State). s.frames) (after-end (context_for b) st q e) ∙ left_frames g fs) (further stands e) more
