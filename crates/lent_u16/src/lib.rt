@@ -1,5 +1,7 @@
 // Total access to lent memory of 16-bit words. No place is out of range: a word past the end reads as 0, and a store there
 // does nothing, so that no index is ever a caller's concern.
+#![tactic(auto)]
+
 ghost use Rattle.std.specs.Prelude.{◌≡◌, ◌%◌, length, set, replicate};
 ghost use Rattle.lent_u16.specs.Words.{word_limit, WordAt};
 
