@@ -1,5 +1,7 @@
 // Total access to lent memory of 32-bit words: the scratch of a body's check. As in crate lent_u16, no place is out of range: a
 // word past the end reads as 0, and a store there does nothing.
+#![tactic(auto)]
+
 ghost use Rattle.std.specs.Prelude.{◌≡◌, ◌%◌, length, set, replicate};
 ghost use Rattle.lent_u32.specs.Scratch.{word32_limit, Word32At};
 
