@@ -1,5 +1,7 @@
 // What the bits of so many bytes mean as a number: its value and range, and that no byte is to spare. Each answer is that of
 // scope's definitions (specs/Values.antt); how the bits were read is not known here.
+#![tactic(auto)]
+
 ghost use Rattle.std.specs.Prelude.{◌<◌, ◌^◌, ◌≡◌};
 ghost use Rattle.scope.specs.Reading.{got};
 ghost use Rattle.scope.specs.Numbers.{plus, minus, signed_of, within_signed, unless_padded};
