@@ -1,6 +1,8 @@
 // The numeric instructions by their first byte: how many operands, their kind, and the kind of the result, as one table of 256
 // entries says. The table is lent: whoever judges a body lays it out once (body_instructions), since the compiler would lay it out
 // anew wherever it is read.
+#![tactic(auto)]
+
 ghost use Rattle.std.specs.Prelude.{◌≡◌, get_or};
 ghost use Rattle.scope.specs.Numeric.{numeric_of};
 ghost use Rattle.body_numeric.specs.Entries.{coded, is_numeric, Tabled};
