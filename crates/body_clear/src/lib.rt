@@ -1,4 +1,6 @@
 // The last of a call on bodies: all memory that was lent is zero, whatever the answer.
+#![tactic(auto)]
+
 ghost use Rattle.body_clear.specs.Clearing.{Cleared};
 
 // Zero in every word that was lent.
