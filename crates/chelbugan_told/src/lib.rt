@@ -1,5 +1,7 @@
 // What a host is told of an answer: the number that a call returns, and the answer's values in four lent words, of which the
 // fourth is 0. The loader, the checker and the run answer by enums, which have no form in C.
+#![tactic(auto)]
+
 ghost use Rattle.chelbugan_told.specs.Values.{RefusalTold, VerdictTold, AskedTold, RanTold};
 
 use scope::{Asked, Place, Ran, Verdict};
