@@ -1,7 +1,7 @@
 -- Whether lent buffers are enough is asked one after the other: the first that is too small says no, and the last says yes for all.
 use Prim.Native.Nat.{ℕ, ◌≤◌, ◌<◌}
 use mathlib.Core.Path.{◌≡◌, sym, ◌∙◌}
-use mathlib.Core.Bool.{Bool, true, false, not, ◌&&◌, and_false}
+use mathlib.Core.Bool.{Bool, true, false, not, ◌&&◌, and-false}
 use mathlib.Core.List.{List}
 use lib.ListN.{length}
 use borrow.Author.Tests.{lt-leb, le-leb, leb-true, not-true, not-false}
@@ -11,7 +11,7 @@ use Rattle.scope.proofs.Truths.{from_both}
 
 module _ (before : Bool) where
   pub too_small : {size : ℕ} (m : List ℕ) → length m < size → false ≡ (before && holds size m)
-  too_small {size} m h = rw (lt-leb size (length m) h) (sym (and_false before))
+  too_small {size} m h = rw (lt-leb size (length m) h) (sym (and-false before))
 
   pub before_small : (this : Bool) → false ≡ before → false ≡ (before && this)
   before_small this e = rw (← e)

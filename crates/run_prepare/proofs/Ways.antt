@@ -2,7 +2,7 @@
 -- where none is left all that the run reads is at hand.
 use Prim.Native.Nat.{ℕ, ◌^◌, ◌<◌}
 use mathlib.Core.Path.{◌≡◌, refl, sym, ap, ◌∙◌}
-use mathlib.Core.Bool.{Bool, true, false, not, and_false, false≢true}
+use mathlib.Core.Bool.{Bool, true, false, not, and-false, false≢true}
 use mathlib.Core.List.{List}
 use native.Mathlib.Omega.{arith}
 use lib.ListN.{length, replicate, length-replicate}
@@ -245,7 +245,7 @@ module _ (scratch : Bool) where
       → PreparedFor library section s x budget scratch state rows' codes' work' ends' (Prepared.TheVariants.Refused buffer_too_small (plain 0))
   state-small {state} small =
       let none : state ≡ false = not-true state small in
-      record { is = rw (none, and_false scratch) refl; room = λ count results next e. impossible cc }
+      record { is = rw (none, and-false scratch) refl; room = λ count results next e. impossible cc }
 
   pub prepared :
       {r : Bool} → r ≡ scratch → not r ≡ false → {state : Bool} → not state ≡ false → {library section s : List ℕ} {x budget : ℕ} {rows' codes' work' ends' : List ℕ} {a : Prepared}

@@ -6,7 +6,7 @@ use Prim.Native.Nat.{ℕ, ◌≤◌, max}
 use native.Mathlib.Omega.{arith}
 use mathlib.Core.Path.{◌≡◌, refl, sym, ap, ap₂, ◌∙◌}
 use mathlib.Core.Logic.{◌⊎◌, inl, inr}
-use mathlib.Core.Bool.{Bool, true, false, ◌&&◌, and_true, and_assoc}
+use mathlib.Core.Bool.{Bool, true, false, ◌&&◌, and-true, and_assoc}
 use mathlib.Core.Option.{none, some}
 use mathlib.Core.List.{List, [], ◌∷◌, ◌++◌, map}
 use lib.ListN.{length}
@@ -70,7 +70,7 @@ max-below r x y = go (decided (ltb x r)) (decided (ltb y r))
     go (inr p) q = rw p (le-ltb (max x y) r (omega (arith, ltb-false)))
 
 greatest-below : (r x : ℕ) (xs : List ℕ) → ltb (greatest x xs) r ≡ below r (x ∷ xs)
-greatest-below r x [] = sym (and_true (ltb x r))
+greatest-below r x [] = sym (and-true (ltb x r))
 greatest-below r x (y ∷ ys) = greatest-below r (max x y) ys ∙ rw max-below (and_assoc (ltb x r) (ltb y r) (below r ys))
 
 module _ {r : ℕ} (h : r ≤ beyond) where
@@ -130,7 +130,7 @@ module _ {r : ℕ} (h : r ≤ beyond) where
   supers_reach : (supers : List ℕ) → below r (kept_supers supers) ≡ below r supers
   supers_reach [] = refl
   supers_reach (x ∷ []) = number_keeps.reach x
-  supers_reach (x ∷ y ∷ more) = ap₂ ◌&&◌ (kept-below x) (and_true _ ∙ kept-below (greatest y more) ∙ greatest-below r y more)
+  supers_reach (x ∷ y ∷ more) = ap₂ ◌&&◌ (kept-below x) (and-true _ ∙ kept-below (greatest y more) ∙ greatest-below r y more)
 
   supers_same : (supers : List ℕ) → length supers ≤ 1 → below r supers ≡ true → kept_supers supers ≡ supers
   supers_same [] few e = refl
