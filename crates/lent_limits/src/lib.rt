@@ -1,4 +1,6 @@
 // Whether lent buffers have their one size: 14 of document 01, asked before anything else.
+#![tactic(auto)]
+
 ghost use Rattle.std.specs.Prelude.{◌≡◌};
 ghost use Rattle.scope.specs.Answers.{table_lent};
 
