@@ -1,5 +1,7 @@
 // What a run asks of its caller besides the state's memory: the one size of each buffer of the scratch, and a budget that is
 // small enough.
+#![tactic(auto)]
+
 ghost use Rattle.std.specs.Prelude.{◌≡◌, ltb};
 ghost use Rattle.scope.specs.Sizes.{most_budget};
 ghost use Rattle.run_limits.specs.Limits.{scratch_lent};
