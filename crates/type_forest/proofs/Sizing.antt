@@ -79,26 +79,31 @@ module _ {p : ℕ → ℕ} {n k : ℕ} {w : ℕ → ℕ} (s : Sizing p n (suc k)
     agrees : (o : ℕ) → total p w' o (suc k) (n - suc k) ≡ total p w o (suc k) (n - suc k)
     agrees o = total-agree p w' w o (suc k) (n - suc k) (λ c low high e. same_later c low)
 
-    pub sizing_turn : Sizing p n k w'
+    waiting_last : waiting p w (suc k) (n - suc k) (suc (suc k)) ≡ total p w (suc k) (suc k) (n - suc k) + waiting p w (suc k) (n - suc k) (suc k)
     unfolding waiting
+    waiting_last = refl
+
+    few_at : waiting p w' k (suc (n - suc k)) (suc k) ≤ suc (n - suc k)
+    few_at =
+        let few = rw waiting_last at s.few in
+        omega (
+          arith,
+          few,
+          g.own,
+          s.part k (omega arith),
+          waiting-first p w' k (n - suc k) (suc k) (omega arith),
+          waiting-agree p w' w (suc k) (n - suc k) (suc k) (λ c low high. same_later c low),
+        )
+
+    pub sizing_turn : Sizing p n k w'
     sizing_turn =
         let most = s.most in
-        let m = n - suc k in
         let e : n - k ≡ suc (n - suc k) = omega arith in
-        let own = g.own in
-        let mine = s.part k (omega arith) in
         record {
           most = omega arith;
           done = λ y low high. rw e (done_at y low high (eqb y k) refl);
           part = λ y h. rw e (part_at y h (eqb (p k) (suc y)) refl);
-          few =
-              rw e
-              (omega (
-                arith,
-                s.few,
-                waiting-first p w' k m (suc k) (omega arith),
-                waiting-agree p w' w (suc k) m (suc k) (λ c low high. same_later c low),
-              ));
+          few = rw e few_at;
         }
       where
         done_at : (y : ℕ) → k ≤ y → y < n → (t : Bool) → eqb y k ≡ t → w' y ≡ 1 + total p w' (suc y) k (suc (n - suc k))
