@@ -11,7 +11,7 @@ use scope::refusals;
 use type_read::Coded;
 
 // A branching cast's immediates, in the order of the cases of `Instruction`, and the place after; or a refusal.
-#[derive(Drop)]
+#[derive(Clone, Copy)]
 pub enum CastRead {
     Is(u64, bool, u64, bool, u64, usize),
     Refused(u64, usize),

@@ -12,7 +12,7 @@ use body_state::{Check, Scene, Step, Values};
 use scope::refusals;
 
 // Whether a frame may end: its results are there and nothing else; or the refusal's number.
-#[derive(Drop)]
+#[derive(Clone, Copy)]
 pub enum End {
     Fine,
     Fault(u64),

@@ -15,7 +15,7 @@ use type_read::Coded;
 // instruction its code. A block's or loop's result is 0 for none, else one more than its code. A
 // bool says "null" where an instruction has both forms. A branching cast: label, whether the source may be null, the
 // source, whether the target may be, the target.
-#[derive(Drop)]
+#[derive(Clone, Copy)]
 pub enum Instruction {
     Unreachable,
     Nop,
@@ -55,7 +55,7 @@ pub enum Instruction {
 }
 
 // An instruction and the place after its bytes; or a refusal's number and place.
-#[derive(Drop)]
+#[derive(Clone, Copy)]
 pub enum InstructionRead {
     Is(Instruction, usize),
     Refused(u64, usize),

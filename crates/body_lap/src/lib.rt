@@ -12,7 +12,7 @@ use body_turn::Turn;
 
 // What comes of instructions that are told, and of the one after them: a refusal's number and place; how many instructions there
 // are, and the place after the last `end`; or how far the check has come then.
-#[derive(Drop)]
+#[derive(Clone, Copy)]
 pub enum Lap {
     Refused(u64, usize),
     Finished(u64, usize),

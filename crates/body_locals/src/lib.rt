@@ -8,7 +8,7 @@ use scope::{refusals, sizes};
 use type_read::Coded;
 
 // How many locals, the code of their type, and the place after; or a refusal's number and place.
-#[derive(Drop)]
+#[derive(Clone, Copy)]
 pub enum Entry {
     Is(u64, u64, usize),
     Refused(u64, usize),
@@ -54,7 +54,7 @@ fn fill(work: &mut [u32], at: u64, k: u64, code: u64)
 }
 
 // How many locals there are with the parameters, and the place after the list; or a refusal's number and place.
-#[derive(Drop)]
+#[derive(Clone, Copy)]
 pub enum LocalsRead {
     Got(u64, usize),
     Refused(u64, usize),

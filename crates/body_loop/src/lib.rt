@@ -11,7 +11,7 @@ use body_state::Scene;
 use scope::refusals;
 
 // How many instructions there are, and the place after the last `end`; or a refusal's number and place.
-#[derive(Drop)]
+#[derive(Clone, Copy)]
 pub enum Ended {
     Finished(u64, usize),
     Refused(u64, usize),

@@ -9,7 +9,7 @@ ghost use Rattle.body_numeric.specs.Entries.{coded, is_numeric, Tabled};
 
 // What a first byte says: how many operands, and the codes of their type and of the result's type; no operands where the
 // byte is no numeric code.
-#[derive(Drop)]
+#[derive(Clone, Copy)]
 pub struct NumericRow {
     pub operands: u64,
     pub kind: u64,

@@ -13,7 +13,7 @@ use body_take::Take;
 use body_words::KNOWN;
 
 // How many operands are left in the frame; or the refusal's number.
-#[derive(Drop)]
+#[derive(Clone, Copy)]
 pub enum Left {
     Is(u32),
     Fault(u64),

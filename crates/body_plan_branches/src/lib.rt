@@ -13,7 +13,7 @@ use scope::refusals;
 use type_table::Link;
 
 // The types of a label in a branching cast's reach, or a refusal's number.
-#[derive(Drop)]
+#[derive(Clone, Copy)]
 pub enum Target {
     Fault(u64),
     Is(Values),

@@ -9,7 +9,7 @@ use scope::refusals;
 use type_fit::Fit;
 
 // A list's last type by its code, and those before it.
-#[derive(Drop)]
+#[derive(Clone, Copy)]
 pub enum Split {
     Nothing,
     Is(Values, u64),

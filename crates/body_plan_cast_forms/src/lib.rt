@@ -8,7 +8,7 @@ use body_state::{Planned, Values};
 use scope::refusals;
 
 // A reference type: whether it may be null, and its heap type's code.
-#[derive(Drop)]
+#[derive(Clone, Copy)]
 pub struct Reference {
     pub null: bool,
     pub heap: u64,

@@ -11,7 +11,7 @@ use body_state::{Planned, Values};
 use scope::refusals;
 
 // A field's code, or a refusal's number.
-#[derive(Drop)]
+#[derive(Clone, Copy)]
 pub enum Field {
     Fault(u64),
     Is(u64),

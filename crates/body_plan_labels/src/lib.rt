@@ -7,7 +7,7 @@ use body_state::{LOOP, Plain, Planned, Scene, Values};
 use scope::refusals;
 
 // The types of a label.
-#[derive(Drop)]
+#[derive(Clone, Copy)]
 pub enum Label {
     Absent,
     Is(Values),

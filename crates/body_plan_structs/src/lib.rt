@@ -7,14 +7,14 @@ use scope::refusals;
 use type_table::{Link, Shape};
 
 // Where the codes of a struct's fields start and how many there are; or a refusal's number.
-#[derive(Drop)]
+#[derive(Clone, Copy)]
 pub enum Fields {
     Fault(u64),
     Are(u32, u32),
 }
 
 // The same, and the number of the type's descriptor.
-#[derive(Drop)]
+#[derive(Clone, Copy)]
 pub enum Pair {
     Fault(u64),
     Are(u32, u32, u64),

@@ -17,7 +17,7 @@ use body_state::{Check, Planned, Scene, Values};
 
 // What an instruction does: it opens a block or, where the bool says so, a loop, with that result (0 none, else one more
 // than its code); it closes the innermost frame; or it has a plan.
-#[derive(Drop)]
+#[derive(Clone, Copy)]
 pub enum Act {
     Opens(bool, u64),
     Closes,

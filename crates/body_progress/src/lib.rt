@@ -3,7 +3,7 @@
 
 // How many instructions were judged, the place of the next one; how many blocks are open, the operands below the innermost frame
 // and in all frames, and 1 where unknowns lie below those of the frame.
-#[derive(Drop)]
+#[derive(Clone, Copy)]
 pub struct Progress {
     pub count: u64,
     pub next: u64,

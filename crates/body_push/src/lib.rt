@@ -50,7 +50,7 @@ fn push_gives(work: &mut [u32], gives: u64, base: u32, height: u32)
 }
 
 // How many operands the frame has then; or there are too many in all frames, and nothing is written.
-#[derive(Drop)]
+#[derive(Clone, Copy)]
 pub enum Given {
     Is(u32),
     Full,

@@ -14,7 +14,7 @@ use scope::sizes;
 
 // How many blocks are open then, the operands below the innermost frame and in all, 1 where unknowns lie below those of the frame;
 // how many bytes the instruction takes, and none where it is not told here.
-#[derive(Drop)]
+#[derive(Clone, Copy)]
 pub struct Frame {
     pub depth: u64,
     pub base: u64,

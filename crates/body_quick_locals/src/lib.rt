@@ -11,7 +11,7 @@ use body_words::KNOWN;
 
 // A local that is named by a number: that number, the code of its type, and how many bytes the number takes; no bytes where there
 // is no such local, or it is not told here.
-#[derive(Drop)]
+#[derive(Clone, Copy)]
 pub struct Named {
     pub number: u64,
     pub code: u64,

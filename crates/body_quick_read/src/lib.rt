@@ -5,7 +5,7 @@ ghost use Rattle.body_quick_read.specs.Items.{ByteOr, NumberTold, TwoTold, SizeT
 use number_values::{Integer, Natural};
 
 // What was read and how many bytes it takes; no bytes where it is not told here.
-#[derive(Drop)]
+#[derive(Clone, Copy)]
 pub struct Item {
     pub value: u64,
     pub size: u64,
@@ -43,7 +43,7 @@ pub fn number_at(s: &[u8], at: usize) -> Item
 }
 
 // Two numbers, and how many bytes both take; no bytes where they are not told here.
-#[derive(Drop)]
+#[derive(Clone, Copy)]
 pub struct Two {
     pub first: u64,
     pub second: u64,

@@ -12,7 +12,7 @@ use body_words::KNOWN;
 
 // A field that is named by two numbers: the code of a reference to its struct, its own code, and how many bytes the numbers take;
 // no bytes where there is no such field, or it is not told here.
-#[derive(Drop)]
+#[derive(Clone, Copy)]
 pub struct Place {
     pub object: u64,
     pub field: u64,

@@ -11,7 +11,7 @@ use scope::sizes;
 use type_fit::Fit;
 
 // How many operands there are after an instruction, and how many bytes it takes; no bytes where it is not told here.
-#[derive(Drop)]
+#[derive(Clone, Copy)]
 pub struct Done {
     pub top: u64,
     pub size: u64,

@@ -51,7 +51,7 @@ fn mark_start(work: &mut [u32], params: u32, count: u64)
 }
 
 // How many locals there are with the parameters, and the place of the first instruction; or a refusal's number and place.
-#[derive(Drop)]
+#[derive(Clone, Copy)]
 pub enum Started {
     Is(u16, usize),
     Refused(u64, usize),

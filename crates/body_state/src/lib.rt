@@ -39,7 +39,7 @@ pub const CODE_BOUND: u64 = 1048576;
 
 // How many blocks are open; how many operands lie below the innermost frame, and how many in it; whether unknowns lie
 // below those.
-#[derive(Drop)]
+#[derive(Clone, Copy)]
 pub struct Check {
     pub depth: u16,
     pub base: u32,
@@ -49,7 +49,7 @@ pub struct Check {
 
 // What a body is checked against beside the table: how many types and locals there are; where the codes of the results
 // begin, and how many there are.
-#[derive(Drop)]
+#[derive(Clone, Copy)]
 pub struct Scene {
     pub types: u16,
     pub locals: u16,
@@ -58,7 +58,7 @@ pub struct Scene {
 }
 
 // A list of value types: that many codes of the table, the types of that many fields, or one type.
-#[derive(Drop)]
+#[derive(Clone, Copy)]
 pub enum Values {
     Types(u32, u32),
     Fields(u32, u32),
@@ -69,7 +69,7 @@ pub enum Values {
 // word of what is wanted), then the types of `rest` from the last. It gives those of `rest`, where they are put back, and
 // one more type (0 none, else one more than its code). It sets a local (0 none, else one more than its number). After it
 // the stack may yield unknowns.
-#[derive(Drop)]
+#[derive(Clone, Copy)]
 pub struct Plain {
     pub top: u64,
     pub second: u64,
@@ -82,7 +82,7 @@ pub struct Plain {
 
 // What an instruction does to the stack, or a refusal's number: ref.as_non_null gives the reference that it takes, not
 // null; ref.get_desc x gives the descriptor, whose type is the second number, of a reference to the first.
-#[derive(Drop)]
+#[derive(Clone, Copy)]
 pub enum Planned {
     Plain(Plain),
     NonNull,
@@ -91,7 +91,7 @@ pub enum Planned {
 }
 
 // What comes of an instruction: the check goes on; the last `end` was read; or a refusal's number.
-#[derive(Drop)]
+#[derive(Clone, Copy)]
 pub enum Step {
     On(Check),
     Finished,
@@ -129,7 +129,7 @@ pub fn is_set(work: &[u32], m: u32, i: u32) -> bool
 }
 
 // The code of a local's type.
-#[derive(Drop)]
+#[derive(Clone, Copy)]
 pub enum Local {
     Absent,
     Is(u64),

@@ -13,7 +13,7 @@ use scope::refusals;
 use type_fit::Fit;
 
 // The operand's word, and how many operands are left in the frame; or the refusal's number.
-#[derive(Drop)]
+#[derive(Clone, Copy)]
 pub enum Take {
     Took(u32, u32),
     Fault(u64),

@@ -7,7 +7,7 @@ use body_immediates::InstructionRead;
 use body_state::{Check, Scene, Step};
 
 // A refusal's number and place; the place after the last `end`; or where the check stands then, and the place.
-#[derive(Drop)]
+#[derive(Clone, Copy)]
 pub enum Turn {
     Refused(u64, usize),
     Finished(usize),

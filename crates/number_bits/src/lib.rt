@@ -8,7 +8,7 @@ use number_values::TWO_BYTES;
 // A number of one byte and the place after it. Or the bits of a number's first bytes: their value, how many bytes they take, the
 // place after; or the bytes end before the number does; or it goes on beyond them, with the value of their bits and the place
 // after.
-#[derive(Drop)]
+#[derive(Clone, Copy)]
 pub enum Leb {
     One(u64, usize),
     Bits(u64, u64, usize),

@@ -2,7 +2,7 @@
 ghost use Rattle.number_bytes.specs.Bytes.{ByteAt};
 
 // A byte of the input, or none where the place lies past its end.
-#[derive(Drop)]
+#[derive(Clone, Copy)]
 pub enum Byte {
     Is(u64),
     Missing,

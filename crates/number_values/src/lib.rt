@@ -19,14 +19,14 @@ const SIGN: u64 = 64;
 const U32_LIMIT: u64 = 4294967296;
 
 // A natural number and the place after it; or a refusal's number and place.
-#[derive(Drop)]
+#[derive(Clone, Copy)]
 pub enum Natural {
     Is(u64, usize),
     Refused(u64, usize),
 }
 
 // A whole number by its magnitude, and the place after it; or a refusal's number and place.
-#[derive(Drop)]
+#[derive(Clone, Copy)]
 pub enum Integer {
     Plus(u64, usize),
     Minus(u64, usize),

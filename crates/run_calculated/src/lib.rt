@@ -5,7 +5,7 @@ use run_value::Value;
 
 // A result in place of the topmost operand; a result in place of the two topmost; a code that the run does not do (trap 46);
 // an operand that is missing or of another kind, which an accepted body never has.
-#[derive(Drop)]
+#[derive(Clone, Copy)]
 pub enum Calculated {
     OfOne(Value),
     OfTwo(Value),

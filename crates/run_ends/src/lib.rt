@@ -9,7 +9,7 @@ ghost use Rattle.run_ends.specs.Matching.{Fillable, Filled};
 use body_immediates::{Instruction, InstructionRead};
 
 // What an instruction does to the open blocks: it opens one, closes the innermost one or stays inside it.
-#[derive(Drop)]
+#[derive(Clone, Copy)]
 pub enum Kind {
     Opens,
     Closes,
@@ -28,7 +28,7 @@ fn kind_of(i: Instruction) -> Kind
 }
 
 // The word of the innermost open block, 0 for none, else one more than its place; or the function's own end was read.
-#[derive(Drop)]
+#[derive(Clone, Copy)]
 pub enum Noted {
     Open(u64),
     Last,

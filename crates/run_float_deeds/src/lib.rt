@@ -2,7 +2,7 @@
 // proofs/ the laws, stated once over the format. The code is in run_floats_32 and run_floats_64.
 
 // add, sub, mul, div.
-#[derive(Drop)]
+#[derive(Clone, Copy)]
 pub enum FloatDeed {
     Add,
     Sub,

@@ -12,7 +12,7 @@ use run_floats_64::Double64;
 use run_value::Value;
 
 // eq, ne, lt, gt, le, ge.
-#[derive(Drop)]
+#[derive(Clone, Copy)]
 pub enum FloatTest {
     Equal,
     Unequal,

@@ -15,7 +15,7 @@ use run_float_deeds::FloatDeed;
 use run_value::Value;
 
 // An operand as the language's float, or one of another kind.
-#[derive(Drop)]
+#[derive(Clone, Copy)]
 pub enum Single32 {
     Is(f32),
     Wrong,

@@ -12,7 +12,7 @@ use run_integer_tests::IntegerTest;
 use run_value::Value;
 
 // The bits of an operand, or one of another kind.
-#[derive(Drop)]
+#[derive(Clone, Copy)]
 pub enum Word32 {
     Is(u32),
     Wrong,

@@ -11,7 +11,7 @@ use scope::sizes;
 use type_table::Link;
 
 // What a field holds.
-#[derive(Drop)]
+#[derive(Clone, Copy)]
 pub enum Held {
     Absent,
     Is(Value),

@@ -11,7 +11,7 @@ use scope::traps;
 use type_table::Link;
 
 // Whether a value passes a cast; or it is missing or no reference.
-#[derive(Drop)]
+#[derive(Clone, Copy)]
 pub enum Passing {
     Wrong,
     Is(bool),

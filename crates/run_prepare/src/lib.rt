@@ -11,7 +11,7 @@ use section_both::TwoJudged;
 use type_table::Shape;
 
 // A run may start: how many locals there are, how many results, and where the first instruction stands; or the refusal.
-#[derive(Drop)]
+#[derive(Clone, Copy)]
 pub enum Prepared {
     Ready(u16, u32, usize),
     Refused(u64, Place),

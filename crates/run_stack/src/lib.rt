@@ -12,7 +12,7 @@ use scope::sizes;
 const REFERENCES: u64 = 4;
 
 // The operand on top.
-#[derive(Drop)]
+#[derive(Clone, Copy)]
 pub enum Topmost {
     Nothing,
     Is(Value),
@@ -63,7 +63,7 @@ pub fn move_down(m: &mut [u64], from: u32, to: u32, n: u32)
 }
 
 // What a local holds.
-#[derive(Drop)]
+#[derive(Clone, Copy)]
 pub enum HeldLocal {
     Absent,
     Unset,

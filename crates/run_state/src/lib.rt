@@ -14,7 +14,7 @@ use scope::sizes;
 
 // The place of the next instruction; how many objects and cells there are; how many operands lie below the innermost frame,
 // and how many in it; how many blocks are open.
-#[derive(Drop)]
+#[derive(Clone, Copy)]
 pub struct Stage {
     pub place: usize,
     pub objects: u32,
@@ -65,7 +65,7 @@ pub fn is_full(stage: Stage, left: u32) -> bool
 // none, else one more than its number) of so many values that lie next on the stack, or of the defaults of so many fields
 // whose codes start in the table there; branches to a label; returns; traps. Astray: a value is missing or of the wrong
 // kind.
-#[derive(Drop)]
+#[derive(Clone, Copy)]
 pub enum Move {
     Astray,
     Traps(u64),
@@ -80,7 +80,7 @@ pub enum Move {
 }
 
 // What a step comes to: the run goes on, ends or traps.
-#[derive(Drop)]
+#[derive(Clone, Copy)]
 pub enum Stepped {
     Goes(Stage),
     Ends(Stage),
@@ -89,7 +89,7 @@ pub enum Stepped {
 }
 
 // What an operand is as a reference: missing or a number; null; an object by its number.
-#[derive(Drop)]
+#[derive(Clone, Copy)]
 pub enum Reference {
     Wrong,
     Null,

@@ -7,7 +7,7 @@ ghost use Rattle.run_turn.specs.Turns.{turn_of};
 use run_state::{Stage, Stepped};
 
 // How it ended, where it then stands, and after how many steps. A trap has its number. Astray: no accepted body comes to it.
-#[derive(Drop)]
+#[derive(Clone, Copy)]
 pub enum Ending {
     Done(Stage, u64),
     Trapped(u64, Stage, u64),
@@ -16,7 +16,7 @@ pub enum Ending {
 }
 
 // On from that stage, with so many steps done; or over.
-#[derive(Drop)]
+#[derive(Clone, Copy)]
 pub enum Turn {
     On(Stage, u64),
     Over(Ending),

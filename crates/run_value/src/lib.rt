@@ -8,7 +8,7 @@ ghost use Rattle.run_value.specs.Carried.{value_kind, value_bits, with_value, Si
 use run_values::layout;
 
 // An integer; a float; a float that is no number, by its bits; null; an object, by its number.
-#[derive(Drop)]
+#[derive(Clone, Copy)]
 pub enum Value {
     I32(u32),
     I64(u64),

@@ -6,7 +6,7 @@ pub mod traps;
 
 // Where a refusal lies: a byte of the library, a byte of the add-on's own input, or a place with no input to name: a type
 // number, a place in a body, or 0.
-#[derive(Drop)]
+#[derive(Clone, Copy)]
 pub enum Place {
     Library(u64),
     Addon(u64),
@@ -14,14 +14,14 @@ pub enum Place {
 }
 
 // Judging sections or a body: the count of types or of instructions; or the refusal's number and place.
-#[derive(Drop)]
+#[derive(Clone, Copy)]
 pub enum Verdict {
     Accepted(u64),
     Refused(u64, Place),
 }
 
 // Asking for a type: where the definition's bytes begin and end in the library, or in the add-on's section; or the refusal.
-#[derive(Drop)]
+#[derive(Clone, Copy)]
 pub enum Asked {
     Library(u64, u64),
     Addon(u64, u64),
@@ -30,7 +30,7 @@ pub enum Asked {
 
 // A trial run: done after so many steps with so many results; a trap's number, its place and the steps; spent after so
 // many steps; or the refusal.
-#[derive(Drop)]
+#[derive(Clone, Copy)]
 pub enum Ran {
     Done(u64, u64),
     Trapped(u64, u64, u64),

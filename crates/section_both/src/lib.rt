@@ -44,7 +44,7 @@ fn judge_addon(
 }
 
 // Both sections are accepted: how many types are the library's, and how many there are; or the refusal's number and place.
-#[derive(Drop)]
+#[derive(Clone, Copy)]
 pub enum TwoJudged {
     Accepted(u64, u64),
     Refused(u64, Place),

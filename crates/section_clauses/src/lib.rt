@@ -11,7 +11,7 @@ use number_values::Natural;
 use scope::refusals;
 
 // The first supertype and the greatest of the others, as links, and the place after; or a refusal's number and place.
-#[derive(Drop)]
+#[derive(Clone, Copy)]
 pub enum Supers {
     Got(u64, u64, usize),
     Refused(u64, usize),
@@ -77,7 +77,7 @@ fn supers_at(s: &[u8], at: usize) -> Supers
 }
 
 // What stands before the clauses: open or final, the supertypes' links, the place after; or a refusal.
-#[derive(Drop)]
+#[derive(Clone, Copy)]
 pub enum HeadRead {
     Got(u64, u64, u64, usize),
     Refused(u64, usize),
@@ -111,7 +111,7 @@ fn head_at(s: &[u8], at: usize) -> HeadRead
 }
 
 // A clause's link, 0 where it is not there, and the place after; or a refusal.
-#[derive(Drop)]
+#[derive(Clone, Copy)]
 pub enum ClauseRead {
     Got(u64, usize),
     Refused(u64, usize),
@@ -142,7 +142,7 @@ fn clause_at(s: &[u8], at: usize, code: u64) -> ClauseRead
 }
 
 // All that stands before the form: open or final, the supertypes' links, describes, descriptor, the place after.
-#[derive(Drop)]
+#[derive(Clone, Copy)]
 pub enum Front {
     Got(u64, u64, u64, u64, u64, usize),
     Refused(u64, usize),

@@ -46,7 +46,7 @@ fn put_row(
 }
 
 // The place after a definition and how far the part is filled then; or a refusal's number and place.
-#[derive(Drop)]
+#[derive(Clone, Copy)]
 pub enum DefinitionRead {
     Got(usize, u64),
     Refused(u64, usize),

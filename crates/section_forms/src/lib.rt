@@ -10,7 +10,7 @@ use scope::{refusals, sizes};
 use type_read::Coded;
 
 // How many entries were read and the place after them; or a refusal's number and place.
-#[derive(Drop)]
+#[derive(Clone, Copy)]
 pub enum Entries {
     Got(u64, usize),
     Refused(u64, usize),
@@ -65,7 +65,7 @@ fn few_at(s: &[u8], at: usize, fields: bool, codes: &mut [u16], used: u64) -> En
 }
 
 // What a form says: its fields, or its parameters and results, by their counts, and the place after; or a refusal.
-#[derive(Drop)]
+#[derive(Clone, Copy)]
 pub enum FormRead {
     Struct(u64, usize),
     Func(u64, u64, usize),

@@ -9,7 +9,7 @@ use scope::{refusals, sizes};
 use section_definition::DefinitionRead;
 
 // How many definitions were read, the place after them and how many codes of the table are used then; or a refusal.
-#[derive(Drop)]
+#[derive(Clone, Copy)]
 pub enum GroupRead {
     Got(u64, usize, u64),
     Refused(u64, usize),

@@ -11,7 +11,7 @@ ghost use Rattle.section_judge.specs.Ready.{Chained, Ready, Linkable, Scannable}
 use scope::{Place, Verdict, refusals};
 
 // The number of the first rule that a type breaks.
-#[derive(Drop)]
+#[derive(Clone, Copy)]
 pub enum Fault {
     Nothing,
     Number(u64),

@@ -52,7 +52,7 @@ fn groups_at(
 }
 
 // How many types there are with the section's; or a refusal's number and place.
-#[derive(Drop)]
+#[derive(Clone, Copy)]
 pub enum SectionRead {
     Got(u64),
     Refused(u64, usize),

@@ -37,7 +37,7 @@ const FIRST_CODE: u64 = 0x73;
 const LAST_CODE: u64 = 0x6A;
 
 // A row: the top and the bottom of its hierarchy.
-#[derive(Drop)]
+#[derive(Clone, Copy)]
 pub struct HeapRow {
     pub top: u8,
     pub bottom: u8,
@@ -121,7 +121,7 @@ pub const BELOW: [bool; 100] = [
 ];
 
 // What a code names.
-#[derive(Drop)]
+#[derive(Clone, Copy)]
 pub enum AbstractType {
     Is(u64),
     NotOne,

@@ -11,7 +11,7 @@ ghost use Rattle.type_hierarchy.specs.Ranged.{Ranged};
 use type_table::ValKind;
 
 // What the test of one type against another comes to: it fits, it would fit if it could not be null, or it does not fit.
-#[derive(Drop)]
+#[derive(Clone, Copy)]
 pub enum Fit {
     Fits,
     ButForNull,

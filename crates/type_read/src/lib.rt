@@ -12,7 +12,7 @@ use scope::refusals;
 use type_abstract::AbstractType;
 
 // A type's code and the place after its bytes; or a refusal's number and place.
-#[derive(Drop)]
+#[derive(Clone, Copy)]
 pub enum Coded {
     Is(u64, usize),
     Refused(u64, usize),
@@ -70,7 +70,7 @@ pub fn heap_at(s: &[u8], at: usize) -> Coded
 }
 
 // A number type's code, where the byte is one.
-#[derive(Drop)]
+#[derive(Clone, Copy)]
 pub enum NumberType {
     Is(u64),
     NotOne,

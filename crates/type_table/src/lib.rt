@@ -50,14 +50,14 @@ const NO_ROW: u64 = 576460752303423488;
 pub const SHARED: u64 = sizes::CODES as u64;
 
 // A type number that may be missing.
-#[derive(Drop)]
+#[derive(Clone, Copy)]
 pub enum Link {
     Nothing,
     To(u64),
 }
 
 // The supertypes that the table keeps: rule 1 refuses a second one.
-#[derive(Drop)]
+#[derive(Clone, Copy)]
 pub enum Supers {
     Nothing,
     One(u64),
@@ -65,14 +65,14 @@ pub enum Supers {
 }
 
 // A form, by where its codes start and how many they are: those of its fields, or of its parameters and of its results.
-#[derive(Drop)]
+#[derive(Clone, Copy)]
 pub enum Shape {
     Struct(u32, u32),
     Func(u32, u32, u32, u32),
 }
 
 // A heap type: the number of an abstract one, or a type number.
-#[derive(Drop)]
+#[derive(Clone, Copy)]
 pub enum HeapKind {
     Abstract(u64),
     Defined(u64),
@@ -80,7 +80,7 @@ pub enum HeapKind {
 }
 
 // A value type: a number type's code, or whether it is nullable and its heap type's code.
-#[derive(Drop)]
+#[derive(Clone, Copy)]
 pub enum ValKind {
     Number(u64),
     Ref(bool, u64),
