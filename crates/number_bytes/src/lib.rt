@@ -1,4 +1,6 @@
 // A byte of the input: the item of which all others are made. The answer is that of any place, past the end too.
+#![tactic(auto)]
+
 ghost use Rattle.number_bytes.specs.Bytes.{ByteAt};
 
 // A byte of the input, or none where the place lies past its end.
