@@ -44,7 +44,7 @@ module _ (ts : Types) (x : ℕ) where
 
 -- The chain
 
-steps_short : (steps : ℕ) {ts : Types} {n x y : ℕ} → short_chain steps ts x ≡ true → Steps ts n x y → n ≤ steps
+steps_short : {ts : Types} (steps : ℕ) {n x y : ℕ} → short_chain steps ts x ≡ true → Steps ts n x y → n ≤ steps
 unfolding short_chain
 steps_short steps e stay = omega arith
 steps_short zero e (step s more) = absurd (false≢true (rw s at e))

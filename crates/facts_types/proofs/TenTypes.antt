@@ -52,14 +52,24 @@ row_hierarchy ARRAY = of_any
 
 above_listed : (a : Abstract) {b : Abstract} → Memᴰ b (row a).above → Listed a b
 above_listed NOFUNC (Memᴰ.head e) = rw e nofunc_below_func
+above_listed NOFUNC (Memᴰ.tail x) = elim x [ ]
 above_listed NOEXTERN (Memᴰ.head e) = rw e noextern_below_extern
+above_listed NOEXTERN (Memᴰ.tail x) = elim x [ ]
 above_listed NONE (Memᴰ.head e) = rw e none-below_i31
 above_listed NONE (Memᴰ.tail (Memᴰ.head e)) = rw e none-below_struct
 above_listed NONE (Memᴰ.tail (Memᴰ.tail (Memᴰ.head e))) = rw e none-below_array
+above_listed NONE (Memᴰ.tail (Memᴰ.tail (Memᴰ.tail x))) = elim x [ ]
+above_listed FUNC x = elim x [ ]
+above_listed EXTERN x = elim x [ ]
+above_listed ANY x = elim x [ ]
 above_listed EQ (Memᴰ.head e) = rw e eq-below_any
+above_listed EQ (Memᴰ.tail x) = elim x [ ]
 above_listed I31 (Memᴰ.head e) = rw e i31_below-eq
+above_listed I31 (Memᴰ.tail x) = elim x [ ]
 above_listed STRUCT (Memᴰ.head e) = rw e struct_below-eq
+above_listed STRUCT (Memᴰ.tail x) = elim x [ ]
 above_listed ARRAY (Memᴰ.head e) = rw e array_below-eq
+above_listed ARRAY (Memᴰ.tail x) = elim x [ ]
 
 pub directly_listed : (a b : Abstract) → directly_above a b ≡ true → Listed a b
 directly_listed a b e =
