@@ -49,6 +49,7 @@ among_upward (suc n) i b h l = go (eqb b i) refl (λ next. among_upward n (suc i
 
 -- a line that another line was made of
 made_of : {A B : Type 0} (f : A → B) {y : B} (xs : List A) → Among y (map f xs) → (x : A) × Among x xs × (f x ≡ y)
+made_of f [] x = elim x [ ]
 made_of f (x ∷ xs) is_first_lem = (x, is_first_lem, refl)
 made_of f (x ∷ xs) (is_later later) = let (z, among, same) = made_of f xs later in (z, is_later among, same)
 
