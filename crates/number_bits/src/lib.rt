@@ -1,5 +1,7 @@
 // The bits of a LEB128 number: seven of each byte, the lowest first, up to a byte that does not go on. What they mean as a number
 // is known to number_values.
+#![tactic(auto)]
+
 ghost use Rattle.number_bits.specs.Bits.{MostBytes, GoesOn, BitsRead};
 
 use number_bytes::Byte;
