@@ -1,5 +1,7 @@
 // Reading LEB128 numbers of 32, 33 and 64 bits, none of them padded: the bits of number_bits, as the numbers of number_values.
 // Each answer is that of scope's definition (specs/Widths.antt), on any bytes and at any place.
+#![tactic(auto)]
+
 ghost use Rattle.std.specs.Prelude.{◌<◌, ◌^◌, ◌≡◌};
 ghost use Rattle.scope.specs.Numbers.{u32, s32, s33, s64};
 ghost use Rattle.number_values.specs.Values.{natural_is, integer_is};
