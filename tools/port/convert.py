@@ -49,6 +49,16 @@ def split_body(rest):
     return (m.group(1).split(), m.group(2).strip()) if m else (None, None)
 
 
+def carried(body, lts):
+    """a term over the walk's facts, each under its step's name of today"""
+    steps = {}
+    for _, _, pair, *_ in lts["places"]:
+        steps.setdefault(pair[0].replace("_", "-"), pair[1])
+    slices = {k.replace("_", "-"): v for typed in lts["typed"] for v, k in typed}
+    body = re.sub(r"\bc(?:\.before)*\.((?:shared-|mut-)?slice-known[\w-]*)\.given", lambda m: f"c.type_inv.{slices.get(m.group(1), m.group(1))}", body)
+    return re.sub(r"\b([a-z]\w*)(?:\.before)+\.([\w-]+)", lambda m: f"{m.group(1)}.{steps.get(m.group(2), m.group(2))}", body)
+
+
 def convert(crate, key, path, lts, left):
     with open(path, encoding="utf-8") as f:
         text = f.read()
@@ -111,9 +121,12 @@ def convert(crate, key, path, lts, left):
         if new.startswith("shape_of-"):
             if "c.before" in (body or "") or True:
                 continue
-        if body is None or re.search(r"\bc\.|\bc\b", body or ""):
-            left.append(f"{path}: {new} (was {old}): {' '.join(args or [])} = {body}")
+        if body is None:
+            left.append(f"{path}: {new} (was {old}): no body")
             continue
+        if re.search(r"\bc\b", body):
+            left.append(f"{path}: {new} (was {old}): {' '.join(args or [])} = {body}")
+            body = carried(body, lts)
         answers.append(f"pub {new} : goal.{new}\n{unf}{new} c = {body}")
     dotted = ".".join(os.path.relpath(folder, f"crates/{crate}/proofs").split("/"))
 

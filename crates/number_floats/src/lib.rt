@@ -1,5 +1,7 @@
 // The bytes of floats, each float one item. The answer is that of scope's definition (specs/Floats.antt), on any bytes and at any
 // place.
+#![tactic(auto)]
+
 ghost use Rattle.std.specs.Prelude.{◌-◌, ◌*◌, ◌<◌, ◌^◌, ◌≡◌, length};
 ghost use Rattle.scope.specs.Numbers.{float_bytes, float32, float64};
 ghost use Rattle.number_floats.specs.Floats.{ByteIs, FloatLength, FloatRead};
