@@ -1,11 +1,14 @@
 // What the programs with cases in a file share. Bytes that are written as text: words of hexadecimal digits, with a space
 // between two; `512*4100` is 512 times 41 00, and `63*5001++5F00` counts: 50 01 00 5F 00, 50 01 01 5F 00 and so on. Nothing
 // here fails: what does not fit is left out, and a sign that is no digit counts as 0. And whether lent words are zero, the
-// line that sets a library, and a refusal as text.
-ghost use Rattle.std.specs.Prelude.{◌≤◌};
+// line that sets a library, a refusal as text, and the reading of the cases.
+#![tactic(auto)]
 
-use libc::STDOUT_FILENO;
+ghost use Rattle.std.specs.Prelude.{◌≤◌, length, IfOk};
+
 use scope::Place;
+use std::io;
+use std::io::Read;
 
 pub const SPACE: u8 = b' ';
 
@@ -67,7 +70,7 @@ pub fn decimal(word: &[u8]) -> u64 {
     while i < word.len() {
         let sign = word[i];
         let tens = (n % 1844674407370955162) * 10;
-        n = std::num::wrapping_add_u64(tens, digit(sign) % 10);
+        n = tens.wrapping_add(digit(sign) % 10);
         i += 1;
     }
     n
@@ -185,31 +188,46 @@ pub fn read_library(line: &[u8], out: &mut [u8]) -> Library {
 }
 
 // A space, and a number.
-pub fn tell_number(n: u64) {
-    io::write_all(STDOUT_FILENO, b" ");
-    io::print_decimal(STDOUT_FILENO, n);
+pub fn tell_number(rt: &impl Print, n: u64) -> io::Result<()> {
+    print!(rt; " {n}")
 }
 
 // The word for an input, where it is told.
-pub fn tell_input(input: &[u8], told: bool) {
+pub fn tell_input(rt: &impl Print, input: &[u8], told: bool) -> io::Result<()> {
     if told {
-        io::write_all(STDOUT_FILENO, input);
+        rt.write_all(input)?;
     }
+    Ok(())
 }
 
 // A refusal: `no`, its number, its place, and the input that the place is a byte of.
-pub fn tell_refusal(number: u64, place: Place, told: bool) {
-    io::write_all(STDOUT_FILENO, b" no");
-    tell_number(number);
+pub fn tell_refusal(rt: &impl Print, number: u64, place: Place, told: bool) -> io::Result<()> {
+    rt.write_all(b" no")?;
+    tell_number(rt, number)?;
     match place {
         Place::Library(at) => {
-            tell_number(at);
-            tell_input(b" library", told);
+            tell_number(rt, at)?;
+            tell_input(rt, b" library", told)
         }
         Place::Addon(at) => {
-            tell_number(at);
-            tell_input(b" addon", told);
+            tell_number(rt, at)?;
+            tell_input(rt, b" addon", told)
         }
-        Place::Plain(at) => tell_number(at),
+        Place::Plain(at) => tell_number(rt, at),
     }
+}
+
+// Reads until `out` is full or the input ends; how many bytes it put at the start of `out`.
+pub fn read_full(reader: &mut impl Read, out: &mut [u8]) -> io::Result<usize>
+    ensures { IfOk result (λ n. n ≤ length out.new) }
+{
+    let mut end: usize = 0;
+    while end < out.len() {
+        let count = reader.read(&mut out[end..])?;
+        if count == 0 {
+            break;
+        }
+        end += count;
+    }
+    Ok(end)
 }
