@@ -56,7 +56,7 @@ def carried(body, lts):
         steps.setdefault(pair[0].replace("_", "-"), pair[1])
     slices = {k.replace("_", "-"): v for typed in lts["typed"] for v, k in typed}
     body = re.sub(r"\bc(?:\.before)*\.((?:shared-|mut-)?slice-known[\w-]*)\.given", lambda m: f"c.type_inv.{slices.get(m.group(1), m.group(1))}", body)
-    return re.sub(r"\b([a-z]\w*)(?:\.before)+\.([\w-]+)", lambda m: f"{m.group(1)}.{steps.get(m.group(2), m.group(2))}", body)
+    return re.sub(r"\b(c|[a-z]\w*(?=\.before))(?:\.before)*\.([\w-]+)", lambda m: f"{m.group(1)}.{steps.get(m.group(2).replace('_', '-'), m.group(2))}", body)
 
 
 def convert(crate, key, path, lts, left):
