@@ -1,6 +1,8 @@
 // The ten abstract heap types, as constant tables, and the questions that are asked of them. In code an abstract heap type
 // is its number, which is its row's number in the tables; a number of 10 or more is read as the last row's, so that every
 // function is total. specs/Heaps.antt says what each answer is.
+#![tactic(auto)]
+
 ghost use Rattle.std.specs.Prelude.{◌≡◌};
 ghost use Rattle.scope.specs.Abstract.{row, abstract_of};
 ghost use Rattle.scope.specs.Memory.{abstract_code};
