@@ -30,6 +30,7 @@ found_among {A} b (r ∷ rows) {x} e = go (eqb b r.0) refl e (λ f. found_among 
     go false is e later = is_later (later e)
 
 missing_among : {A : Type 0} (b : ℕ) (rows : List (ℕ × A)) → find b rows ≡ none → Among b (codes_of rows) → ⊥
+missing_among {A = A} b [] e x = elim x [ ]
 missing_among b (r ∷ rows) e is_first_lem =
     let there : find r.0 (r ∷ rows) ≡ some r.1 = rw (eq-eqb r.0 r.0 refl) in
     none_is_not-some (sym e ∙ there)
