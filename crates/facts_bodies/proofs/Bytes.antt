@@ -94,8 +94,8 @@ module _ (s : List ℕ) (count : ℕ) where
   pub locals_got : {before at stop : ℕ} {es : List Entry} {vs : List Val} → EntriesAt s at es stop → Locals count before es vs → locals_at count (length es) before s at ≡ got vs stop
   unfolding locals_at
   locals_got no_entry no-locals = refl
-  locals_got (next_entry counted typed later) (more_locals below few rest) =
-      rw (counted, typed, value_reached-tested count below, le-leb _ _ few, locals_got later rest)
+  locals_got {before = before} (next_entry {e = e} counted typed later) (more_locals below few rest) =
+      rw (counted, typed, value_reached-tested count below, le-leb _ _ few, locals_got {before = before + e.many} later rest)
 
 -- instructions
 
