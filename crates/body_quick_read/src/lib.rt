@@ -1,4 +1,6 @@
 // What stands after a code, read where it is short or else by the readers of number.
+#![tactic(auto)]
+
 ghost use Rattle.scope.specs.Numbers.{s32, s64, float_bytes};
 ghost use Rattle.body_quick_read.specs.Items.{ByteOr, NumberTold, TwoTold, SizeTold};
 
