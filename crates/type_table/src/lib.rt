@@ -1,5 +1,7 @@
 // The lent table of types, read: each question about a type by number, and what a code says. Every answer is what the
 // table's words say (specs/View.antt), for any words and any number: a number that names no row reads as words of zero.
+#![tactic(auto)]
+
 ghost use Rattle.std.specs.Prelude.{◌≡◌, ◌+◌, ◌*◌};
 ghost use Rattle.scope.specs.Layout.{row_span};
 ghost use Rattle.scope.specs.Syntax.{super_of};

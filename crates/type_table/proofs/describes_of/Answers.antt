@@ -1,0 +1,7 @@
+-- `type_table::describes_of` meets its contract: the view reads the same words.
+use borrow.Author.Rules.{rules}
+use Rattle.type_table.proofs.Rows.{row_exits}
+use Rattle.type_table.proofs.describes_of.Goals as goal
+
+pub returns : goal.returns
+returns c = search (row_exits, rules)
