@@ -32,11 +32,14 @@ module _ {s : List ℕ} where
       meet : {mid : ℕ} → Between s at w mid → Between s mid u end → Between s at w (at + length w) × Between s (at + length w) u end
       meet first second = let e = end_is first in (rw e at first, rw e at second)
 
+  only_apart : {at end end' : ℕ} {w u : List ℕ} → end ≡ end' → Between s at w end → Between s at u end' → w ≡ u
+  only_apart q nothing nothing = refl
+  only_apart q nothing (byte e more) = absurd (let later = end_is more in omega arith)
+  only_apart q (byte e more) nothing = absurd (let later = end_is more in omega arith)
+  only_apart q (byte {b = b} e more) (byte {b = c} f later) = let r : b ≡ c = cc in let p = only_apart q more later in cc
+
   pub only_one : {at end : ℕ} {w u : List ℕ} → Between s at w end → Between s at u end → w ≡ u
-  only_one nothing nothing = refl
-  only_one nothing (byte e more) = absurd (let later = end_is more in omega arith)
-  only_one (byte e more) nothing = absurd (let later = end_is more in omega arith)
-  only_one (byte {b = b} e more) (byte {b = c} f later) = let q : b ≡ c = cc in let p = only_one more later in cc
+  only_one first second = only_apart refl first second
 
 further : {s : List ℕ} {at end : ℕ} {w : List ℕ} (b : ℕ) → Between s at w end → Between (b ∷ s) (at + 1) w (end + 1)
 further b nothing = nothing

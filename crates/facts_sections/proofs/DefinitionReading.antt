@@ -126,10 +126,12 @@ form_read (byte there rest) (a_func_form {w = w} n m) (few_values few-ps few-rs)
     let (first, second) = split_at w rest in
     let results = (few_reads val_reads).complete second m (few_roomy few-rs) in
     rw (there, (few_reads val_reads).complete first n (few_roomy few-ps), results)
+form_read {s = s} {at = at} {f = f} nothing x9 _ = elim x9 [ ]
 
 form_first : {s w : List ℕ} {at next : ℕ} {f : Form} → Between s at w next → WritesForm w f → First s at form_codes
 form_first (byte there rest) (a_struct_form n) = record { code = 0x5F; there = there; among = Memᴰ.head refl }
 form_first (byte there rest) (a_func_form n m) = record { code = 0x60; there = there; among = Memᴰ.tail (Memᴰ.head refl) }
+form_first {s = s} {at = at} {f = f} nothing x5 = elim x5 [ ]
 
 -- Definitions
 

@@ -80,6 +80,7 @@ says_broken : {tests : List (Bool × ℕ)} {rules : List Rule} {n : ℕ} → Dec
 says_broken (a_test says tested more) (kept_then p later) = rw (tested p) (says_broken more later)
 says_broken (a_test {t = true} says tested more) (broken wrong) = absurd (wrong (says refl))
 says_broken (a_test {t = false} says tested more) (broken wrong) = refl
+says_broken {n = n} no_test x4 = elim x4 [ ]
 
 -- Type by type
 

@@ -80,6 +80,7 @@ bits_read (suc room) (byte there nothing) (last_seven {b = b} low) short = rw (t
 bits_read (suc room) {s} {at = at} {next = next} (byte there rest) (seven_more {b = b} {v = u} {w = w} high more) short =
     let later : bits_at room s (at + 1) ≡ bits u (length w) next = bits_read room rest more (omega arith) in
     rw (there, later, le-ltb b 128 high, add-one)
+bits_read (suc room) {s = s} {at = at} {v = v} nothing x7 short = elim x7 [ ]
 
 -- The range, and that no byte is to spare: one law for every width, unsigned or signed
 

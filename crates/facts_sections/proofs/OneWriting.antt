@@ -70,6 +70,7 @@ heap_one : {w u : List ℕ} {h : Heap} → Bytes w → Bytes u → WritesHeap w 
 heap_one (also b ws) (also c us) (exact_type n) (exact_type m) = ap (λ (w : List ℕ). 0x62 ∷ w) (natural_one 32 ws us n m)
 heap_one ws us abstract_code_lem abstract_code_lem = refl
 heap_one ws us (type-number n) (type-number m) = whole-one 33 ws us n m
+heap_one (also b ws) none_left_lem (exact_type {w = w} n) x24 = elim x24 [ ]
 
 val_one : {w u : List ℕ} {v : Val} → OneWay v → Bytes w → Bytes u → WritesVal w v → WritesVal u v → w ≡ u
 val_one a_number ws us i32_type i32_type = refl
@@ -79,6 +80,12 @@ val_one a_number ws us f64_type f64_type = refl
 val_one not_null (also b ws) (also c us) (reference h) (reference k) = ap (λ (w : List ℕ). 0x64 ∷ w) (heap_one ws us h k)
 val_one nullable-number (also b ws) (also c us) (nullable_reference h) (nullable_reference k) = ap (λ (w : List ℕ). 0x63 ∷ w) (heap_one ws us h k)
 val_one nullable_exact (also b ws) (also c us) (nullable_reference h) (nullable_reference k) = ap (λ (w : List ℕ). 0x63 ∷ w) (heap_one ws us h k)
+val_one {u = u} (not_null {h = h}) none_left_lem us x11 _ = elim x11 [ ]
+val_one (not_null {h = h}) (also {xs = xs} b ws) none_left_lem _ x18 = elim x18 [ ]
+val_one {u = u} nullable-number none_left_lem us x14 _ = elim x14 [ ]
+val_one nullable-number (also {xs = xs} b ws) none_left_lem _ x22 = elim x22 [ ]
+val_one {u = u} nullable_exact none_left_lem us x15 _ = elim x15 [ ]
+val_one nullable_exact (also {xs = xs} b ws) none_left_lem _ x23 = elim x23 [ ]
 
 either_way : {w : List ℕ} {a : Abstract} → WritesVal w (ref true (abstract a)) → (w ≡ (row a).code ∷ []) ⊎ (w ≡ 0x63 ∷ (row a).code ∷ [])
 either_way (nullable_reference abstract_code_lem) = inr refl
@@ -105,10 +112,10 @@ record Once {A : Type 0} (W : ℕ → List ℕ → A → Type 0) (P : A → Type
 module _ {A : Type 0} {W : ℕ → List ℕ → A → Type 0} {P : A → Type 0} (once : Once W P) where
   entries-one : {at from : ℕ} {w u : List ℕ} {xs : List A} → All P xs → Bytes w → Bytes u → Entries W at w xs → Entries W from u xs → w ≡ u
   entries-one none_left_lem ws us no_entry no_entry = refl
-  entries-one (also p ps) ws us (an_entry {w = w} x xs) (an_entry {w = u} y ys) =
+  entries-one {at = at} {from = from} (also p ps) ws us (an_entry {w = w} x xs) (an_entry {w = u} y ys) =
       let (first, rest) = all_apart w ws in
       let (begins, more) = all_apart u us in
-      ap₂ (λ (a b : List ℕ). a ++ b) (once.one p first begins x y) (entries-one ps rest more xs ys)
+      ap₂ (λ (a b : List ℕ). a ++ b) (once.one p first begins x y) (entries-one {at = at + length w} {from = from + length u} ps rest more xs ys)
 
   counted-one : {at from : ℕ} {w u : List ℕ} {xs : List A} → All P xs → Bytes w → Bytes u → Counted W at w xs → Counted W from u xs → w ≡ u
   counted-one ps ws us (count_and-entries {w = w} n xs) (count_and-entries {w = u} m ys) =
@@ -145,10 +152,12 @@ head_one (also b ws) (also c us) (final_with_supertypes l) (final_with_supertype
 head_one ws us (final_with_supertypes l) neither size = absurd (omega arith)
 head_one ws us neither (final_with_supertypes l) size = absurd (omega arith)
 head_one ws us neither neither size = refl
+head_one (also b ws) none_left_lem (open_with_supertypes {w = w} {xs = xs} l) x30 size = elim x30 [ ]
 
 clause_one : (code : ℕ) {w u : List ℕ} {x : Option ℕ} → Bytes w → Bytes u → WritesClause code w x → WritesClause code u x → w ≡ u
 clause_one code (also b ws) (also c us) (a_clause n) (a_clause m) = ap (λ (w : List ℕ). code ∷ w) (natural_one 32 ws us n m)
 clause_one code ws us no_clause no_clause = refl
+clause_one code (also b ws) none_left_lem (a_clause {w = w} n) x26 = elim x26 [ ]
 
 form_one : {w u : List ℕ} {f : Form} → OneWayForm f → Bytes w → Bytes u → WritesForm w f → WritesForm u f → w ≡ u
 form_one (a_struct fs) (also b ws) (also c us) (a_struct_form l) (a_struct_form m) = ap (λ (w : List ℕ). 0x5F ∷ w) (listed-one fields_once fs ws us l m)
@@ -156,6 +165,10 @@ form_one (a_function ps rs) (also b ws) (also c us) (a_func_form {w = w} p r) (a
     let (first, rest) = all_apart w ws in
     let (begins, more) = all_apart u us in
     ap₂ (λ (a b : List ℕ). 0x60 ∷ a ++ b) (listed-one values_once ps first begins p q) (listed-one values_once rs rest more r s)
+form_one {u = u} (a_struct fs) none_left_lem _ x17 _ = elim x17 [ ]
+form_one (a_struct fs) (also {xs = xs} b ws) none_left_lem _ x24 = elim x24 [ ]
+form_one {u = u} (a_function ps rs) none_left_lem _ x18 _ = elim x18 [ ]
+form_one (a_function ps rs) (also {xs = xs} b ws) none_left_lem _ x25 = elim x25 [ ]
 
 head_same : {h k : Head} → h.is_open ≡ k.is_open → h.supers ≡ k.supers → h ≡ k
 head_same {h} {k} e f = ap₂ (λ (o : Bool) (xs : List ℕ). record { is_open = o; supers = xs }) e f
@@ -206,12 +219,12 @@ group_one (also way none_left_lem) ws us (alone d) (alone e) = definition_one re
 
 groups_one : {first at from : ℕ} {w u : List ℕ} {gs : List Group} → at ≡ from → OneWayGroups gs → Bytes w → Bytes u → WritesGroups first at w gs → WritesGroups first from u gs → w ≡ u
 groups_one same none_left_lem ws us no_group no_group = refl
-groups_one {at = at} {from = from} same (also way ways) ws us (a_group {w = w} g gs) (a_group {w = u} k ks) =
+groups_one {first = before} {at = at} {from = from} same (also {x = g'} way ways) ws us (a_group {w = w} g gs) (a_group {w = u} k ks) =
     let (first, rest) = all_apart w ws in
     let (begins, more) = all_apart u us in
     let bytes : w ≡ u = group_one way first begins (rw same at g) k in
     let next : at + length w ≡ from + length u = rw (same, bytes) in
-    ap₂ (λ (a b : List ℕ). a ++ b) bytes (groups_one next ways rest more gs ks)
+    ap₂ (λ (a b : List ℕ). a ++ b) bytes (groups_one {first = before + length g'} next ways rest more gs ks)
 
 section-one : {first : ℕ} {w u : List ℕ} {gs : List Group} → OneWayGroups gs → Bytes w → Bytes u → WritesSection first w gs → WritesSection first u gs → w ≡ u
 section-one ways ws us (a_section {w = w} n gs) (a_section {w = u} m ks) =

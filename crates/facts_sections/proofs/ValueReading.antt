@@ -152,6 +152,7 @@ val_read (byte there rest) (reference h) = rw (there, heap_reads.complete rest h
 val_read (byte there nothing) (abstract_alone {a = a}) =
     let c = code-kept a in
     rw (there, absent_none (number_of (row a).code) c.not-number, c.not-nullable, c.not_reference, code-names a)
+val_read {s = s} {at = at} {v = v} nothing x5 = elim x5 [ ]
 
 pub val_reads : Reads (Anywhere WritesVal) AnySize val_at
 val_reads = record { sound = val_found; complete = λ stretch writes small. val_read stretch writes }
@@ -173,6 +174,8 @@ flag_found s at e =
 flag_read : {s w : List ℕ} {at next : ℕ} {m : Bool} → Between s at w next → WritesFlag w m → flag_at s at ≡ got m next
 flag_read (byte there nothing) fixed-flag = rw there
 flag_read (byte there nothing) mutable_flag = rw there
+flag_read {s = s} {at = at} {m = m} nothing x5 = elim x5 [ ]
+flag_read {s = s} {at = at} {next = next} {m = m} (byte {b = b} there (byte {w = w} _ _)) x22 = elim x22 [ ]
 
 field_found : (s : List ℕ) (at : ℕ) {f : Field} {next : ℕ} → field_at s at ≡ got f next → Found (Anywhere WritesField) AnySize s at f next
 unfolding field_at
