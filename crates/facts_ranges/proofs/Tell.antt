@@ -20,6 +20,7 @@ use Rattle.facts_ranges.specs.Tell.{RangesTell}
 earlier : {x : ℕ} {ts : ℕ → Definition} (supers : List ℕ) → SupertypesOf ts x supers → or_zero (first_of supers) ≤ x
 earlier [] no_supertype = omega arith
 earlier (p ∷ []) (one_supertype less o) = omega arith
+earlier {ts = ts} (p ∷ (_ ∷ _)) x6 = elim x6 [ ]
 
 module _ (ds : List Definition) where
   parent_some : (x : ℕ) {q : ℕ} → super_of (types_of ds x) ≡ some q → parents ds x ≡ suc q
