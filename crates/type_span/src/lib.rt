@@ -1,5 +1,7 @@
 // The range of a type, two words of its row: where it starts, and where it ends. A row that is not there reads as 0, and a store
 // there does nothing.
+#![tactic(auto)]
+
 ghost use Rattle.std.specs.Prelude.{◌≡◌, ◌+◌, ◌*◌, ◌%◌, set};
 ghost use Rattle.scope.specs.Layout.{row_span};
 ghost use Rattle.lent_u16.specs.Words.{word_limit, WordAt};
