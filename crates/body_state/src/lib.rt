@@ -1,5 +1,7 @@
 // Where a body's check stands, kept in lent scratch: the locals and which of them are set, the operands, the open blocks.
 // Each answer is what the scratch's words say (specs/State.antt), for any words.
+#![tactic(auto)]
+
 ghost use Rattle.std.specs.Prelude.{◌≡◌, ◌+◌, ◌*◌};
 ghost use Rattle.lent_u32.specs.Scratch.{Word32At};
 ghost use Rattle.body_state.specs.Layout.{operands_from, frames_from, frame_span};
