@@ -1,5 +1,7 @@
 // Type rule 1, first part: a number may name any type up to the end of its own group. Every number of a definition is
 // looked at: its supertypes, its clauses, and those in its fields, parameters and results.
+#![tactic(auto)]
+
 ghost use Rattle.std.specs.Prelude.{◌≡◌, ◌&&◌};
 ghost use Rattle.scope.specs.Lists.{as_list};
 ghost use Rattle.scope.specs.TypeRules.{heap_names, val_names, form_names, in_reach};
