@@ -1,5 +1,7 @@
 // Reading heap types, value types and fields. A type is answered by its code (scope's Memory.antt), a type number that
 // names no type as type_table's Kept.antt keeps it.
+#![tactic(auto)]
+
 ghost use Rattle.std.specs.Prelude.{◌≡◌};
 ghost use Rattle.scope.specs.Sections.{heap_at, val_at, flag_at, field_at, number_of};
 ghost use Rattle.scope.specs.Memory.{flag};
