@@ -2,6 +2,8 @@
 // State.antt.
 
 // Two more than a type's code is its word; the two words below are an unknown, and a non-null reference of unknown heap.
+#![tactic(auto)]
+
 pub const UNKNOWN: u64 = 0;
 
 pub const UNKNOWN_REFERENCE: u64 = 1;
