@@ -1,6 +1,8 @@
 // Where a type stands in its hierarchy: up its declared supertypes to another; by its form its kind, struct or func, with the
 // abstract types above that; and which abstract type is the bottom. Each answer is by scope's Order.antt over what the table says.
 // Whoever asks for the way up has given the table its ranges (specs/Ranged.antt); of all else it is read as it stands.
+#![tactic(auto)]
+
 ghost use Rattle.std.specs.Prelude.{◌≡◌};
 ghost use Rattle.scope.specs.Sizes.{most_steps};
 ghost use Rattle.scope.specs.Abstract.{same_abstract};
