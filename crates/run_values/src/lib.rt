@@ -1,5 +1,7 @@
 // Total access to lent memory of 64-bit words, and values in it. As in lent_u16, no place is out of range: a word past the
 // end reads as 0, and a store there does nothing. A value takes two words, its kind and its bits (docs/LAYOUT.md).
+#![tactic(auto)]
+
 pub mod layout;
 
 ghost use Rattle.std.specs.Prelude.{◌≡◌, ◌++◌, ◌-◌, length, set, take, replicate};
