@@ -157,6 +157,7 @@ never_among b (r ∷ rows) e (is_later m) = go (eqb b r.0) e (λ f. never_among 
     go : (t : Bool) → cond t (some r.1) (find b rows) ≡ none → (find b rows ≡ none → ⊥) → ⊥
     go true e later = none_is_not-some (sym e)
     go false e later = later e
+never_among b [] e x'' = elim x'' [ ]
 
 no_line : (b : ℕ) (rows : List (ℕ × Reader Instr)) → ¬ Among b (codes_of rows) → find b rows ≡ none
 no_line b [] never = refl

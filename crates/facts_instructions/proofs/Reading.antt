@@ -101,6 +101,7 @@ val_first (byte there rest) f64_type = record { b = 0x7C; there = there; other =
 val_first (byte there rest) (nullable_reference h) = record { b = 0x63; there = there; other = refl }
 val_first (byte there rest) (reference h) = record { b = 0x64; there = there; other = refl }
 val_first (byte there rest) (abstract_alone {a = a}) = record { b = (row a).code; there = there; other = not_40 a }
+val_first {s = s} {at = at} {v = v} nothing x5 = elim x5 [ ]
 
 block_type_found : (s : List ℕ) (at : ℕ) {rs : List Val} {next : ℕ} → block_type_at s at ≡ got rs next → Found (Anywhere WritesBlockType) AnySize s at rs next
 unfolding block_type_at
@@ -171,6 +172,7 @@ cast_read (byte there rest) (a_cast {w = w} {u = u} flags_3 l h k) =
     let (mid, label, more) = split w rest in
     let (far, source, target) = split u more in
     rw (there, (unsigned_reads 32).complete label l tt, heap_reads.complete source h tt, heap_reads.complete target k tt)
+cast_read {s = s} {at = at} {k = k} nothing x5 = elim x5 [ ]
 
 pub cast_reads : Reads (Anywhere WritesCast) AnySize cast_at
 cast_reads = record { sound = cast_found; complete = λ lies writes small. cast_read lies writes }
