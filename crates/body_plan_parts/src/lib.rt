@@ -1,5 +1,7 @@
 // What plans are made of: the codes of reference types, and a plan that only takes and gives. The
 // rules of the instructions are in the other crates body_plan_* and in body_plans.
+#![tactic(auto)]
+
 ghost use Rattle.std.specs.Prelude.{◌<◌, ◌^◌, true};
 ghost use Rattle.scope.specs.Syntax.{defined, exact, ref};
 ghost use Rattle.type_table.specs.View.{heap_at_code, view, both_codes};
