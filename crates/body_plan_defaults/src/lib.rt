@@ -1,4 +1,6 @@
 // Which value types have a default, asked of one type and of a list of fields or of types.
+#![tactic(auto)]
+
 ghost use Rattle.std.specs.Prelude.{◌≡◌};
 ghost use Rattle.scope.specs.BodyRules.{has_default};
 ghost use Rattle.type_table.specs.View.{val_at_code, both_codes};

@@ -1,5 +1,7 @@
 // Operands of a body's check, put on top of the scratch's stack: one word, or the types of a list. What the words then say is
 // by document 01's rules (scope's Bodies.antt).
+#![tactic(auto)]
+
 ghost use Rattle.std.specs.Prelude.{[], ◌∷◌, ◌+◌, ◌%◌, length};
 ghost use Rattle.scope.specs.Bodies.{on_top};
 ghost use Rattle.body_state.specs.Layout.{word_bound};

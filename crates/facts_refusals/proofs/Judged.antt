@@ -59,6 +59,7 @@ judges_and later (says_no_lem b) k = says_no_lem (broken_first later b)
 unbroken : {rules : List Rule} {n : ℕ} → AllKept rules → FirstBroken rules n → ⊥
 unbroken (kept_and p a) (broken wrong) = wrong p
 unbroken (kept_and p a) (kept_then q b) = unbroken a b
+unbroken {n = n} all_kept x3 = elim x3 [ ]
 
 one-first : {rules : List Rule} {n m : ℕ} → FirstBroken rules n → FirstBroken rules m → n ≡ m
 one-first (broken wrong) (broken other) = refl

@@ -35,6 +35,10 @@ module _ {ts : Types} (ordered : Ordered ts) where
 
   not_null_only : (o : Operand) (w : Wanted) → fits ts (non_null_of o) w ≡ false → ¬ ButForNull ts o w
   not_null_only (known (ref true h)) w f (but_for_null_lem no' yes') = false≢true (sym f ∙ meets_tested ordered yes')
+  not_null_only (known (num _)) w f x6 = elim x6 [ ]
+  not_null_only (known (ref false h)) w f x9 = elim x9 [ ]
+  not_null_only unknown w f x3 = elim x3 [ ]
+  not_null_only unknown_reference w f x4 = elim x4 [ ]
 
   outcome : (o : Operand) (w : Wanted) → Outcome o w (fit ts o w)
   unfolding fit

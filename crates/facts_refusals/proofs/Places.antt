@@ -118,6 +118,7 @@ last_number : {N P Q : Type 0} {n : ℕ} → FirstBroken (record { says = N; num
 last_number (broken wrong) = is_only_null
 last_number (kept_then n (broken wrong)) = is_bad_operand
 last_number (kept_then n (kept_then p (broken wrong))) = is_too_many
+last_number {N = N} {P = P} {Q = Q} (kept_then n (kept_then p (kept_then _ x16))) = elim x16 [ ]
 
 condition_number : (s : List ℕ) (c : Context) (st : State) (i : Instr) {n : ℕ} → Proper s i → FirstBroken (conditions c st i) n → InstructionFault n
 condition_number s c st (block rs) proper (broken wrong) = type-out_of_reach
@@ -129,6 +130,9 @@ condition_number s c st end proper (kept_then n (broken wrong)) = is_bad_operand
 condition_number s c st end proper (kept_then n (kept_then p (broken wrong))) = is_values-left
 condition_number s c st end proper (kept_then n (kept_then p (kept_then q (broken wrong)))) = is_too_many
 condition_number s c st (op o) proper b = asked-number c (scope_of c st) (asks o) (answered s c (scope_of c st) o proper) (λ m. last_number) b
+condition_number s c st (block rs) {n = n} proper (kept_then p (kept_then _ x14)) = elim x14 [ ]
+condition_number s c st (loop rs) {n = n} proper (kept_then p (kept_then _ x15)) = elim x15 [ ]
+condition_number s c st end proper (kept_then n (kept_then p (kept_then q (kept_then _ x24)))) = elim x24 [ ]
 
 in_order_lem : (o : Op) → rising (map number_of (asks o)) ≡ true
 in_order_lem unreachable = refl

@@ -50,6 +50,7 @@ link_number : (ts : Types) (x : ℕ) {n : ℕ} → FirstBroken (link_rules ts x)
 link_number ts x (broken no-reach) = is_out_of_reach
 link_number ts x (kept_then reach (broken no_super)) = is_bad_supertype
 link_number ts x (kept_then reach (kept_then super (broken no-chain))) = is_long_chain
+link_number ts x {n = n} (kept_then reach (kept_then super (kept_then _ x17))) = elim x17 [ ]
 
 type-number : (ts : Types) (x : ℕ) {n : ℕ} → FirstBroken (type_rules ts x) n → RuleFault n
 type-number ts x (broken a) = is_no_match
@@ -58,6 +59,7 @@ type-number ts x (kept_then p (kept_then q (broken a))) = is_describes_not_earli
 type-number ts x (kept_then p (kept_then q (kept_then r (broken a)))) = is_clauses_disagree
 type-number ts x (kept_then p (kept_then q (kept_then r (kept_then t (broken a))))) = is_bad_descriptor
 type-number ts x (kept_then p (kept_then q (kept_then r (kept_then t (kept_then u (broken a)))))) = is_bad_describes
+type-number ts x {n = n} (kept_then p (kept_then q (kept_then r (kept_then t (kept_then u (kept_then _ x29)))))) = elim x29 [ ]
 
 fault_number : {ts : Types} {n number place : ℕ} → FirstFault ts n number place → RuleFault number × (place < n)
 fault_number {ts = ts} {place = place} (in_links first) = (link_number ts place first.here, first.inside)

@@ -1,6 +1,8 @@
 // Type rule 6 of a type that is named by its number, x or exact x: whether it is below a heap type. That is given by its code,
 // and the table is read as it stands, for any words: the answer is that of the rule's test (scope's Order.antt) over what the
 // table says.
+#![tactic(auto)]
+
 ghost use Rattle.std.specs.Prelude.{◌≡◌};
 ghost use Rattle.scope.specs.Order.{heap_below};
 ghost use Rattle.type_table.specs.View.{heap_at_code, view, both_codes};
