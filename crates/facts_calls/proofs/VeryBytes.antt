@@ -17,7 +17,7 @@ use Rattle.scope.specs.Layout.{row_span}
 use Rattle.scope.specs.Syntax.{Form, struct, func, Definition, Group, super_of}
 use Rattle.scope.specs.Memory.{flag, or_zero, form_words, spare_words, row_words, rows_from, form_codes}
 use Rattle.scope.proofs.Truths.{none_is_not-some, decided}
-use Rattle.facts_sections.specs.Writing.{Entries, an_entry, count_and-entries, WritesDefinition, a_definition, WritesGroup, several, alone, WritesGroups, a_group, WritesSection, a_section}
+use Rattle.facts_sections.specs.Writing.{Entries, no_entry, an_entry, count_and-entries, WritesDefinition, a_definition, WritesGroup, several, alone, WritesGroups, no_group, a_group, WritesSection, a_section}
 use Rattle.facts_calls.specs.Asked.{LiesIn, begins_at, ends_at}
 
 -- a stretch of bytes that begin at `at` is the writing of this definition
@@ -97,14 +97,17 @@ one_definition {at = at} (a_definition {w = w} {c = c} {e = e} {u = u} head desc
     }
 
 in_entries : {reach at : ℕ} {u : List ℕ} {ds : List Definition} {d : Definition} → Entries (WritesDefinition reach) at u ds → Memᴰ d ds → Written at u d
+in_entries no_entry m = elim m [ ]
 in_entries (an_entry {w = w} {u = u} this later) (Memᴰ.head e) = put_behind {u = w} u (rw e (one_definition this))
 in_entries (an_entry {w = w} this later) (Memᴰ.tail m) = put_before w (in_entries later m)
 
 in_group : {first at : ℕ} {w : List ℕ} {g : Group} {d : Definition} → WritesGroup first at w g → Memᴰ d g → Written at w d
 in_group (several (count_and-entries {w = w} number entries)) m = put_before (0x4E ∷ []) (put_before w (in_entries entries m))
 in_group (alone this) (Memᴰ.head e) = rw e (one_definition this)
+in_group (alone this) (Memᴰ.tail m) = elim m [ ]
 
 in_groups : {first at : ℕ} {u : List ℕ} {gs : List Group} {d : Definition} → WritesGroups first at u gs → Memᴰ d (joined gs) → Written at u d
+in_groups no_group m = elim m [ ]
 in_groups {at = at} {d = d} (a_group {w = w} {u = u} {g = g} {gs = gs} this later) m = go (among g m) (λ q. in_groups later q)
   where
     go : Memᴰ d g ⊎ Memᴰ d (joined gs) → (Memᴰ d (joined gs) → Written (at + length w) u d) → Written at (w ++ u) d
