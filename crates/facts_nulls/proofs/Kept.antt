@@ -3,7 +3,7 @@
 use Prim.Native.Nat.{ℕ}
 use mathlib.Core.Path.{◌≡◌, refl, ap}
 use mathlib.Core.Bool.{Bool, true, false}
-use mathlib.Core.List.{List, ◌∷◌, map}
+use mathlib.Core.List.{[], List, ◌∷◌, map}
 use Rattle.scope.specs.Instructions.{Op}
 use Rattle.scope.specs.BodyRules.{Context, Scope, Plan, Ruled, allowed, fault, test, plan_of}
 use Rattle.facts_sections.specs.FirstFault.{FirstBroken, broken, kept_then}
@@ -38,6 +38,7 @@ number_as (local_set x) = refl
 asked_as : (c : Context) (here : Scope) (qs : List Question) {n : ℕ} → FirstBroken (map (rule_of c here) qs) n → as20 n ≡ n
 asked_as c here (q ∷ qs) (broken wrong) = number_as q
 asked_as c here (q ∷ qs) (kept_then p more) = asked_as c here qs more
+asked_as c here [] {n = n} x' = elim x' [ ]
 
 pub plan_kept : (c : Context) (here : Scope) → Ordered c.types → (o : Op) → ruled20 (plan_of c here o) ≡ plan_of c here o
 plan_kept c here ordered o = go (plan_of c here o) (λ n e. asked_as c here (asks o) ((fault_exactly (plan_asked c here ordered o)).0 e))
