@@ -1,5 +1,7 @@
 // The fields of a struct type in reach, and whether it has a descriptor: what the rules of the instructions on structs ask
 // first. The tests stand in document 01's order: 6, 23.
+#![tactic(auto)]
+
 ghost use Rattle.type_table.specs.View.{view, both_codes};
 ghost use Rattle.body_plan_structs.specs.Structs.{StructOf, Undescribed, Described};
 
