@@ -1,4 +1,6 @@
 // Labels, and the rules of the instructions that branch to one and look at no type: br and br_if. A label that is absent is 21.
+#![tactic(auto)]
+
 ghost use Rattle.scope.specs.Instructions.{br, br-if};
 ghost use Rattle.body_plan_labels.specs.Labels.{BlockLabel, LabelOf, Goes};
 
