@@ -1,5 +1,7 @@
 // The rules of the instructions that name a heap type and branch nowhere: ref.null, ref.test, ref.cast, ref.get_desc and
 // ref.cast_desc_eq. The tests stand in document 01's order: 6, 23.
+#![tactic(auto)]
+
 ghost use Rattle.std.specs.Prelude.{◌≡◌};
 ghost use Rattle.scope.specs.Memory.{abstract_code};
 ghost use Rattle.scope.specs.Instructions.{ref_null, ref_cast, ref_get_desc, ref_cast_desc_eq};
