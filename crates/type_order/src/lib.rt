@@ -1,5 +1,7 @@
 // Type rule 6: which heap types are below which. Types are given by their codes, and the table is read as it stands, for any
 // words: each answer is that of the rule's test (scope's Order.antt) over what the table says.
+#![tactic(auto)]
+
 ghost use Rattle.std.specs.Prelude.{◌≡◌};
 ghost use Rattle.scope.specs.Syntax.{abstract};
 ghost use Rattle.scope.specs.Order.{heap_below};
