@@ -1,5 +1,7 @@
 // The two types of a branching cast, before any label is looked at: the code of the rest, which is what the source is
 // known to be where it is not of the target, and whether both are of one hierarchy.
+#![tactic(auto)]
+
 ghost use Rattle.std.specs.Prelude.{not, ◌&&◌, ◌<◌, ◌≡◌};
 ghost use Rattle.scope.specs.Syntax.{ref};
 ghost use Rattle.scope.specs.BodyRules.{one_hierarchy};
