@@ -1,6 +1,8 @@
 // Whether one value type fits another, with three outcomes: it does, it would if it could not be null, it does not. Types are
 // given by their codes, and the table is read as it stands, for any words: each answer is that of scope's Order.antt over what
 // the table says.
+#![tactic(auto)]
+
 ghost use Rattle.std.specs.Prelude.{◌≡◌};
 ghost use Rattle.scope.specs.Syntax.{ref};
 ghost use Rattle.scope.specs.Order.{val_fit, same_val};
