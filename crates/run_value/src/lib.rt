@@ -1,5 +1,7 @@
 // A value of a run as the code carries it, and the two words by which memory holds it. A float that is no number is carried
 // by its bits, in a case of its own: the language has one such float, without sign and payload.
+#![tactic(auto)]
+
 ghost use Rattle.std.specs.Prelude.{◌≡◌};
 ghost use Rattle.std.specs.Float.{binary32, binary64};
 ghost use Rattle.std.specs.Float.Ieee.{nan_bits, to_bits};
