@@ -1,6 +1,8 @@
 // Instructions, and the readers of what follows their codes: block types, labels, locals, constants, types and fields. An
 // instruction is answered by value. Labels, locals, fields and constants stand as they were read; a type number is the
 // kept one and a type its code, as everywhere in the table (type_table's Kept.antt).
+#![tactic(auto)]
+
 ghost use Rattle.std.specs.Prelude.{◌≡◌};
 ghost use Rattle.scope.specs.Instructions.{block_type_at};
 ghost use Rattle.type_read.specs.Codes.{coded_is};
