@@ -10,6 +10,7 @@ use cases_text::{
     LIBRARY, LINE_END, Library, REMARK, SPACE, bytes, decimal, find, part, read_library, sign,
 };
 use scope::sizes;
+use std::io;
 
 const SECTION: u8 = b':';
 
@@ -23,7 +24,7 @@ const CODES: u8 = b'c';
 
 // What the lines so far have fixed: the library, how many bytes the section has, the function type's number, and the lent
 // elements.
-#[derive(Drop)]
+#[derive(Clone, Copy)]
 pub struct Setting {
     library: Library,
     length: usize,
@@ -78,13 +79,21 @@ fn with_lent(old: Setting, line: &[u8]) -> Setting {
 }
 
 // A case: its body is judged against the sections of the lines before it.
-fn case(setting: Setting, line: &[u8], library: &[u8], section: &[u8], body: &mut [u8]) {
+fn case(
+    rt: &impl Print,
+    setting: Setting,
+    line: &[u8],
+    library: &[u8],
+    section: &[u8],
+    body: &mut [u8],
+) -> io::Result<()> {
     let to = find(line, 0, SPACE);
     let end = bytes(body, line, to);
     let before = setting.library.length;
     let told = setting.library.told;
     let length = setting.length;
     judged(
+        rt,
         part(line, 0, to),
         part(library, 0, before),
         part(section, 0, length),
@@ -92,33 +101,40 @@ fn case(setting: Setting, line: &[u8], library: &[u8], section: &[u8], body: &mu
         setting.number,
         told,
         setting.lent,
-    );
+    )
 }
 
 // One line, up to its remark.
 fn read(
+    rt: &impl Print,
     setting: Setting,
     whole: &[u8],
     library: &mut [u8],
     section: &mut [u8],
     body: &mut [u8],
-) -> Setting {
+) -> io::Result<Setting> {
     let end = find(whole, 0, REMARK);
     let line = part(whole, 0, end);
     match sign(line, 0) {
-        LINE_END => setting,
-        LIBRARY => with_library(setting, line, library),
-        SECTION => with_section(setting, line, section),
-        LENT => with_lent(setting, line),
+        LINE_END => Ok(setting),
+        LIBRARY => Ok(with_library(setting, line, library)),
+        SECTION => Ok(with_section(setting, line, section)),
+        LENT => Ok(with_lent(setting, line)),
         _ => {
-            case(setting, line, library, section, body);
-            setting
+            case(rt, setting, line, library, section, body)?;
+            Ok(setting)
         }
     }
 }
 
 // Every line of a text. The buffers have room for one byte more than a section or a body may have, and begin with 00.
-pub fn all(text: &[u8], library: &mut [u8], section: &mut [u8], body: &mut [u8]) {
+pub fn all(
+    rt: &impl Print,
+    text: &[u8],
+    library: &mut [u8],
+    section: &mut [u8],
+    body: &mut [u8],
+) -> io::Result<()> {
     let mut setting = Setting {
         library: Library {
             length: 1,
@@ -137,10 +153,11 @@ pub fn all(text: &[u8], library: &mut [u8], section: &mut [u8], body: &mut [u8])
     while from < text.len() {
         let to = find(text, from, LINE_END);
         let line = part(text, from, to);
-        setting = read(setting, line, library, section, body);
+        setting = read(rt, setting, line, library, section, body)?;
         if text.len() <= to {
-            return;
+            return Ok(());
         }
         from = to + 1;
     }
+    Ok(())
 }

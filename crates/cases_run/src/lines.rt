@@ -9,13 +9,14 @@ use crate::trying::tried;
 use cases_text::{
     LIBRARY, LINE_END, Library, REMARK, SPACE, bytes, decimal, find, part, read_library, sign,
 };
+use std::io;
 
 const SECTION: u8 = b':';
 
 const LENT: u8 = b'=';
 
 // What the lines so far have fixed: the library, how many bytes the section has, and the function type's number.
-#[derive(Drop)]
+#[derive(Clone, Copy)]
 pub struct Setting {
     library: Library,
     length: usize,
@@ -73,16 +74,17 @@ fn set_size(line: &[u8], sizes: &mut [u64]) {
 
 // A case: its body is run with the sections of the lines before it.
 fn case(
+    rt: &impl Print,
     setting: Setting,
     line: &[u8],
     library: &[u8],
     section: &[u8],
     body: &mut [u8],
     sizes: &[u64],
-) {
+) -> io::Result<()> {
     let to = find(line, 0, SPACE);
     if line.len() <= to {
-        return;
+        return Ok(());
     }
     let after = find(line, to + 1, SPACE);
     let budget = decimal(part(line, to + 1, after));
@@ -91,6 +93,7 @@ fn case(
     let told = setting.library.told;
     let length = setting.length;
     tried(
+        rt,
         part(line, 0, to),
         part(library, 0, before),
         part(section, 0, length),
@@ -99,43 +102,45 @@ fn case(
         budget,
         told,
         sizes,
-    );
+    )
 }
 
 // One line, up to its remark.
 fn read(
+    rt: &impl Print,
     setting: Setting,
     whole: &[u8],
     library: &mut [u8],
     section: &mut [u8],
     body: &mut [u8],
     sizes: &mut [u64],
-) -> Setting {
+) -> io::Result<Setting> {
     let end = find(whole, 0, REMARK);
     let line = part(whole, 0, end);
     match sign(line, 0) {
-        LINE_END => setting,
-        LIBRARY => with_library(setting, line, library),
-        SECTION => with_section(setting, line, section),
+        LINE_END => Ok(setting),
+        LIBRARY => Ok(with_library(setting, line, library)),
+        SECTION => Ok(with_section(setting, line, section)),
         LENT => {
             set_size(line, sizes);
-            setting
+            Ok(setting)
         }
         _ => {
-            case(setting, line, library, section, body, sizes);
-            setting
+            case(rt, setting, line, library, section, body, sizes)?;
+            Ok(setting)
         }
     }
 }
 
 // Every line of a text. The buffers have room for one byte more than a section or a body may have, and begin with 00.
 pub fn all(
+    rt: &impl Print,
     text: &[u8],
     library: &mut [u8],
     section: &mut [u8],
     body: &mut [u8],
     sizes: &mut [u64],
-) {
+) -> io::Result<()> {
     let mut setting = Setting {
         library: Library {
             length: 1,
@@ -148,10 +153,11 @@ pub fn all(
     while from < text.len() {
         let to = find(text, from, LINE_END);
         let line = part(text, from, to);
-        setting = read(setting, line, library, section, body, sizes);
+        setting = read(rt, setting, line, library, section, body, sizes)?;
         if text.len() <= to {
-            return;
+            return Ok(());
         }
         from = to + 1;
     }
+    Ok(())
 }

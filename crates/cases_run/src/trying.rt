@@ -5,6 +5,7 @@ ghost use Rattle.std.specs.Prelude.{◌≤◌};
 use cases_state::{lent16, lent32, lent64, tell, tell_name};
 use cases_text::{zero, zero32};
 use scope::{Ran, sizes};
+use std::io;
 
 // the most that can be lent: one element more than a buffer's size
 const MORE_ROWS: usize = sizes::ROWS + 1;
@@ -64,6 +65,7 @@ fn scratch_zero(
 
 // The line behind the name: how the run ended, and the state, as far as it was lent.
 fn tell_lent(
+    rt: &impl Print,
     ran: Ran,
     told: bool,
     scratch: bool,
@@ -74,7 +76,7 @@ fn tell_lent(
     operands: &[u64; MORE_OPERANDS],
     blocks: &[u16; MORE_BLOCKS],
     sizes: &[u64],
-) {
+) -> io::Result<()> {
     let n = size(sizes, 5, MORE_COUNTS);
     let o = size(sizes, 6, MORE_OBJECTS);
     let f = size(sizes, 7, MORE_CELLS);
@@ -82,6 +84,7 @@ fn tell_lent(
     let s = size(sizes, 9, MORE_OPERANDS);
     let b = size(sizes, 10, MORE_BLOCKS);
     tell(
+        rt,
         ran,
         told,
         scratch,
@@ -91,11 +94,12 @@ fn tell_lent(
         lent64(locals, l),
         lent64(operands, s),
         lent16(blocks, b),
-    );
+    )
 }
 
 // Each buffer has room for one element more than its size; so many elements as the sizes say are lent.
 pub fn tried(
+    rt: &impl Print,
     name: &[u8],
     library: &[u8],
     section: &[u8],
@@ -104,7 +108,7 @@ pub fn tried(
     budget: u64,
     told: bool,
     sizes: &[u64],
-) {
+) -> io::Result<()> {
     let mut rows = [42405u16; MORE_ROWS];
     let mut shared = [42405u16; MORE_CODES];
     let mut codes = [42405u16; MORE_CODES];
@@ -145,9 +149,9 @@ pub fn tried(
         &mut operands[0..s],
         &mut blocks[0..b],
     );
-    tell_name(name);
+    tell_name(rt, name)?;
     let scratch = scratch_zero(&rows, &shared, &codes, &work, &ends, sizes);
     tell_lent(
-        ran, told, scratch, &counts, &objects, &cells, &locals, &operands, &blocks, sizes,
-    );
+        rt, ran, told, scratch, &counts, &objects, &cells, &locals, &operands, &blocks, sizes,
+    )
 }

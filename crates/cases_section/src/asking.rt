@@ -3,9 +3,9 @@
 // `zero` after a refusal.
 use crate::telling::{tell_memory, tell_no};
 use cases_text::{tell_input, tell_number};
-use libc::STDOUT_FILENO;
 use scope::Asked;
 use scope::sizes::{CODES, ROWS};
+use std::io;
 
 // Whether two parts of memory hold the same words.
 fn same_words(a: &[u16], b: &[u16]) -> bool {
@@ -41,41 +41,48 @@ fn as_alone(rows: &[u16], shared: &[u16], codes: &[u16], library: &[u8], section
 }
 
 // What lent memory holds after a yes.
-fn tell_kept(rows: &[u16], shared: &[u16], codes: &[u16], library: &[u8], section: &[u8]) {
+fn tell_kept(
+    rt: &impl Print,
+    rows: &[u16],
+    shared: &[u16],
+    codes: &[u16],
+    library: &[u8],
+    section: &[u8],
+) -> io::Result<()> {
     if as_alone(rows, shared, codes, library, section) {
-        io::write_all(STDOUT_FILENO, b" table\n");
-        return;
+        return rt.write_all(b" table\n");
     }
-    io::write_all(STDOUT_FILENO, b" rubbish\n");
+    rt.write_all(b" rubbish\n")
 }
 
-fn tell_byte(byte: u8) {
-    io::print_hex(STDOUT_FILENO, byte as u64, 2);
+fn tell_byte(rt: &impl Print, byte: u8) -> io::Result<()> {
+    print!(rt; "{byte:02x}")
 }
 
 // Bytes in hexadecimal; `-` where there are none.
-fn tell_bytes(part: &[u8]) {
+fn tell_bytes(rt: &impl Print, part: &[u8]) -> io::Result<()> {
     if part.len() == 0 {
-        io::write_all(STDOUT_FILENO, b"-");
-        return;
+        return rt.write_all(b"-");
     }
     let mut i: usize = 0;
     while i < part.len() {
-        tell_byte(part[i]);
+        tell_byte(rt, part[i])?;
         i += 1;
     }
+    Ok(())
 }
 
 // Where the bytes lie, and in which section.
-fn tell_at(from: u64, to: u64, input: &[u8], told: bool) {
-    io::write_all(STDOUT_FILENO, b" at");
-    tell_number(from);
-    tell_number(to);
-    tell_input(input, told);
+fn tell_at(rt: &impl Print, from: u64, to: u64, input: &[u8], told: bool) -> io::Result<()> {
+    rt.write_all(b" at")?;
+    tell_number(rt, from)?;
+    tell_number(rt, to)?;
+    tell_input(rt, input, told)
 }
 
 // Where the bytes lie and what lent memory holds; or the refusal.
 fn tell_asked(
+    rt: &impl Print,
     asked: Asked,
     library: &[u8],
     section: &[u8],
@@ -83,22 +90,23 @@ fn tell_asked(
     rows: &[u16],
     shared: &[u16],
     codes: &[u16],
-) {
+) -> io::Result<()> {
     match asked {
         Asked::Library(from, to) => {
-            tell_at(from, to, b" library", told);
-            tell_kept(rows, shared, codes, library, section);
+            tell_at(rt, from, to, b" library", told)?;
+            tell_kept(rt, rows, shared, codes, library, section)
         }
         Asked::Addon(from, to) => {
-            tell_at(from, to, b" addon", told);
-            tell_kept(rows, shared, codes, library, section);
+            tell_at(rt, from, to, b" addon", told)?;
+            tell_kept(rt, rows, shared, codes, library, section)
         }
-        Asked::Refused(refusal, place) => tell_no(refusal, place, told, rows, shared, codes),
+        Asked::Refused(refusal, place) => tell_no(rt, refusal, place, told, rows, shared, codes),
     }
 }
 
 // The first line.
 pub fn asked(
+    rt: &impl Print,
     name: &[u8],
     library: &[u8],
     section: &[u8],
@@ -107,32 +115,33 @@ pub fn asked(
     rows: &mut [u16],
     shared: &mut [u16],
     codes: &mut [u16],
-) {
+) -> io::Result<()> {
     let asked = section_call::ask_type(library, section, number, rows, shared, codes);
-    io::write_all(STDOUT_FILENO, name);
-    tell_asked(asked, library, section, told, rows, shared, codes);
+    rt.write_all(name)?;
+    tell_asked(rt, asked, library, section, told, rows, shared, codes)
 }
 
 // The bytes and what lent memory holds; none after a refusal.
 fn tell_handed(
+    rt: &impl Print,
     part: &[u8],
     library: &[u8],
     section: &[u8],
     rows: &[u16],
     shared: &[u16],
     codes: &[u16],
-) {
-    io::write_all(STDOUT_FILENO, b" bytes ");
-    tell_bytes(part);
+) -> io::Result<()> {
+    rt.write_all(b" bytes ")?;
+    tell_bytes(rt, part)?;
     if part.len() == 0 {
-        tell_memory(rows, shared, codes, 0, 0, 0);
-        return;
+        return tell_memory(rt, rows, shared, codes, 0, 0, 0);
     }
-    tell_kept(rows, shared, codes, library, section);
+    tell_kept(rt, rows, shared, codes, library, section)
 }
 
 // The second line.
 pub fn handed<'a>(
+    rt: &impl Print,
     name: &[u8],
     library: &'a [u8],
     section: &'a [u8],
@@ -140,8 +149,8 @@ pub fn handed<'a>(
     rows: &mut [u16],
     shared: &mut [u16],
     codes: &mut [u16],
-) {
+) -> io::Result<()> {
     let part = section_call::type_bytes(library, section, number, rows, shared, codes);
-    io::write_all(STDOUT_FILENO, name);
-    tell_handed(part, library, section, rows, shared, codes);
+    rt.write_all(name)?;
+    tell_handed(rt, part, library, section, rows, shared, codes)
 }

@@ -2,9 +2,9 @@
 // or `rubbish`, for what the words outside the table hold afterwards. Or the table itself: its words that are not zero.
 use crate::telling::{tell_memory, tell_no, tell_table};
 use cases_text::tell_number;
-use libc::STDOUT_FILENO;
 use scope::Verdict;
 use scope::sizes::{MOST_TYPES, ROW};
+use std::io;
 
 // from this first code on a type's codes lie in `shared`, at so much less
 const SHARED: u64 = 32768;
@@ -34,39 +34,46 @@ fn codes_end(rows: &[u16], count: u16, in_shared: bool) -> u64 {
 }
 
 // A yes: the words beyond the table are zero.
-fn tell_yes(count: u64, rows: &[u16], shared: &[u16], codes: &[u16]) {
-    io::write_all(STDOUT_FILENO, b" yes");
-    tell_number(count);
+fn tell_yes(
+    rt: &impl Print,
+    count: u64,
+    rows: &[u16],
+    shared: &[u16],
+    codes: &[u16],
+) -> io::Result<()> {
+    rt.write_all(b" yes")?;
+    tell_number(rt, count)?;
     match count {
         1..=MOST_TYPES => {
             let first = codes_end(rows, count as u16, true);
             let code = codes_end(rows, count as u16, false);
-            tell_memory(rows, shared, codes, ROW * count, first, code);
+            tell_memory(rt, rows, shared, codes, ROW * count, first, code)
         }
-        _ => tell_memory(rows, shared, codes, 0, 0, 0),
+        _ => tell_memory(rt, rows, shared, codes, 0, 0, 0),
     }
 }
 
 // The table's words, or the verdict.
 fn tell_judged(
+    rt: &impl Print,
     verdict: Verdict,
     told: bool,
     words: bool,
     rows: &[u16],
     shared: &[u16],
     codes: &[u16],
-) {
+) -> io::Result<()> {
     if words {
-        tell_table(rows, shared, codes);
-        return;
+        return tell_table(rt, rows, shared, codes);
     }
     match verdict {
-        Verdict::Accepted(count) => tell_yes(count, rows, shared, codes),
-        Verdict::Refused(number, place) => tell_no(number, place, told, rows, shared, codes),
+        Verdict::Accepted(count) => tell_yes(rt, count, rows, shared, codes),
+        Verdict::Refused(number, place) => tell_no(rt, number, place, told, rows, shared, codes),
     }
 }
 
 pub fn judged(
+    rt: &impl Print,
     name: &[u8],
     library: &[u8],
     section: &[u8],
@@ -75,8 +82,8 @@ pub fn judged(
     rows: &mut [u16],
     shared: &mut [u16],
     codes: &mut [u16],
-) {
+) -> io::Result<()> {
     let verdict = section_call::judge_section(library, section, rows, shared, codes);
-    io::write_all(STDOUT_FILENO, name);
-    tell_judged(verdict, told, words, rows, shared, codes);
+    rt.write_all(name)?;
+    tell_judged(rt, verdict, told, words, rows, shared, codes)
 }

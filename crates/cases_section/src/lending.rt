@@ -2,6 +2,7 @@
 use crate::asking::{asked, handed};
 use crate::judging::judged;
 use scope::sizes::{CODES, ROWS};
+use std::io;
 
 const RUBBISH: u16 = 42405;
 
@@ -19,7 +20,7 @@ pub enum Call {
 }
 
 // How many elements of each buffer are lent.
-#[derive(Drop)]
+#[derive(Clone, Copy)]
 pub struct Lent {
     pub rows: u64,
     pub shared: u64,
@@ -27,6 +28,7 @@ pub struct Lent {
 }
 
 fn called_in<'a>(
+    rt: &impl Print,
     call: Call,
     name: &[u8],
     library: &'a [u8],
@@ -35,23 +37,26 @@ fn called_in<'a>(
     rows: &mut [u16],
     shared: &mut [u16],
     codes: &mut [u16],
-) {
+) -> io::Result<()> {
     match call {
-        Call::Judge(words) => judged(name, library, section, told, words, rows, shared, codes),
-        Call::Ask(number) => asked(name, library, section, number, told, rows, shared, codes),
-        Call::Hand(number) => handed(name, library, section, number, rows, shared, codes),
+        Call::Judge(words) => judged(rt, name, library, section, told, words, rows, shared, codes),
+        Call::Ask(number) => asked(
+            rt, name, library, section, number, told, rows, shared, codes,
+        ),
+        Call::Hand(number) => handed(rt, name, library, section, number, rows, shared, codes),
     }
 }
 
 // One call, and its line.
 pub fn called<'a>(
+    rt: &impl Print,
     call: Call,
     name: &[u8],
     library: &'a [u8],
     section: &'a [u8],
     told: bool,
     lent: Lent,
-) {
+) -> io::Result<()> {
     let mut rows = [RUBBISH; MORE_ROWS];
     let mut shared = [RUBBISH; MORE_CODES];
     let mut codes = [RUBBISH; MORE_CODES];
@@ -61,7 +66,8 @@ pub fn called<'a>(
     if r <= MORE_ROWS {
         if h <= MORE_CODES {
             if c <= MORE_CODES {
-                called_in(
+                return called_in(
+                    rt,
                     call,
                     name,
                     library,
@@ -74,4 +80,5 @@ pub fn called<'a>(
             }
         }
     }
+    Ok(())
 }

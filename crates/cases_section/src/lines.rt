@@ -10,6 +10,7 @@ use cases_text::{
     LIBRARY, LINE_END, Library, REMARK, SPACE, bytes, decimal, find, part, read_library, sign,
 };
 use scope::sizes::{CODES, ROWS};
+use std::io;
 
 const LENT: u8 = b'=';
 
@@ -22,7 +23,7 @@ const OF_ROWS: u8 = b'r';
 const OF_SHARED: u8 = b'h';
 
 // What the lines so far have fixed.
-#[derive(Drop)]
+#[derive(Clone, Copy)]
 pub struct Setting {
     library: Library,
     lent: Lent,
@@ -49,81 +50,110 @@ fn with_lent(old: Setting, line: &[u8]) -> Setting {
 }
 
 // One call with the library of the lines before it.
-fn ask<'a>(setting: Setting, call: Call, name: &[u8], library: &'a [u8], section: &'a [u8]) {
+fn ask<'a>(
+    rt: &impl Print,
+    setting: Setting,
+    call: Call,
+    name: &[u8],
+    library: &'a [u8],
+    section: &'a [u8],
+) -> io::Result<()> {
     let length = setting.library.length;
     let told = setting.library.told;
     called(
+        rt,
         call,
         name,
         part(library, 0, length),
         section,
         told,
         setting.lent,
-    );
+    )
 }
 
 // A line that begins with `?`, answered by both calls.
-fn question(setting: Setting, line: &[u8], library: &[u8], section: &mut [u8]) {
+fn question(
+    rt: &impl Print,
+    setting: Setting,
+    line: &[u8],
+    library: &[u8],
+    section: &mut [u8],
+) -> io::Result<()> {
     let to = find(line, 1, SPACE);
     if line.len() <= to {
-        return;
+        return Ok(());
     }
     let after = find(line, to + 1, SPACE);
     let name = part(line, 1, to);
     let number = decimal(part(line, to + 1, after));
     let end = bytes(section, line, after);
     ask(
+        rt,
         setting,
         Call::Ask(number),
         name,
         library,
         part(section, 0, end),
-    );
+    )?;
     ask(
+        rt,
         setting,
         Call::Hand(number),
         name,
         library,
         part(section, 0, end),
-    );
+    )
 }
 
 // Any other line with a sign in it; a `!` stands before the name.
-fn case(setting: Setting, line: &[u8], library: &[u8], section: &mut [u8]) {
+fn case(
+    rt: &impl Print,
+    setting: Setting,
+    line: &[u8],
+    library: &[u8],
+    section: &mut [u8],
+) -> io::Result<()> {
     let words = sign(line, 0) == WORDS;
     let from = words as usize;
     let to = find(line, from, SPACE);
     let end = bytes(section, line, to);
     ask(
+        rt,
         setting,
         Call::Judge(words),
         part(line, from, to),
         library,
         part(section, 0, end),
-    );
+    )
 }
 
 // One line, up to its remark.
-fn read(setting: Setting, whole: &[u8], library: &mut [u8], section: &mut [u8]) -> Setting {
+fn read(
+    rt: &impl Print,
+    setting: Setting,
+    whole: &[u8],
+    library: &mut [u8],
+    section: &mut [u8],
+) -> io::Result<Setting> {
     let end = find(whole, 0, REMARK);
     let line = part(whole, 0, end);
     match sign(line, 0) {
-        LINE_END => setting,
-        LIBRARY => with_library(setting, line, library),
-        LENT => with_lent(setting, line),
+        LINE_END => Ok(setting),
+        LIBRARY => Ok(with_library(setting, line, library)),
+        LENT => Ok(with_lent(setting, line)),
         QUESTION => {
-            question(setting, line, library, section);
-            setting
+            question(rt, setting, line, library, section)?;
+            Ok(setting)
         }
         _ => {
-            case(setting, line, library, section);
-            setting
+            case(rt, setting, line, library, section)?;
+            Ok(setting)
         }
     }
 }
 
 // Every line of a text. Both buffers have room for one byte more than a section may have, and begin with 00.
-pub fn all(text: &[u8], library: &mut [u8], section: &mut [u8]) {
+pub fn all(rt: &impl Print, text: &[u8], library: &mut [u8], section: &mut [u8]) -> io::Result<()> {
     let mut setting = Setting {
         library: Library {
             length: 1,
@@ -139,10 +169,11 @@ pub fn all(text: &[u8], library: &mut [u8], section: &mut [u8]) {
     while from < text.len() {
         let to = find(text, from, LINE_END);
         let line = part(text, from, to);
-        setting = read(setting, line, library, section);
+        setting = read(rt, setting, line, library, section)?;
         if text.len() <= to {
-            return;
+            return Ok(());
         }
         from = to + 1;
     }
+    Ok(())
 }

@@ -1,19 +1,23 @@
 // Judges sections by the loader, and asks them for types, a case to a line of standard output. The cases stand in the file
 // stdin, in lines that lines.rt explains; the file stdout has the answers, worked out by hand from document 01 and never
 // copied from a run.
+#![tactic(auto)]
+
 mod asking;
 mod judging;
 mod lending;
 mod lines;
 mod telling;
 
+use std::io;
+
 // one byte more than a section may have
 const MORE_BYTES: usize = scope::sizes::MOST_BYTES + 1;
 
-fn main() {
+fn main(rt: HostRuntime) -> io::Result<()> {
     let mut text = [0u8; 65536];
     let mut library = [0u8; MORE_BYTES];
     let mut section = [0u8; MORE_BYTES];
-    let count = io::read_full(libc::STDIN_FILENO, &mut text);
-    lines::all(&text[..count], &mut library, &mut section);
+    let count = cases_text::read_full(&mut rt.reader(), &mut text)?;
+    lines::all(&rt, &text[..count], &mut library, &mut section)
 }

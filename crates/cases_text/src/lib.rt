@@ -167,7 +167,7 @@ pub fn zero32(m: &[u32]) -> bool {
 }
 
 // The library of the cases that follow: how many bytes it has, and whether an answer says in which input its place lies.
-#[derive(Drop)]
+#[derive(Clone, Copy)]
 pub struct Library {
     pub length: usize,
     pub told: bool,
