@@ -1,4 +1,6 @@
 // The values that an instruction gives, put on the stack.
+#![tactic(auto)]
+
 ghost use Rattle.body_state.specs.State.{results_at};
 ghost use Rattle.body_push.specs.Gives.{Long, BackLength, GivesLength, back_of, given_of, Space, PutBack, GivenTo};
 ghost use Rattle.type_table.specs.View.{both_codes};
