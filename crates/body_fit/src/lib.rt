@@ -1,5 +1,7 @@
 // Whether an operand fits what is wanted, both given by their words. The answer is that of document 01's rules (scope's
 // Bodies.antt) over what the words say.
+#![tactic(auto)]
+
 ghost use Rattle.std.specs.Prelude.{◌≡◌, cond};
 ghost use Rattle.scope.specs.Order.{it_fits, unfit};
 ghost use Rattle.scope.specs.Bodies.{fit};
