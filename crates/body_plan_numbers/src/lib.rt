@@ -1,5 +1,7 @@
 // The rules of constants and of numeric instructions. What a numeric code takes and gives is asked of the table of
 // body_numeric, whose codes of types are the plan's own.
+#![tactic(auto)]
+
 ghost use Rattle.scope.specs.Instructions.{i64_const, f32_const, f64_const, numeric};
 ghost use Rattle.body_numeric.specs.Entries.{Tabled};
 ghost use Rattle.body_plan_numbers.specs.Everywhere.{Everywhere, Constant};

@@ -1,0 +1,13 @@
+-- `body_plan_numbers::i64_const` meets its contract: an i64 is given.
+use borrow.Author.Rules.{rules}
+use Rattle.body_plan_numbers.proofs.NumberPlans.{constant_exits}
+use Rattle.body_plan_numbers.proofs.i64_const.Goals as goal
+
+pub overflow_add-takes : goal.overflow_add-takes
+overflow_add-takes c = search (constant_exits, rules)
+
+pub takes-requires : goal.takes-requires
+takes-requires c = search (constant_exits, rules)
+
+pub returns : goal.returns
+returns c = search (constant_exits, rules)
