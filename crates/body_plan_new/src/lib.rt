@@ -1,5 +1,7 @@
 // The rules of the instructions that make a struct of the fields on the stack: struct.new, and with a descriptor
 // struct.new_desc, which takes a reference to exactly the type's descriptor before the fields.
+#![tactic(auto)]
+
 ghost use Rattle.scope.specs.Instructions.{struct_new, struct-new-desc};
 ghost use Rattle.type_table.specs.View.{view, both_codes};
 ghost use Rattle.body_plan_parts.specs.Planning.{Follows};
