@@ -1,6 +1,8 @@
 // One operand of a body's check, taken from the top of the scratch's stack and held against what is wanted. Taking reads
 // only: what is left is a number of operands. The answer is that of document 01's rules (scope's Bodies.antt) over what the
 // words say.
+#![tactic(auto)]
+
 ghost use Rattle.std.specs.Prelude.{◌≡◌, [], ◌∷◌};
 ghost use Rattle.scope.specs.Bodies.{take_all};
 ghost use Rattle.type_table.specs.View.{view, both_codes};
