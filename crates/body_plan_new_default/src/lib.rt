@@ -1,5 +1,7 @@
 // The rules of the instructions that make a struct of defaults: struct.new_default, and with a descriptor
 // struct.new_default_desc. Each field has a default (29).
+#![tactic(auto)]
+
 ghost use Rattle.std.specs.Prelude.{◌<◌, ◌^◌};
 ghost use Rattle.scope.specs.Instructions.{struct-new-default, struct-new-default-desc};
 ghost use Rattle.type_table.specs.View.{view, both_codes};
