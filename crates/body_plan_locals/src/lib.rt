@@ -1,5 +1,7 @@
 // The rules of the instructions that name a local: local.get, local.set and local.tee. The tests stand in document 01's order:
 // 21, 22.
+#![tactic(auto)]
+
 ghost use Rattle.std.specs.Prelude.{◌+◌};
 ghost use Rattle.scope.specs.Instructions.{local_get, local-set, local_tee};
 ghost use Rattle.type_table.specs.View.{codes_at};
