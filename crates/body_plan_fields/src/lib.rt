@@ -1,5 +1,7 @@
 // The rules of the instructions that go to a field of a struct: struct.get and struct.set. The tests stand in document
 // 01's order: 6, 23, 24.
+#![tactic(auto)]
+
 ghost use Rattle.scope.specs.Instructions.{struct_get, struct_set};
 ghost use Rattle.type_table.specs.View.{view, both_codes};
 ghost use Rattle.body_plan_parts.specs.Planning.{Follows};
