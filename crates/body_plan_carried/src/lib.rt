@@ -1,4 +1,6 @@
 // What a label takes of a branching cast: the last of its types is split off, and what is carried has to be below it (25).
+#![tactic(auto)]
+
 ghost use Rattle.type_table.specs.View.{view, both_codes};
 ghost use Rattle.type_hierarchy.specs.Ranged.{Ranged};
 ghost use Rattle.body_plan_carried.specs.Carried.{SplitOf, Small, Carries};
