@@ -34,10 +34,10 @@ pub returns-in-Nothing : goal.returns-in-Nothing
 returns-in-Nothing c = search (carry_exits, rules)
 
 pub returns-in-ButForNull : goal.returns-in-ButForNull
-returns-in-ButForNull c = carried_nullable _ _ _ _ _ _ _ c.split_last-split.ensures c.split-1.given.1 c.val_fit-fit.ensures c.enum_told-in-ButForNull-1.given.1
+returns-in-ButForNull c = search (carry_exits, rules)
 
 pub returns-in-Unfit : goal.returns-in-Unfit
-returns-in-Unfit c = carried_unfit _ _ _ _ _ _ _ c.split_last-split.ensures c.split-1.given.1 c.val_fit-fit.ensures c.enum_told-in-Unfit-1.given.1
+returns-in-Unfit c = search (carry_exits, rules)
 
 pub returns-in-Fits : goal.returns-in-Fits
-returns-in-Fits c = carried_below _ _ _ _ _ _ _ c.split_last-split.ensures c.split-1.given.1 c.val_fit-fit.ensures c.enum_told-in-Fits-1.given.1 c.requires.0
+returns-in-Fits c = search (carry_exits, rules)
