@@ -1,4 +1,6 @@
 // Locals, written: one is set in a frame, and forgotten with it.
+#![tactic(auto)]
+
 ghost use Rattle.type_table.specs.View.{link_at};
 ghost use Rattle.body_marks.specs.Marks.{Ready, Marked};
 
