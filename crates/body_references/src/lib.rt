@@ -1,4 +1,6 @@
 // The two instructions whose result depends on the reference that they take: ref.as_non_null and ref.get_desc.
+#![tactic(auto)]
+
 ghost use Rattle.std.specs.Prelude.{◌≡◌, cond};
 ghost use Rattle.scope.specs.Syntax.{nullable, non_null, defined, exact};
 ghost use Rattle.scope.specs.BodyRules.{value};
