@@ -1,4 +1,6 @@
 // The words of a frame, written: those that are its own, and those that say what stands around it.
+#![tactic(auto)]
+
 ghost use Rattle.std.specs.Prelude.{◌≡◌};
 ghost use Rattle.scope.specs.Memory.{flag};
 ghost use Rattle.body_state.specs.Layout.{loop_word, result_word, base_word, height_word, dead_word, stamp_word};
