@@ -3,6 +3,8 @@
 
 // How many instructions were judged, the place of the next one; how many blocks are open, the operands below the innermost frame
 // and in all frames, and 1 where unknowns lie below those of the frame.
+#![tactic(auto)]
+
 #[derive(Clone, Copy)]
 pub struct Progress {
     pub count: u64,
