@@ -1,4 +1,6 @@
 // What a numeric instruction comes to, by value: no memory is met here.
+#![tactic(auto)]
+
 ghost use Rattle.run_calculated.specs.Calculations.{TruthIs};
 
 use run_value::Value;
