@@ -1,5 +1,7 @@
 // The two forms of a branching cast: one carries the target to the label and falls through with the rest, the other the
 // other way round. Source and target are of one hierarchy (25).
+#![tactic(auto)]
+
 ghost use Rattle.type_table.specs.View.{view, both_codes};
 ghost use Rattle.type_hierarchy.specs.Ranged.{Ranged};
 ghost use Rattle.body_plan_cast_forms.specs.Forms.{Low, FormCarries, Casts};
