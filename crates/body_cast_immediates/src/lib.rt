@@ -1,4 +1,6 @@
 // Reading what follows the code of a branching cast: flags, label, source and target.
+#![tactic(auto)]
+
 ghost use Rattle.std.specs.Prelude.{◌≡◌};
 ghost use Rattle.scope.specs.Instructions.{cast_at};
 ghost use Rattle.body_immediates.specs.Coding.{instruction_is};
