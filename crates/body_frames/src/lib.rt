@@ -1,4 +1,6 @@
 // Frames, written: a block is opened.
+#![tactic(auto)]
+
 ghost use Rattle.std.specs.Prelude.{◌≡◌, map};
 ghost use Rattle.scope.specs.Lists.{joined};
 ghost use Rattle.scope.specs.TypeRules.{val_names};
