@@ -1,4 +1,6 @@
 // Reading the forms of definitions into the lent table: lists of fields, parameters and results as codes.
+#![tactic(auto)]
+
 ghost use Rattle.std.specs.Prelude.{◌≡◌};
 ghost use Rattle.section_forms.specs.Reads.{Room, code_at, itself, EntriesRead, FewRead, PartRead, ResultsRead, struct_at, func_at};
 ghost use Rattle.scope.specs.Sections.{form_at};
