@@ -2,6 +2,8 @@
 // proofs/ the laws, stated once over the format. The code is in run_floats_32 and run_floats_64.
 
 // add, sub, mul, div.
+#![tactic(auto)]
+
 #[derive(Clone, Copy)]
 pub enum FloatDeed {
     Add,
