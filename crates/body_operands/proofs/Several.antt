@@ -7,7 +7,7 @@ use mathlib.Core.Option.{some}
 use mathlib.Core.List.{List, [], ◌∷◌, ◌++◌, map}
 use native.Mathlib.Omega.{arith}
 use lib.ListN.{length, get_elem?, take}
-use lib.Seq.{take_all}
+use lib.Seq.{take_all as take_whole}
 use Rattle.scope.specs.Syntax.{Types, Val}
 use Rattle.scope.specs.BodyRules.{Wanted, value, Ruled, and_ruled, from_top}
 use Rattle.scope.specs.Bodies.{Operand, take_all}
@@ -31,7 +31,7 @@ pub record FromTop (ts : Types) (dead : Bool) (work : List ℕ) (base height : �
 pub list_first : (ts : Types) (dead : Bool) (work : List ℕ) (base height : ℕ) (codes : List ℕ) {list : Values} {n : ℕ} → LengthOf list n → FromTop ts dead work base height (values_of codes list) height n
 list_first ts dead work base height codes {list} {n} a =
     let long : length (values_of codes list) ≡ n = a.is codes in
-    record { up_to = omega arith; same = rw (take_all n (values_of codes list) (omega arith)) }
+    record { up_to = omega arith; same = rw (take_whole n (values_of codes list) (omega arith)) }
 
 module _ {ts : Types} {dead : Bool} {work : List ℕ} {base height : ℕ} {vs : List Val} {left i : ℕ} (p : FromTop ts dead work base height vs left i) where
   pub list_done : i ≤ 0 → left_of work base (Left.TheVariants.Is left) ≡ left_in (take_all ts dead (from_top vs) (stack work base height))

@@ -1,5 +1,7 @@
 // Several operands of a body's check, taken from the top of the scratch's stack. Taking reads only: what is left is a number
 // of operands. Each answer is that of document 01's rules (scope's Bodies.antt) over what the words say.
+#![tactic(auto)]
+
 ghost use Rattle.std.specs.Prelude.{◌≡◌, ◌++◌};
 ghost use Rattle.scope.specs.BodyRules.{from_top};
 ghost use Rattle.scope.specs.Bodies.{take_all};
