@@ -1,4 +1,6 @@
 // The rules of the branching casts. The tests stand in document 01's order: 6, 21, 23, 25.
+#![tactic(auto)]
+
 ghost use Rattle.type_table.specs.View.{view, both_codes};
 ghost use Rattle.type_hierarchy.specs.Ranged.{Ranged};
 ghost use Rattle.body_plan_labels.specs.Labels.{labels_at};
