@@ -1,5 +1,7 @@
 // Type rule 3, a function for each part, over the lent table as it stands. Rule 1 is `type_chain` and `type_reach`, rule 2
 // `type_matching`, rules 4 and 5 `type_follow`, rule 6 `type_order`. Each answer is the rule's (scope's TypeRules.antt).
+#![tactic(auto)]
+
 ghost use Rattle.std.specs.Prelude.{◌≡◌};
 ghost use Rattle.scope.specs.TypeRules.{clauses_on_struct, describes_earlier, is_the, clauses_agree};
 ghost use Rattle.type_table.specs.View.{view, both_codes};

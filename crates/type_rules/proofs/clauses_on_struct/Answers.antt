@@ -1,0 +1,16 @@
+-- `type_rules::clauses_on_struct` meets its contract: a struct may have clauses, another form neither.
+use borrow.Author.Rules.{rules}
+use Rattle.type_rules.proofs.Clauses.{struct_exits}
+use Rattle.type_rules.proofs.clauses_on_struct.Goals as goal
+
+pub returns-then-is_struct : goal.returns-then-is_struct
+returns-then-is_struct c = search (struct_exits, rules)
+
+pub returns-in_default : goal.returns-in_default
+returns-in_default c = search (struct_exits, rules)
+
+pub returns-in-Nothing-descriptor : goal.returns-in-Nothing-descriptor
+returns-in-Nothing-descriptor c = search (struct_exits, rules)
+
+pub returns-in-To : goal.returns-in-To
+returns-in-To c = search (struct_exits, rules)
