@@ -1,5 +1,7 @@
 // Reading what stands before a definition's form: 50 or 4F with supertypes, and the two clauses. A type number is
 // answered as the table holds it: 0 for none, else one more than the number as it is kept.
+#![tactic(auto)]
+
 ghost use Rattle.std.specs.Prelude.{◌≡◌};
 ghost use Rattle.scope.specs.Reading.{entries};
 ghost use Rattle.scope.specs.Numbers.{u32};
