@@ -1,4 +1,6 @@
 // The end of a frame: its results from the top, then nothing is left (28), and in the frame around it they are operands.
+#![tactic(auto)]
+
 ghost use Rattle.scope.specs.Bodies.{judge_instr};
 ghost use Rattle.scope.specs.Instructions.{end};
 ghost use Rattle.body_state.specs.State.{context_at, state_at, values_of, Upright, Stepped};
