@@ -1,4 +1,6 @@
 // What a plan does: it takes operands from the top (31, 20), then gives, within the sizes (4), and sets a local.
+#![tactic(auto)]
+
 ghost use Rattle.scope.specs.BodyRules.{and_ruled};
 ghost use Rattle.scope.specs.Bodies.{within_operands, do_plan};
 ghost use Rattle.body_state.specs.State.{stack, plain_of, planned_of, context_at, state_at, Upright, Stepped};
