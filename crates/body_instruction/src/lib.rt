@@ -1,5 +1,7 @@
 // Reading one instruction: its code, then what follows it. The first byte decides; after FB, a u32 does. Which bytes are
 // numeric codes body_numeric knows.
+#![tactic(auto)]
+
 ghost use Rattle.std.specs.Prelude.{◌<◌, ◌^◌, ◌≡◌};
 ghost use Rattle.scope.specs.Instructions.{instr_at};
 ghost use Rattle.body_immediates.specs.Coding.{instruction_is};
