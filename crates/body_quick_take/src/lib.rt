@@ -1,5 +1,7 @@
 // Operands taken and put, where it is plain that they fit. `top` counts the operands of all frames, `base` those below the
 // innermost. An answer is one more than the operands that are left then; 0 where it is not told here.
+#![tactic(auto)]
+
 ghost use Rattle.std.specs.Prelude.{◌≡◌, ◌<◌};
 ghost use Rattle.type_table.specs.View.{view, both_codes};
 ghost use Rattle.type_hierarchy.specs.Ranged.{Ranged};
