@@ -1,6 +1,8 @@
-// The public calls for a host in C or Rust: each returns what the answer is and writes the answer's values to four lent
-// words. include/chelbugan.h documents them. A host is trusted with no more than pointers and lengths: any bytes, numbers
-// and buffers may be handed in.
+// The public calls: each returns what the answer is and writes the answer's values to four lent words. `chelbugan_c` has the
+// same calls for a host in C or Rust, and include/chelbugan.h documents them. A host is trusted with no more than pointers and
+// lengths: any bytes, numbers and buffers may be handed in.
+#![tactic(auto)]
+
 ghost use Rattle.std.specs.Prelude.{◌≡◌};
 ghost use Rattle.run_buffers.specs.States.{state_of, memory};
 ghost use Rattle.chelbugan_told.specs.Told.{SectionTold, TypeTold, BodyTold, RunTold};
@@ -14,16 +16,14 @@ const MINOR: u64 = 0;
 const PATCH: u64 = 1;
 
 // Which calls these are, as 10,000 times the first number, 100 times the second and the third.
-#[unsafe(no_mangle)]
-pub extern "C" fn chelbugan_version() -> u64
+pub fn chelbugan_version() -> u64
     ensures { result ≡ version }
 {
     10000 * MAJOR + 100 * MINOR + PATCH
 }
 
 // Judges a library and an add-on's section.
-#[unsafe(no_mangle)]
-pub extern "C" fn chelbugan_judge_section(
+pub fn chelbugan_judge_section(
     library: &[u8],
     section: &[u8],
     rows: &mut [u16],
@@ -39,8 +39,7 @@ pub extern "C" fn chelbugan_judge_section(
 }
 
 // Asks a library and an add-on's section for a type by number.
-#[unsafe(no_mangle)]
-pub extern "C" fn chelbugan_ask_type(
+pub fn chelbugan_ask_type(
     library: &[u8],
     section: &[u8],
     number: u64,
@@ -57,8 +56,7 @@ pub extern "C" fn chelbugan_ask_type(
 }
 
 // Judges a body against a function type's number, over a library and an add-on's section.
-#[unsafe(no_mangle)]
-pub extern "C" fn chelbugan_judge_body(
+pub fn chelbugan_judge_body(
     library: &[u8],
     section: &[u8],
     body: &[u8],
@@ -79,8 +77,7 @@ pub extern "C" fn chelbugan_judge_body(
 }
 
 // Makes a trial run of a body, of at most `budget` steps.
-#[unsafe(no_mangle)]
-pub extern "C" fn chelbugan_try_run(
+pub fn chelbugan_try_run(
     library: &[u8],
     section: &[u8],
     body: &[u8],
