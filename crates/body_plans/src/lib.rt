@@ -1,6 +1,8 @@
 // The rule of each instruction: its tests in document 01's order (6, 21, 23, 24, 25, 29, 22), then what it takes and gives.
 // Nothing is written here. Each answer is that of scope's BodyRules.antt over what the table and the scratch say. The plans
 // of locals, numbers, structs, casts, labels and branches stand in the crates body_plan_*; this is the dispatch over all instructions.
+#![tactic(auto)]
+
 ghost use Rattle.std.specs.Prelude.{◌≡◌};
 ghost use Rattle.scope.specs.Bodies.{judge_instr};
 ghost use Rattle.body_numeric.specs.Entries.{Tabled};
