@@ -2,6 +2,8 @@
 // once over the width. The code is in run_integers_32 and run_integers_64.
 
 // eq, ne, lt_s, lt_u, gt_s, gt_u, le_s, le_u, ge_s, ge_u.
+#![tactic(auto)]
+
 #[derive(Clone, Copy)]
 pub enum IntegerTest {
     Equal,
