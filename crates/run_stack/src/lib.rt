@@ -1,6 +1,8 @@
 // The operands and locals of a trial run, in lent memory of 64-bit words: what is on top, putting a value there, moving
 // values down, and what a local holds. Each answer is what the words say (specs/Pile.antt). A value that is only moved in
 // memory is moved by its words, its kind and its bits (docs/LAYOUT.md).
+#![tactic(auto)]
+
 ghost use Rattle.std.specs.Prelude.{◌≡◌};
 ghost use Rattle.run_stack.specs.Pile.{Room, TopIs, Pushed, copied, Lower, Moved, LocalRoom, LocalIs, LocalSet, StartKind, Started};
 
