@@ -1,5 +1,7 @@
 // The objects of a run in lent memory: four words each (type; descriptor, 0 none, else one more than its number; first cell; how
 // many cells), and cells, which are values. Each answer is what the words say (specs/Objects.antt).
+#![tactic(auto)]
+
 ghost use Rattle.std.specs.Prelude.{◌+◌, ◌*◌};
 ghost use Rattle.scope.specs.Layout.{object_span};
 ghost use Rattle.lent_u16.specs.Words.{WordAt};
