@@ -1,5 +1,7 @@
 // The instructions of f64 that give a float, on values: the code of run_floats_32 at its format. The laws are stated once over
 // the format, in run_float_deeds.
+#![tactic(auto)]
+
 ghost use Rattle.std.specs.Prelude.{◌≡◌, to_bits};
 ghost use Rattle.std.specs.Float.{binary64};
 ghost use Rattle.scope.specs.Syntax.{f64};
