@@ -1,5 +1,7 @@
 // The instructions of f32 that give a float, on values: add, sub, mul and div are the language's one operation each, so that a
 // result is rounded once; neg turns the sign's bit. The laws are stated once over the format, in run_float_deeds.
+#![tactic(auto)]
+
 ghost use Rattle.std.specs.Prelude.{◌≡◌, to_bits};
 ghost use Rattle.std.specs.Float.{binary32};
 ghost use Rattle.scope.specs.Syntax.{f32};
