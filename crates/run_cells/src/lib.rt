@@ -1,4 +1,6 @@
 // Cells of a run's heap that are filled, one after the other: copies of values, and the defaults of fields.
+#![tactic(auto)]
+
 ghost use Rattle.run_cells.specs.Cells.{CellRoom, CellsCopied, DefaultKind, CellsDefault};
 ghost use Rattle.type_table.specs.View.{both_codes};
 
