@@ -1,4 +1,6 @@
 // Constants, numeric codes, drop: what looks at no local and at no type of the table.
+#![tactic(auto)]
+
 ghost use Rattle.body_quick_take.specs.Telling.{Asked, Plainly};
 ghost use Rattle.body_quick_values.specs.Values.{constant_byte, ConstantTold, AskedNumeric, Drops};
 
