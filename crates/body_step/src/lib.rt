@@ -1,4 +1,6 @@
 // One instruction of a body: what it does is told first, then done.
+#![tactic(auto)]
+
 ghost use Rattle.scope.specs.Bodies.{judge_instr};
 ghost use Rattle.body_decoded.specs.Decoded.{instr_of};
 ghost use Rattle.body_state.specs.State.{context_at, state_at};
