@@ -1,4 +1,6 @@
 // Fields of structs, read and written.
+#![tactic(auto)]
+
 ghost use Rattle.type_table.specs.View.{view, both_codes};
 ghost use Rattle.type_hierarchy.specs.Ranged.{Ranged};
 ghost use Rattle.body_state.specs.State.{context_at};
