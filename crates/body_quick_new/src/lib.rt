@@ -1,4 +1,6 @@
 // Structs made, of the fields on the stack or of defaults, where the type has no descriptor.
+#![tactic(auto)]
+
 ghost use Rattle.type_table.specs.View.{view, both_codes};
 ghost use Rattle.type_hierarchy.specs.Ranged.{Ranged};
 ghost use Rattle.body_state.specs.State.{context_at};
