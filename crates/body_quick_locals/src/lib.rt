@@ -1,4 +1,6 @@
 // Locals: read, set, or set and kept on the stack.
+#![tactic(auto)]
+
 ghost use Rattle.type_table.specs.View.{both_codes};
 ghost use Rattle.type_hierarchy.specs.Ranged.{Ranged};
 ghost use Rattle.body_state.specs.State.{context_at};
