@@ -1,4 +1,6 @@
 // Instructions after which another frame is the innermost: block and loop without a result or with a number, and the end of a block.
+#![tactic(auto)]
+
 ghost use Rattle.std.specs.Prelude.{◌≡◌, eqb};
 ghost use Rattle.scope.specs.Memory.{flag};
 ghost use Rattle.type_table.specs.View.{both_codes};
