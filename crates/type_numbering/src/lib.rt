@@ -1,6 +1,8 @@
 // Ranges of types, put into the rows of the lent table: what is below a type are the types that start in its range. Two walks:
 // from the last type to the first each hands its size to its supertype, from the first to the last each takes its start from its
 // supertype's end so far. What ranges there were before does not matter.
+#![tactic(auto)]
+
 ghost use Rattle.type_table.specs.View.{both_codes};
 ghost use Rattle.type_numbering.specs.Ranges.{ParentIs, Clearable, Emptied, Sizeable, SizedOne, Numberable, Empty, Sized, Placeable, PlacedOne, Startable, Numbered};
 
