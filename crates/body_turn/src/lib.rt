@@ -1,4 +1,6 @@
 // One instruction of a body, whatever it is: read, then judged.
+#![tactic(auto)]
+
 ghost use Rattle.type_table.specs.View.{both_codes};
 ghost use Rattle.type_hierarchy.specs.Ranged.{Ranged};
 ghost use Rattle.body_turn.specs.Turning.{Turning, Turned};
