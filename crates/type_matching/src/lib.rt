@@ -1,5 +1,7 @@
 // Type rule 2: whether a type's form matches its supertype's. Fields and value types are codes that lie one after the
 // other in the table; each answer is the rule's (scope's TypeRules.antt) over what the table says, for any words.
+#![tactic(auto)]
+
 ghost use Rattle.std.specs.Prelude.{◌≡◌};
 ghost use Rattle.scope.specs.Syntax.{struct, func};
 ghost use Rattle.scope.specs.Order.{val_below};
