@@ -62,18 +62,17 @@ ahead_of {s} {at = at} read (further e r) = inr (subst (λ (n : ℕ). Reached s 
 
 -- what is open, by one instruction
 
-module _ {n at : ℕ} {code : Code} where
-  balanced_inside : {o : Op} → Balanced n ((at, op o) ∷ code) → Balanced n code
-  balanced_inside (inside b) = b
+balanced_inside : {n at : ℕ} {code : Code} {o : Op} → Balanced n ((at, op o) ∷ code) → Balanced n code
+balanced_inside (inside b) = b
 
-  balanced_block : {rs : List Val} → Balanced n ((at, block rs) ∷ code) → Balanced (suc n) code
-  balanced_block (opening_block b) = b
+balanced_block : {n at : ℕ} {code : Code} {rs : List Val} → Balanced n ((at, block rs) ∷ code) → Balanced (suc n) code
+balanced_block (opening_block b) = b
 
-  balanced_loop : {rs : List Val} → Balanced n ((at, loop rs) ∷ code) → Balanced (suc n) code
-  balanced_loop (opening-loop b) = b
+balanced_loop : {n at : ℕ} {code : Code} {rs : List Val} → Balanced n ((at, loop rs) ∷ code) → Balanced (suc n) code
+balanced_loop (opening-loop b) = b
 
-  balanced_end : Balanced (suc n) ((at, end) ∷ code) → Balanced n code
-  balanced_end (closing b) = b
+balanced_end : {n at : ℕ} {code : Code} → Balanced (suc n) ((at, end) ∷ code) → Balanced n code
+balanced_end (closing b) = b
 
 balanced_last : {at : ℕ} {code : Code} → Balanced 0 ((at, end) ∷ code) → code ≡ []
 balanced_last last = refl

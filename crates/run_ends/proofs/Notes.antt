@@ -6,7 +6,6 @@ use mathlib.Core.List.{List, [], ◌∷◌}
 use native.Mathlib.Omega.{arith}
 use lib.ListN.{set}
 use lib.Dec.{leb}
-use types.Run.{OneOf, miss}
 use denote.Enum.Declared.{tag_of}
 use Rattle.scope.specs.Reading.{Read}
 use Rattle.scope.specs.Instructions.{Op, unreachable, nop, return, drop_value, br, br-if, local_get, local-set, local_tee, i32_const, i64_const, f32_const, f64_const, numeric, ref_null, ref-is-null, ref-eq, ref-as-non-null, struct_new, struct-new-default, struct_get, struct_set, ref_test, ref_cast, br_on_cast, br_on_cast_fail, struct-new-desc, struct-new-default-desc, ref_get_desc, ref_cast_desc_eq, br_on_cast_desc_eq, br_on_cast_desc_eq_fail, Instr, block, loop, end, op}
@@ -68,10 +67,6 @@ op_inside (ref_cast_desc_eq n h) = refl
 op_inside (br_on_cast_desc_eq k) = refl
 op_inside (br_on_cast_desc_eq_fail k) = refl
 
--- every other code
-abbrev pub other_codes : List ℕ
-other_codes = 0 ∷ 1 ∷ 5 ∷ 6 ∷ 7 ∷ 8 ∷ 9 ∷ 10 ∷ 11 ∷ 12 ∷ 13 ∷ 14 ∷ 15 ∷ 16 ∷ 17 ∷ 18 ∷ 19 ∷ 20 ∷ 21 ∷ 22 ∷ 23 ∷ 24 ∷ 25 ∷ 26 ∷ 27 ∷ 28 ∷ 29 ∷ 30 ∷ 31 ∷ 32 ∷ 33 ∷ 34 ∷ []
-
 module _ {i : Instruction} where
   -- it is none of those inside a block
   not-inside : (o : Op) → opens-or_ends i ≡ true → i ≡ operation_of o → ⊥
@@ -105,17 +100,18 @@ module _ {i : Instruction} where
       go end f = refl
       go (op o) f = absurd (not-inside o (rw e) f)
 
-  pub kind_inside : OneOf other_codes (tag_of the_type i) → KindIs i Kind.TheVariants.Inside
+  -- every other instruction: it is none of the three
+  pub kind_inside : ((w : ℕ) → i ≡ Instruction.TheVariants.Block w → ⊥) → ((w : ℕ) → i ≡ Instruction.TheVariants.Loop w → ⊥) → (i ≡ Instruction.TheVariants.End → ⊥) → KindIs i Kind.TheVariants.Inside
   unfolding instruction_of
-  kind_inside h = record { is = go }
+  kind_inside not_block not_loop not_end = record { is = go }
     where
       go : (j : Instr) → i ≡ instruction_of j → Kind.TheVariants.Inside ≡ kind_of j
-      go (block rs) f = absurd (miss other_codes 2 tt (rw f at h))
-      go (loop rs) f = absurd (miss other_codes 3 tt (rw f at h))
-      go end f = absurd (miss other_codes 4 tt (rw f at h))
+      go (block rs) f = absurd (not_block _ f)
+      go (loop rs) f = absurd (not_loop _ f)
+      go end f = absurd (not_end f)
       go (op o) f = refl
 
-pub ruleset kind_exits = (kind_block, kind_loop, kind_end, kind_inside)
+pub ruleset kind_exits = (kind_block, kind_loop, kind_end)
 
 -- noting it
 

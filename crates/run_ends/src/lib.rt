@@ -1,5 +1,7 @@
 // Where a branch out of a block goes: the place after the matching `end`, for each block and loop of a body, found in
 // one pass and kept in a lent word for each byte. The open blocks are a linked list inside that same memory.
+#![tactic(auto)]
+
 ghost use Rattle.std.specs.Prelude.{◌≡◌, ◌<◌};
 ghost use Rattle.scope.specs.Sizes.{most_bytes};
 ghost use Rattle.scope.specs.Instructions.{instr_at};
