@@ -1,5 +1,7 @@
 // Type rules 4 and 5, over the lent table as it stands: how the descriptor of a type, and what it describes, follow those of
 // its supertype. Each answer is the rule's (scope's TypeRules.antt).
+#![tactic(auto)]
+
 ghost use Rattle.std.specs.Prelude.{◌≡◌};
 ghost use Rattle.scope.specs.TypeRules.{descriptor_follows, described_follow, describes_follows};
 ghost use Rattle.type_table.specs.View.{view, both_codes};
