@@ -1,5 +1,7 @@
 // Type rule 1, that a type has at most one supertype, which is earlier and open, asked of the lent table as it stands; and the chain,
 // that its length is within the sizes, asked of a depth that is counted once for each type. Rule 1's reach is the crate `type_reach`.
+#![tactic(auto)]
+
 ghost use Rattle.std.specs.Prelude.{◌≡◌};
 ghost use Rattle.scope.specs.Sizes.{most_steps};
 ghost use Rattle.scope.specs.TypeRules.{super_earlier_and_open};
