@@ -1,5 +1,7 @@
 // The instructions of i64 that the run does, on values: the code of run_integers_32 at its width. The laws of the tests are
 // stated once over the width, in run_integer_tests.
+#![tactic(auto)]
+
 ghost use Rattle.std.specs.Prelude.{◌≡◌};
 ghost use Rattle.scope.specs.Syntax.{i32, i64};
 ghost use Rattle.scope.specs.Integers.{int_add, int_sub};
