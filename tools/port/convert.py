@@ -126,10 +126,10 @@ def convert(crate, key, path, lts, left):
             continue
         if re.search(r"\bc\b", body):
             left.append(f"{path}: {new} (was {old}): {' '.join(args or [])} = {body}")
-            head = re.match(r"^\(?([^\s().,]+) ", body)
-            if head and head.group(1) not in ("let", "search", "omega", "record", "elim", "rw"):
+            lead = re.match(r"^\(?([^\s().,]+) ", body)
+            if lead and lead.group(1) not in ("let", "search", "omega", "record", "elim", "rw"):
                 sets = [w for w in re.findall(r"\w+_exits|\w+-exits", text.split("tie.Need-", 1)[-1])]
-                body = f"search ({', '.join(dict.fromkeys([head.group(1), *sets, 'rules']))})"
+                body = f"search ({', '.join(dict.fromkeys([lead.group(1), *sets, 'rules']))})"
             else:
                 body = carried(body, lts)
         answers.append(f"pub {new} : goal.{new}\n{unf}{new} c = {body}")

@@ -1,4 +1,6 @@
 // One instruction of a body by the general path, from and to the numbers of the quick path.
+#![tactic(auto)]
+
 ghost use Rattle.std.specs.Prelude.{◌≡◌};
 ghost use Rattle.scope.specs.Memory.{flag};
 ghost use Rattle.type_table.specs.View.{both_codes};

@@ -1,5 +1,7 @@
 // The comparisons of floats, on values: the language's own. f64 has the code of f32 at its format; the laws are stated once over
 // the format.
+#![tactic(auto)]
+
 ghost use Rattle.std.specs.Prelude.{◌≡◌};
 ghost use Rattle.scope.specs.Syntax.{i32, f32, f64};
 ghost use Rattle.scope.specs.Rounding.{single, double};

@@ -1,5 +1,7 @@
 // The instructions of i32 that the run does, on values: sums and differences that wrap, and tests. The laws of the tests are
 // stated once over the width, in run_integer_tests.
+#![tactic(auto)]
+
 ghost use Rattle.std.specs.Prelude.{◌≡◌};
 ghost use Rattle.scope.specs.Syntax.{i32};
 ghost use Rattle.scope.specs.Integers.{int_add, int_sub};

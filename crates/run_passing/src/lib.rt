@@ -1,5 +1,7 @@
 // Whether a value passes a cast, by type or by descriptor, and the move that is chosen by it: one where it passes, another
 // where it does not.
+#![tactic(auto)]
+
 ghost use Rattle.std.specs.Prelude.{◌≡◌};
 ghost use Rattle.run_passing.specs.Passes.{PassesAs, PassesDescriptorAs, chosen_of, CastChosen, DescriptorChosen};
 ghost use Rattle.type_table.specs.View.{both_codes};

@@ -1,5 +1,7 @@
 // Where a trial run stands: a few numbers by value, and the words of its memory. Each answer is what the words say
 // (specs/Machines.antt), for any words. What an instruction comes to is told as a move (specs/Moved.antt).
+#![tactic(auto)]
+
 ghost use Rattle.std.specs.Prelude.{◌≡◌, ◌+◌, ◌*◌, leb};
 ghost use Rattle.scope.specs.Sizes.{most_operands};
 ghost use Rattle.scope.specs.Layout.{block_span};

@@ -1,5 +1,7 @@
 // Reading a definition: what stands before its form, its form, and its row. Of the table's codes a part is lent: a code is
 // put where the part is filled so far, and the row says where it lies in the whole.
+#![tactic(auto)]
+
 ghost use Rattle.std.specs.Prelude.{◌+◌, ◌≤◌, ◌∷◌, [], length};
 ghost use Rattle.scope.specs.Layout.{row_span};
 ghost use Rattle.type_table.proofs.Puts.{Puts};

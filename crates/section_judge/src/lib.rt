@@ -1,6 +1,8 @@
 // The two passes over the types of a section, in document 01's order: type by type rule 1 and the chain; then, type by type
 // again, rules 2 to 5 in rising number of refusal. The first fault is the answer, with the number of its type. The first asks how long
 // a chain is, so it needs the depths; the second asks who is below whom, so it needs the ranges. section_decide puts both.
+#![tactic(auto)]
+
 ghost use Rattle.std.specs.Prelude.{◌-◌, ◌≡◌, true, false};
 ghost use Rattle.scope.specs.Judging.{links_fault, rule_fault, scan};
 ghost use Rattle.type_table.specs.View.{view, both_codes};
