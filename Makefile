@@ -1,7 +1,7 @@
 # make: the program at build/chelbugan and the library that it calls, build/libchelbugan.a. library: the library alone.
 # install: the headers, the library (to LIBDIR), a pkg-config file, and the program with its manual and completions, to PREFIX,
 # below DESTDIR; uninstall removes the same. A folder's name may have spaces. clean: removes what was built; the proofs in
-# target/ stay.
+# crates/*/out/ stay.
 # demo: judge the sections and bodies of examples/ by the program and run some of them, then answer the requests of
 # examples/requests.txt by computing the definitions.
 # test: what can be tested without proving anything: the pages, the plain checker, the program, the archive from outside.
@@ -88,7 +88,7 @@ uninstall:
 
 clean:
 	@rm -rf build host/target tests/plain/target tests/definitions/target tests/host/target bench/target
-	@echo 'what was built is removed; the proofs stay in target/ (remove that too to prove from nothing)'
+	@echo 'what was built is removed; the proofs stay in crates/*/out/ (remove those too to prove from nothing)'
 
 demo: all
 	@examples/demo
@@ -100,7 +100,7 @@ demo: all
 test: cargo
 	@[ -f $(ARCHIVE) ] || { echo 'make: there is no $(ARCHIVE) to test: make library proves and builds it, or CHELBUGAN_LIB_DIR names' >&2; \
 	    echo 'make: a folder that has a libchelbugan.a. make test itself proves nothing.' >&2; exit 1; }
-	@$(if $(CHELBUGAN_LIB_DIR),,[ -z "$$(find crates crates.txt -type f -newer $(ARCHIVE) | head -n 1)" ] || \
+	@$(if $(CHELBUGAN_LIB_DIR),,[ -z "$$(find crates crates.txt -name out -prune -o -type f -newer $(ARCHIVE) -print | head -n 1)" ] || \
 	    echo 'make: files of crates/ are newer than $(ARCHIVE); what is tested is the archive as it was built')
 	@echo '== what the pages name' && tests/pages/check
 	@echo '== plain checker' && $(TEST) tests/plain/Cargo.toml

@@ -38,9 +38,10 @@ fn archive_built() -> PathBuf {
     let folder = PathBuf::from(variable("OUT_DIR"));
     let root = here.parent().unwrap_or(&here);
     let script = here.join("build-library");
-    for source in [root.join("crates"), root.join("crates.txt"), script.clone()] {
+    for source in [root.join("crates.txt"), script.clone()] {
         watch(&source);
     }
+    watch_crates(&root.join("crates"));
     let ended = Command::new(&script).arg(&folder).arg(variable("CARGO_CFG_TARGET_ARCH")).status();
     match ended {
         Ok(status) if status.success() => folder,
@@ -55,6 +56,16 @@ fn variable(name: &str) -> String {
 
 fn watch(path: &Path) {
     println!("cargo:rerun-if-changed={}", path.display());
+}
+
+/// What a crate is proved from. Beside it, in out/, lies what rt keeps.
+fn watch_crates(crates: &Path) {
+    let entries = std::fs::read_dir(crates).into_iter().flatten().flatten();
+    for folder in entries.flat_map(|entry| ["src", "specs", "proofs"].map(|part| entry.path().join(part))) {
+        if folder.is_dir() {
+            watch(&folder);
+        }
+    }
 }
 
 fn fail(why: &str) -> ! {

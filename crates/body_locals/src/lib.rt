@@ -1,4 +1,6 @@
 // Reading a body's locals into lent scratch: a word for each local, the code of its type, after those of the parameters.
+#![tactic(auto)]
+
 ghost use Rattle.std.specs.Prelude.{◌≡◌, replicate};
 ghost use Rattle.type_table.proofs.Puts.{Puts};
 ghost use Rattle.body_locals.specs.Entries.{Limits, Space, Lent, entry_at, entry_is, LocalsPut};

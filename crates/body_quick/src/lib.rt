@@ -1,5 +1,7 @@
 // Most instructions, read and judged in one look: where one is plain to see and everything about it is in order. What is
 // not told here, refusals among them, is read and judged by body_instruction and body_step; nothing is written then.
+#![tactic(auto)]
+
 ghost use Rattle.type_table.specs.View.{both_codes};
 ghost use Rattle.type_hierarchy.specs.Ranged.{Ranged};
 ghost use Rattle.body_state.specs.State.{context_at};

@@ -1,4 +1,6 @@
 // One more object of a run's heap: whether there is room for it, and its words. Its cells are filled by run_cells.
+#![tactic(auto)]
+
 ghost use Rattle.std.specs.Prelude.{◌≡◌, ◌+◌, ◌*◌, set};
 ghost use Rattle.scope.specs.Layout.{object_span};
 ghost use Rattle.run_heap.specs.Heap.{with_row, RoomFor};

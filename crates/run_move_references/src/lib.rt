@@ -1,4 +1,6 @@
 // The moves of the instructions that look only at references among the operands: whether one is null, whether two are the same.
+#![tactic(auto)]
+
 ghost use Rattle.scope.specs.Instructions.{ref-is-null, ref-eq, ref-as-non-null};
 ghost use Rattle.run_state.specs.Planned.{TopPlans, PairPlans};
 

@@ -1,6 +1,8 @@
 // The numeric instructions that the run does, a line for each code with the core standard's name; any other code is trap 46,
 // whatever its operands are. By value: the first operand is the topmost, the second lies under it, and null stands for one that
 // is missing.
+#![tactic(auto)]
+
 ghost use Rattle.run_calculated.specs.Calculations.{CalculatedIs};
 ghost use Rattle.run_numeric.specs.Between.{CalculatedBetween, first_float_test, first_result, all_codes};
 

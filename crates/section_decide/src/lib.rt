@@ -1,5 +1,7 @@
 // The verdict on the types that stand in the table from `first` on, and the ranges of all of them: depths, the first pass, ranges, the
 // second pass. The types before have passed the first pass.
+#![tactic(auto)]
+
 ghost use Rattle.type_table.specs.View.{both_codes};
 ghost use Rattle.section_decide.specs.Deciding.{Decidable, Deep, Decided};
 

@@ -1,5 +1,7 @@
 // Reading a group into the lent table, of which it is lent only the rest: the rows from its first row on, and the codes from
 // its first code on. `used` codes of the table are before that part.
+#![tactic(auto)]
+
 ghost use Rattle.scope.specs.Sections.{group_at};
 ghost use Rattle.section_group.specs.Lent.{Lent, GroupPut, entries_at, several_at, alone_at};
 

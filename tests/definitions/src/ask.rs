@@ -14,10 +14,12 @@ pub struct Checker {
 
 const CRATES: &str = "scope:\nfacts_words: scope\nasked: scope facts_words\n";
 
-const OPENING: &str = "use Prim.Native.Nat.{ℕ}
-use mathlib.Core.List.{List, [], _∷_, _++_}
-use Rattle·facts_words.specs.Words.{sectionWords, typeWords, bodyWords, runWords, packed}
-use Rattle·scope.proofs.Computes.{computes}
+/// What a crate is proved from; beside it are its edits and what rt keeps.
+const PARTS: [&str; 3] = ["src", "specs", "proofs"];
+
+const OPENING: &str = "use Rattle.std.specs.Prelude.{ℕ, List, [], ◌∷◌, ◌++◌}
+use Rattle.facts_words.specs.Words.{section_words, type_words, body_words, run_words, packed}
+use Rattle.scope.proofs.Computes.{computes}
 
 data Shows : ℕ → Type 0 where
   shown : (x : ℕ) → Shows x
@@ -28,30 +30,35 @@ impl Checker {
         let folder = std::env::temp_dir().join(format!("definitions-{}", std::process::id()));
         let checker = Checker { folder };
         checker.copy(Path::new(repository)).map_err(|why| format!("{repository}: {why}"))?;
-        let proved = checker.rt(&["check", "facts_words"]).map_err(|why| format!("rt: {why}"))?;
-        if !proved.contains("rt: ok") {
-            return Err(format!("the definitions are not proved:\n{proved}"));
+        let (well, said) = checker.check("facts_words", &[]).map_err(|why| format!("rt: {why}"))?;
+        if !well {
+            return Err(format!("the definitions are not proved:\n{said}"));
         }
         Ok(checker)
     }
 
     fn copy(&self, repository: &Path) -> std::io::Result<()> {
         for name in ["scope", "facts_words"] {
-            copy_folder(&repository.join("crates").join(name), &self.folder.join("crates").join(name))?;
+            for part in PARTS {
+                copy_folder(&repository.join("crates").join(name).join(part), &self.folder.join("crates").join(name).join(part))?;
+            }
         }
         let asked = self.folder.join("crates/asked");
-        for part in ["src", "specs", "proofs"] {
+        for part in PARTS {
             std::fs::create_dir_all(asked.join(part))?;
         }
         std::fs::write(self.folder.join("crates.txt"), CRATES)?;
-        std::fs::write(asked.join("src/lib.rt"), "")?;
+        std::fs::write(asked.join("src/lib.rt"), "#![tactic(auto)]\n")?;
         std::fs::write(asked.join("specs/Lib.antt"), "")?;
         std::fs::write(asked.join("proofs/Lib.antt"), "pub mod Asked\n")
     }
 
-    fn rt(&self, words: &[&str]) -> std::io::Result<String> {
-        let said = Command::new("rt").args(words).env("RT_CUT", "0").current_dir(&self.folder).output()?;
-        Ok(String::from_utf8_lossy(&said.stdout).into_owned() + &String::from_utf8_lossy(&said.stderr))
+    /// Whether rt holds the crate for proved, and what it says.
+    fn check(&self, name: &str, words: &[&str]) -> std::io::Result<(bool, String)> {
+        let folder = self.folder.join("crates").join(name);
+        let said = Command::new("rt").arg("check").args(words).current_dir(folder).output()?;
+        let text = String::from_utf8_lossy(&said.stdout).into_owned() + &String::from_utf8_lossy(&said.stderr);
+        Ok((said.status.success(), text))
     }
 
     /// The words of each answer, in order; none where the checker printed none.
@@ -61,7 +68,8 @@ impl Checker {
             let _ = write!(text, "\nq{i} : Shows (packed 1 ({}))\nunfolding computes packed\nq{i} = ?q{i}\n", call(request));
         }
         let file = self.folder.join("crates/asked/proofs/Asked.antt");
-        let said = std::fs::write(file, text).and_then(|()| self.rt(&["dev", "asked", "--allow-holes"])).unwrap_or_default();
+        let asked = std::fs::write(file, text).and_then(|()| self.check("asked", &["--allow-holes"]));
+        let said = asked.map(|(_, said)| said).unwrap_or_default();
         (0..requests.len()).map(|i| shown(&said, i)).collect()
     }
 }
@@ -90,10 +98,10 @@ fn copy_folder(from: &Path, to: &Path) -> std::io::Result<()> {
 fn call(request: &Request) -> String {
     let sections = format!("{} {}", list(request.library()), list(&request.section));
     match &request.asked {
-        Asked::Section => format!("sectionWords {sections}"),
-        Asked::Type { number } => format!("typeWords {sections} {number}"),
-        Asked::Body { number, body } => format!("bodyWords {sections} {number} {}", list(body)),
-        Asked::Run { number, body, budget } => format!("runWords {sections} {number} {} {budget}", list(body)),
+        Asked::Section => format!("section_words {sections}"),
+        Asked::Type { number } => format!("type_words {sections} {number}"),
+        Asked::Body { number, body } => format!("body_words {sections} {number} {}", list(body)),
+        Asked::Run { number, body, budget } => format!("run_words {sections} {number} {} {budget}", list(body)),
     }
 }
 
