@@ -1,6 +1,8 @@
 // Reading a whole section into the lent table: its groups one after the other, each lent the rest of the table from its
 // first row and its first code on; then nothing is left over. `before` types stand before the section's own, and the first of
 // its codes has the place `base`: no types and the library's first place for the library, its count and 0 for the add-on.
+#![tactic(auto)]
+
 ghost use Rattle.scope.specs.Sections.{read_after};
 ghost use Rattle.section_reader.specs.Whole.{Begun, GroupsPut, ended_at, counted_at, Enough, SectionPut};
 
