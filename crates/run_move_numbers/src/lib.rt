@@ -1,5 +1,7 @@
 // The move of a numeric instruction: what run_numeric calculates of the topmost operands takes their place, and a code that the
 // run does not do is trap 46.
+#![tactic(auto)]
+
 ghost use Rattle.scope.specs.Instructions.{numeric};
 ghost use Rattle.run_state.specs.Planned.{PairPlans};
 ghost use Rattle.run_move_numbers.specs.Operands.{OperandIs};
