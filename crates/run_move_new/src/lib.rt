@@ -1,4 +1,6 @@
 // The moves of the instructions that make an object: struct.new and its default, both with a descriptor too.
+#![tactic(auto)]
+
 ghost use Rattle.std.specs.Prelude.{◌<◌};
 ghost use Rattle.scope.specs.Instructions.{struct_new, struct-new-default, struct-new-desc, struct-new-default-desc};
 ghost use Rattle.lent_u16.specs.Words.{word_limit};
