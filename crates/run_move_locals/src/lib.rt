@@ -1,4 +1,6 @@
 // The moves of the instructions that read or put a local.
+#![tactic(auto)]
+
 ghost use Rattle.scope.specs.Instructions.{local_get, local-set, local_tee};
 ghost use Rattle.run_state.specs.Planned.{HeldPlans, LocalPlans};
 
