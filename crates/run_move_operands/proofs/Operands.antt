@@ -4,13 +4,10 @@ use mathlib.Core.Path.{◌≡◌, refl, ap, ◌∙◌}
 use mathlib.Core.Option.{some}
 use mathlib.Core.List.{List, [], ◌∷◌}
 use native.Mathlib.Nat.{mod-eq_of_lt}
-use types.Run.{OneOf, miss}
-use denote.Enum.Declared.{tag_of}
 use borrow.Author.Tests.{eq-eqb, ne_eqb}
 use Rattle.scope.specs.Syntax.{i32}
 use Rattle.scope.specs.Instructions.{drop_value, br-if}
 use Rattle.scope.specs.Machine.{number, Outcome, stuck, on_i32, do_op}
-use Rattle.run_value.specs.contracts.Value.{the_type}
 use Rattle.run_value.specs.declared.Value
 use Rattle.run_value.specs.declared.Value.{Value as Carrier}
 use Rattle.run_value.specs.Carried.{decoded}
@@ -38,12 +35,8 @@ module _ {first : Topmost} where
 as_i32 : {v : Carrier} {n : ℕ} → v ≡ Value.TheVariants.I32 n → n < 2 ^ 32 → decoded v ≡ number i32 n
 as_i32 e small = rw e (ap (number i32) (mod-eq_of_lt small))
 
--- the other cases, by their tags
-abbrev others : List ℕ
-others = 1 ∷ 2 ∷ 3 ∷ 4 ∷ 5 ∷ 6 ∷ 7 ∷ []
-
-no_i32 : (v : Carrier) → OneOf others (tag_of the_type v) → (f : ℕ → Outcome) → on_i32 (decoded v) f ≡ stuck
-no_i32 (Value.TheVariants.I32 n) h f = absurd (miss others 0 tt h)
+no_i32 : (v : Carrier) → ((n : ℕ) → v ≡ Value.TheVariants.I32 n → ⊥) → (f : ℕ → Outcome) → on_i32 (decoded v) f ≡ stuck
+no_i32 (Value.TheVariants.I32 n) h f = absurd (h n refl)
 no_i32 (Value.TheVariants.I64 n) h f = refl
 no_i32 (Value.TheVariants.F32 x) h f = refl
 no_i32 (Value.TheVariants.F64 x) h f = refl
@@ -58,7 +51,7 @@ module _ {first : Topmost} (label : ℕ) where
   branch_nothing e = record { is = λ p codes m top. strays (on_none m.operands (no_top top e) _) }
 
   module _ {v : Carrier} (e : first ≡ Topmost.TheVariants.Is v) where
-    pub branch_other : OneOf others (tag_of the_type v) → TopPlans first (br-if label) Move.TheVariants.Astray
+    pub branch_other : ((n : ℕ) → v ≡ Value.TheVariants.I32 n → ⊥) → TopPlans first (br-if label) Move.TheVariants.Astray
     unfolding do_op
     branch_other h =
         record { is = λ p codes m top. strays (on_top_lem m.operands (value_top top e) _ ∙ no_i32 v h _) }

@@ -1,4 +1,6 @@
 // The operand under the topmost, and the moves of the instructions that only take the topmost: drop and br_if.
+#![tactic(auto)]
+
 ghost use Rattle.scope.specs.Instructions.{drop_value, br-if};
 ghost use Rattle.run_state.specs.Planned.{TopPlans};
 ghost use Rattle.run_move_operands.specs.Seconds.{SecondIs};
