@@ -1,5 +1,7 @@
 // The instructions of a body, one after the other up to the last `end`: the first faulty one is the answer. Those that are plain
 // to see are told by body_quick, one after the other; what it does not tell is read and judged by body_lap.
+#![tactic(auto)]
+
 ghost use Rattle.type_table.specs.View.{both_codes};
 ghost use Rattle.type_hierarchy.specs.Ranged.{Ranged};
 ghost use Rattle.body_loop.specs.Loop.{Ready, JudgedFrom};
