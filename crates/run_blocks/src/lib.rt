@@ -1,4 +1,6 @@
 // Blocks of a trial run: opening one, `end`, and the end of the run.
+#![tactic(auto)]
+
 ghost use Rattle.run_values.specs.Layout.{opened_block, opened_loop};
 ghost use Rattle.run_state.specs.Machines.{at_height};
 ghost use Rattle.run_state.specs.Controlled.{Piled};
