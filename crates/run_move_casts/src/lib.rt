@@ -1,5 +1,7 @@
 // The moves of the casts, ref.test and the branching casts among them: the move where the value passes, and the one where it
 // does not.
+#![tactic(auto)]
+
 ghost use Rattle.scope.specs.Instructions.{ref_test, ref_cast, br_on_cast, br_on_cast_fail, ref_cast_desc_eq, br_on_cast_desc_eq, br_on_cast_desc_eq_fail};
 ghost use Rattle.type_table.specs.View.{heap_at_code, both_codes};
 ghost use Rattle.type_hierarchy.specs.Ranged.{Ranged};
