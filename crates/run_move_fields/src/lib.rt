@@ -1,4 +1,6 @@
 // The moves of the instructions that look into an object: struct.get, struct.set and ref.get_desc.
+#![tactic(auto)]
+
 ghost use Rattle.scope.specs.Instructions.{struct_get, struct_set, ref_get_desc};
 ghost use Rattle.run_state.specs.Planned.{FieldPlans, SetPlans};
 
