@@ -1,4 +1,6 @@
 // The locals of a body at its start, in lent scratch: their types, the parameters' first, and which of them are set.
+#![tactic(auto)]
+
 ghost use Rattle.std.specs.Prelude.{◌≡◌, ◌≤◌, length};
 ghost use Rattle.scope.specs.Memory.{flag};
 ghost use Rattle.scope.specs.Bodies.{locals_at};
