@@ -1,5 +1,7 @@
 // An object of a trial run, made: its cells are filled, its row is put after the others', and its reference is pushed. Where
 // there is no room for the reference it is astray, and nothing is written.
+#![tactic(auto)]
+
 ghost use Rattle.std.specs.Prelude.{◌+◌};
 ghost use Rattle.run_values.specs.Values.{values_from};
 ghost use Rattle.run_state.specs.Moved.{defaults_at};
