@@ -5,8 +5,6 @@ use mathlib.Core.Logic.{◌⊎◌, inl, inr}
 use mathlib.Core.List.{List}
 use native.Mathlib.Omega.{arith}
 use lib.ListN.{length}
-use types.Run.{OneOf}
-use denote.Enum.Declared.{tag_of}
 use Rattle.scope.specs.Reading.{got}
 use Rattle.scope.specs.Instructions.{Op, Instr, block, loop, end, op, instr_at}
 use Rattle.scope.specs.Machine.{Machine, Program, Outcome, stuck, do_instr, step, step_on}
@@ -14,14 +12,13 @@ use Rattle.scope.proofs.Impossible.{contradiction, impossible}
 use Rattle.run_values.specs.Layout.{opened_block, opened_loop}
 use Rattle.body_immediates.specs.declared.Instruction.{Instruction}
 use Rattle.body_immediates.specs.declared.Instruction
-use Rattle.body_immediates.specs.contracts.Instruction.{the_type}
 use Rattle.body_decoded.specs.Decoded.{instr_of}
 use Rattle.run_ends.specs.declared.Kind.{Kind}
 use Rattle.run_ends.specs.declared.Kind
 use Rattle.run_ends.specs.Matching.{code_at}
 use Rattle.run_ends.specs.Noting.{kind_of}
 use Rattle.run_ends.proofs.Codes.{code_here}
-use Rattle.run_ends.proofs.Notes.{other_codes, kind_inside}
+use Rattle.run_ends.proofs.Notes.{kind_inside}
 use Rattle.run_state.specs.declared.Stage.{Stage}
 use Rattle.run_state.specs.declared.Move.{Move}
 use Rattle.run_state.specs.declared.Move
@@ -185,9 +182,9 @@ module _ {s ends : List ℕ} {count : ℕ} {o c l p b : List ℕ} {st : Stage} {
             (a.is s ends (program_at rows codes results) (machine_at s count (words o c l p b) (at_place st next)) may.orderly.framed (may.here.read ∙ ap (λ (j : Instr). got j next) is) refl refl (machine_controls s count (words o c l p b) (at_place st next))));
       })
 
-  module _ (other : OneOf other_codes (tag_of the_type i)) where
+  module _ (not_block : (w : ℕ) → i ≡ Instruction.TheVariants.Block w → ⊥) (not_loop : (w : ℕ) → i ≡ Instruction.TheVariants.Loop w → ⊥) (not_end : i ≡ Instruction.TheVariants.End → ⊥) where
     what : (x : Op) × (may.here.instr ≡ op x)
-    what = inside_op may.here.instr ((kind_inside other).is may.here.instr may.here.kept)
+    what = inside_op may.here.instr ((kind_inside not_block not_loop not_end).is may.here.instr may.here.kept)
 
     pub step_may : Inside s ends count (words o c l p b) (at_place st next) i
     step_may =
