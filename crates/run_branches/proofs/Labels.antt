@@ -7,8 +7,6 @@ use native.Mathlib.Omega.{arith}
 use lib.ListN.{length}
 use mir.Syntax.{w32}
 use mir.Val.{Fits}
-use types.Run.{OneOf, miss}
-use denote.Enum.Declared.{tag_of}
 use Rattle.scope.specs.Layout.{block_span}
 use Rattle.scope.specs.Reading.{got, refused}
 use Rattle.scope.specs.Syntax.{Val}
@@ -21,7 +19,6 @@ use Rattle.body_immediates.specs.declared.Instruction
 use Rattle.body_immediates.specs.declared.InstructionRead.{InstructionRead}
 use Rattle.body_immediates.specs.declared.InstructionRead
 use Rattle.body_immediates.specs.Coding.{result_code, instruction_of, instruction_is}
-use Rattle.body_immediates.specs.contracts.Instruction.{the_type}
 use Rattle.body_immediates.proofs.Laws.{instruction_got, instruction_refused}
 use Rattle.body_decoded.specs.Decoded.{block_results}
 use Rattle.body_decoded.proofs.Short.{Short, short_block, read_short}
@@ -38,10 +35,6 @@ use Rattle.run_branches.specs.Branches.{BranchableTo, BranchesTo, Descends, Bran
 use Rattle.run_blocks.proofs.Answers.{restaged, control_goes}
 use Rattle.run_branches.proofs.Jumping.{target, low_target, reaches_loop}
 use Rattle.run_branches.proofs.Outward.{takes_as_read}
-
--- every code but those of a block and a loop
-abbrev pub other_codes : List ℕ
-other_codes = 0 ∷ 1 ∷ 4 ∷ 5 ∷ 6 ∷ 7 ∷ 8 ∷ 9 ∷ 10 ∷ 11 ∷ 12 ∷ 13 ∷ 14 ∷ 15 ∷ 16 ∷ 17 ∷ 18 ∷ 19 ∷ 20 ∷ 21 ∷ 22 ∷ 23 ∷ 24 ∷ 25 ∷ 26 ∷ 27 ∷ 28 ∷ 29 ∷ 30 ∷ 31 ∷ 32 ∷ 33 ∷ 34 ∷ []
 
 not_refused : {s : List ℕ} {kind at next n q : ℕ} → Opened s kind at next → instr_at s at ≡ refused n q → ⊥
 not_refused (a_block k e) f = contradiction cc
@@ -71,10 +64,10 @@ module _ {s : List ℕ} {kind at next : ℕ} {j : Instr} {onto : ℕ} {i : Instr
       let wrong : i ≡ Instruction.TheVariants.Loop (result_code rs) = rw is at same in
       impossible cc
 
-  no_other : Opened s kind at next → OneOf other_codes (tag_of the_type i) → ⊥
+  no_other : Opened s kind at next → ((w : ℕ) → i ≡ Instruction.TheVariants.Block w → ⊥) → ((w : ℕ) → i ≡ Instruction.TheVariants.Loop w → ⊥) → ⊥
   unfolding instruction_of
-  no_other (a_block {rs} k e) h = let is : j ≡ block rs = cc in miss other_codes 2 tt (rw (same, is) at h)
-  no_other (a_loop {rs} k e) h = let is : j ≡ loop rs = cc in miss other_codes 3 tt (rw (same, is) at h)
+  no_other (a_block {rs} k e) not_block not_loop = let is : j ≡ block rs = cc in not_block _ (rw is at same)
+  no_other (a_loop {rs} k e) not_block not_loop = let is : j ≡ loop rs = cc in not_loop _ (rw is at same)
 
 block_short : {rs : List Val} → Short (block rs) → length rs ≤ 1
 block_short (short_block h) = h
@@ -104,8 +97,8 @@ module _ {s ends operands blocks : List ℕ} {st : Stage} {left d : ℕ} (a : Br
       read_there : (j : Instr) × (instr_at s (block_word blocks d place_word) ≡ got j next) × (i ≡ instruction_of j)
       read_there = instruction_got (instr_at s (block_word blocks d place_word)) told_there e
 
-      pub to_other : OneOf other_codes (tag_of the_type i) → BranchesTo s ends operands operands blocks st left d Stepped.TheVariants.Astray
-      to_other h = let (j, read, same) = read_there in absurd (no_other read same around_now.opened h)
+      pub to_other : ((w : ℕ) → i ≡ Instruction.TheVariants.Block w → ⊥) → ((w : ℕ) → i ≡ Instruction.TheVariants.Loop w → ⊥) → BranchesTo s ends operands operands blocks st left d Stepped.TheVariants.Astray
+      to_other not_block not_loop = let (j, read, same) = read_there in absurd (no_other read same around_now.opened not_block not_loop)
 
       pub to_out :
           {v : ℕ} → i ≡ Instruction.TheVariants.Block v → {takes : ℕ} → takes ≡ length (block_results v) → {operands' : List ℕ} {answer : Stepped}

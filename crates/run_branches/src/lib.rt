@@ -1,5 +1,7 @@
 // A branch of a trial run, out of several blocks or to the head of a loop. It finds its target without a search: the open
 // block's words say where its instruction stands, and the matching end was kept for that place.
+#![tactic(auto)]
+
 ghost use Rattle.std.specs.Prelude.{◌≡◌, length};
 ghost use Rattle.body_decoded.specs.Decoded.{block_results};
 ghost use Rattle.run_branches.specs.Branches.{Branchable, BranchableTo, BranchesTo, Descends, BranchesOut, Branches};
