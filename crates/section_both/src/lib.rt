@@ -1,5 +1,7 @@
 // The library first, then the add-on: each is read after what stands in the table, and its own types are judged with those before.
 // Both times all types that stand in the table get their ranges: a type of the add-on may be below one of the library's.
+#![tactic(auto)]
+
 ghost use Rattle.std.specs.Prelude.{◌≡◌};
 ghost use Rattle.scope.specs.Layout.{codes_size};
 ghost use Rattle.scope.specs.Judging.{in_library, in_addon};
