@@ -1,5 +1,7 @@
 // What the public calls on sections do once a table stands or is refused: clear it, say where the bytes of a type lie, hand
 // them out. None of this knows how the table came to stand.
+#![tactic(auto)]
+
 ghost use Rattle.std.specs.Prelude.{◌≡◌, ◌-◌, min, take, drop};
 ghost use Rattle.type_table.specs.View.{view, both_codes};
 ghost use Rattle.section_handing.specs.Handing.{Cleared, asked_at, bytes_named};
