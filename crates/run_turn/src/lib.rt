@@ -1,4 +1,6 @@
 // What comes after a step of a trial run: the next step, or the end of the run. Each step counts, the last one too.
+#![tactic(auto)]
+
 ghost use Rattle.std.specs.Prelude.{◌≡◌, ◌+◌};
 ghost use Rattle.std.specs.Int.{w64};
 ghost use Rattle.std.proofs.Common.{Fits};
