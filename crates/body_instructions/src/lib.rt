@@ -1,5 +1,7 @@
 // All instructions of a body, with the table of numeric codes laid out once for them. The table's rule, the core standard's ranges
 // in scope's specs/Numeric.antt, is proved here, once over the whole.
+#![tactic(auto)]
+
 ghost use Rattle.body_loop.specs.Loop.{Begun, JudgedFrom};
 ghost use Rattle.type_table.specs.View.{both_codes};
 ghost use Rattle.type_hierarchy.specs.Ranged.{Ranged};
