@@ -1,4 +1,6 @@
 // The state as it is told, part by part: the counts, and zero beyond what they count.
+#![tactic(auto)]
+
 ghost use Rattle.std.specs.Prelude.{◌≡◌, ◌+◌, ◌*◌, ◌≤◌, length, set, take};
 ghost use Rattle.scope.specs.Layout.{block_span};
 ghost use Rattle.scope.specs.Memory.{filled};
