@@ -1,4 +1,6 @@
 // What a trial run leaves: where it stands at its end, how it ended in the words of the answer, and scratch that is zero.
+#![tactic(auto)]
+
 ghost use Rattle.std.specs.Prelude.{◌≡◌};
 ghost use Rattle.run_turn.specs.Endings.{stage_of};
 ghost use Rattle.run_ending.specs.Telling.{tell_of};
