@@ -1,6 +1,8 @@
 // The move of each instruction, from the words of a run's memory. Nothing is written here. The moves are told in the
 // crates run_move_operands, run_move_locals, run_move_references, run_move_numbers, run_move_fields, run_move_new and
 // run_move_casts.
+#![tactic(auto)]
+
 ghost use Rattle.body_decoded.specs.Named.{Modest};
 ghost use Rattle.run_moves.specs.Moving.{MoveOf};
 ghost use Rattle.type_table.specs.View.{both_codes};
