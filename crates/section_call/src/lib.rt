@@ -1,6 +1,8 @@
 // The loader's public calls on sections: judge a library and an add-on, ask them for a type, hand back its very bytes. No call
 // trusts its caller to have looked first: any bytes and any buffers may be handed in, and lent memory is all zero after every
 // refusal.
+#![tactic(auto)]
+
 ghost use Rattle.scope.specs.Answers.{SectionJudged, TypeAsked, TypeHanded};
 ghost use Rattle.section_call.specs.Calls.{Blank, LentJudged, TableJudged};
 
