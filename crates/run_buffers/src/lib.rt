@@ -1,5 +1,7 @@
 // The state of a run in lent memory, as docs/LAYOUT.md has it: zero before the run, and after it the counts, and zero beyond
 // what they count.
+#![tactic(auto)]
+
 ghost use Rattle.std.specs.Prelude.{◌≡◌};
 ghost use Rattle.scope.specs.Answers.{state_lent};
 ghost use Rattle.run_buffers.specs.States.{state_of, Cleared, Settling, Settled};
