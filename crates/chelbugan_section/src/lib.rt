@@ -1,4 +1,6 @@
 // The calls of the loader for a host in C or Rust, each with its answer told.
+#![tactic(auto)]
+
 ghost use Rattle.chelbugan_told.specs.Told.{SectionTold, TypeTold};
 
 // Judges a library and an add-on's section.
