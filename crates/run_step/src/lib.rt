@@ -1,4 +1,6 @@
 // One step of a trial run: the move of the instruction is carried out in the run's memory, or a block is opened or closed.
+#![tactic(auto)]
+
 ghost use Rattle.run_state.specs.Machines.{words};
 ghost use Rattle.run_step.specs.Carried.{Movable, Carried, Inside, InsideIs, Steppable, StepOf};
 ghost use Rattle.type_table.specs.View.{both_codes};
