@@ -1,4 +1,6 @@
 // A body against the table of an accepted section: its size, 27, the locals, the instructions, and last, 5.
+#![tactic(auto)]
+
 ghost use Rattle.std.specs.Prelude.{◌≡◌};
 ghost use Rattle.body_judge.specs.Typed.{finished_as, Typing, TypedJudged, Sized, SizedJudged};
 ghost use Rattle.type_table.specs.View.{both_codes};
