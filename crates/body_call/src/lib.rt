@@ -1,5 +1,7 @@
 // The loader's public call on bodies. It trusts no caller to have looked first: any bytes and any buffers may be handed in.
 // All lent memory is scratch, and zero afterwards whatever the answer.
+#![tactic(auto)]
+
 ghost use Rattle.scope.specs.Answers.{BodyJudged};
 ghost use Rattle.body_call.specs.Calling.{Prepared, LentJudged, EnoughJudged};
 
