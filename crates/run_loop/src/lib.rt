@@ -1,4 +1,6 @@
 // A trial run in lent memory: step after step, until it is done, traps or has spent its budget.
+#![tactic(auto)]
+
 ghost use Rattle.run_state.specs.Machines.{words};
 ghost use Rattle.run_step.specs.Carried.{StepOf};
 ghost use Rattle.run_loop.specs.Runs.{Readable, Runnable, RanFrom};
