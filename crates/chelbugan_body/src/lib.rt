@@ -1,4 +1,6 @@
 // The checker's call for a host in C or Rust, its answer told.
+#![tactic(auto)]
+
 ghost use Rattle.chelbugan_told.specs.Told.{BodyTold};
 
 // Judges a body against a function type's number, over a library and an add-on's section.
