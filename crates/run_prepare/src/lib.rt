@@ -1,6 +1,8 @@
 // All that comes before a run, in document 01's order: 14, the body with its own refusals, the budget, the parameters. What the
 // run needs of the section and the body is read once more into scratch that the verdict left zero, and answered by value; the
 // state's memory is not lent here.
+#![tactic(auto)]
+
 ghost use Rattle.run_limits.specs.Limits.{scratch_lent};
 ghost use Rattle.run_prepare.specs.Preparing.{Shaped, BodyRead, Typed, TypeRead, Allowed, SectionRead, ScratchRoom, RunJudged, PreparedFor};
 ghost use Rattle.type_table.specs.View.{both_codes};
