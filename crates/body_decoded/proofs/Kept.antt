@@ -14,7 +14,7 @@ use Rattle.scope.specs.Sizes.{most_types}
 use Rattle.scope.specs.Lists.{every, joined}
 use Rattle.scope.specs.Syntax.{Heap, Val}
 use Rattle.scope.specs.TypeRules.{heap_names, val_names}
-use Rattle.scope.specs.Instructions.{Cast, Op, unreachable, nop, return, drop_value, br, br-if, local_get, local-set, local_tee, i32_const, i64_const, f32_const, f64_const, numeric, ref_null, ref-is-null, ref-eq, ref-as-non-null, struct_new, struct-new-default, struct_get, struct_set, ref_test, ref_cast, br_on_cast, br_on_cast_fail, struct-new-desc, struct-new-default-desc, ref_get_desc, ref_cast_desc_eq, br_on_cast_desc_eq, br_on_cast_desc_eq_fail, Instr, block, loop, end, op}
+use Rattle.scope.specs.Instructions.{Cast, Op, unreachable, nop, return, drop_value, br, br_if, local_get, local_set, local_tee, i32_const, i64_const, f32_const, f64_const, numeric, ref_null, ref_is_null, ref_eq, ref_as_non_null, struct_new, struct_new_default, struct_get, struct_set, ref_test, ref_cast, br_on_cast, br_on_cast_fail, struct_new_desc, struct_new_default_desc, ref_get_desc, ref_cast_desc_eq, br_on_cast_desc_eq, br_on_cast_desc_eq_fail, Instr, block, loop, end, op}
 use Rattle.scope.specs.BodyRules.{Context, Scope, Plan, Ruled, reached, and_ruled, plan_of}
 use Rattle.scope.specs.Bodies.{Frame, of_block, of_loop, State, scope_of, do_plan, entered, judge_instr}
 use Rattle.scope.proofs.Truths.{decided, from_both}
@@ -131,9 +131,9 @@ module _ (c : Context) (few : c.count ≤ most_types) where
     op_kept return = refl
     op_kept drop_value = refl
     op_kept (br l) = refl
-    op_kept (br-if l) = refl
+    op_kept (br_if l) = refl
     op_kept (local_get x) = refl
-    op_kept (local-set x) = refl
+    op_kept (local_set x) = refl
     op_kept (local_tee x) = refl
     op_kept (i32_const n) = refl
     op_kept (i64_const n) = refl
@@ -141,19 +141,19 @@ module _ (c : Context) (few : c.count ≤ most_types) where
     op_kept (f64_const n) = refl
     op_kept (numeric b) = refl
     op_kept (ref_null h) = by_heap ref_null _ (λ k. refl) h
-    op_kept ref-is-null = refl
-    op_kept ref-eq = refl
-    op_kept ref-as-non-null = refl
+    op_kept ref_is_null = refl
+    op_kept ref_eq = refl
+    op_kept ref_as_non_null = refl
     op_kept (struct_new x) = by_number struct_new _ (λ y. refl) x
-    op_kept (struct-new-default x) = by_number struct-new-default _ (λ y. refl) x
+    op_kept (struct_new_default x) = by_number struct_new_default _ (λ y. refl) x
     op_kept (struct_get x i) = by_number (λ y. struct_get y i) _ (λ y. refl) x
     op_kept (struct_set x i) = by_number (λ y. struct_set y i) _ (λ y. refl) x
     op_kept (ref_test n h) = by_heap (ref_test n) _ (λ k. refl) h
     op_kept (ref_cast n h) = by_heap (ref_cast n) _ (λ k. refl) h
     op_kept (br_on_cast k) = by_cast br_on_cast _ (λ j. refl) k
     op_kept (br_on_cast_fail k) = by_cast br_on_cast_fail _ (λ j. refl) k
-    op_kept (struct-new-desc x) = by_number struct-new-desc _ (λ y. refl) x
-    op_kept (struct-new-default-desc x) = by_number struct-new-default-desc _ (λ y. refl) x
+    op_kept (struct_new_desc x) = by_number struct_new_desc _ (λ y. refl) x
+    op_kept (struct_new_default_desc x) = by_number struct_new_default_desc _ (λ y. refl) x
     op_kept (ref_get_desc x) = by_number ref_get_desc _ (λ y. refl) x
     op_kept (ref_cast_desc_eq n h) = by_heap (ref_cast_desc_eq n) _ (λ k. refl) h
     op_kept (br_on_cast_desc_eq k) = by_cast br_on_cast_desc_eq _ (λ j. refl) k

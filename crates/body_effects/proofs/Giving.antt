@@ -92,8 +92,8 @@ module _ (rows codes : List ℕ) {work : List ℕ} (k : Scene) (st : Check) (p :
   pub plain_missing : {number : ℕ} → r ≡ Left.TheVariants.Fault number → left_of work st.base r ≡ left_in (take_all (view rows codes) st.dead (wants_at p.top ++ (wants_at p.second ++ from_top (values_of codes p.rest))) (stack work st.base st.height)) → {work' : List ℕ} → work' ≡ work → Stepped work work' k.locals st.depth (do_plan (context_at rows codes work k) (state_at work k.locals st) (plain_of codes p)) (Step.TheVariants.Fault number)
   plain_missing m a e = stepped_fault k.locals st.depth e (sym (planned rows codes work k st p ∙ rw (sym a, m) refl))
 
-  pub plain-on : {left : ℕ} → r ≡ Left.TheVariants.Is left → left_of work st.base r ≡ left_in (take_all (view rows codes) st.dead (wants_at p.top ++ (wants_at p.second ++ from_top (values_of codes p.rest))) (stack work st.base st.height)) → {work' : List ℕ} {step : Step} → Stepped work work' k.locals st.depth (within_operands (after_plain codes (state_at work k.locals st) p (stack work st.base left))) step → Stepped work work' k.locals st.depth (do_plan (context_at rows codes work k) (state_at work k.locals st) (plain_of codes p)) step
-  plain-on m a s = stepped_as (sym (planned rows codes work k st p ∙ rw (sym a, m) refl)) s
+  pub plain_on : {left : ℕ} → r ≡ Left.TheVariants.Is left → left_of work st.base r ≡ left_in (take_all (view rows codes) st.dead (wants_at p.top ++ (wants_at p.second ++ from_top (values_of codes p.rest))) (stack work st.base st.height)) → {work' : List ℕ} {step : Step} → Stepped work work' k.locals st.depth (within_operands (after_plain codes (state_at work k.locals st) p (stack work st.base left))) step → Stepped work work' k.locals st.depth (do_plan (context_at rows codes work k) (state_at work k.locals st) (plain_of codes p)) step
+  plain_on m a s = stepped_as (sym (planned rows codes work k st p ∙ rw (sym a, m) refl)) s
 
 -- a plan, by its kind
 
@@ -118,4 +118,4 @@ module _ (rows codes : List ℕ) {work : List ℕ} (k : Scene) (st : Check) {pla
 pub may_give : {work : List ℕ} {count : ℕ} {st : Check} → Upright work count st → Long work
 may_give u = record { room = u.room }
 
-pub ruleset give_exits = (may_mark, may_give, give_stops, give_full, mark_given, give_on, plain_missing, plain-on, does_fault, does_non_null, does_descriptor, does_plain)
+pub ruleset give_exits = (may_mark, may_give, give_stops, give_full, mark_given, give_on, plain_missing, plain_on, does_fault, does_non_null, does_descriptor, does_plain)

@@ -77,11 +77,11 @@ module _ (b : ℕ) (s : List ℕ) (at : ℕ) {r : Coded} (a : r ≡ coded_is res
     unfolding instruction_of
     opening_block f = opening_with Instruction.TheVariants.Block (λ rs. rw f)
 
-    pub opening-loop : (b ≡ 0x02 → ⊥) → InstructionRead.TheVariants.Is (Instruction.TheVariants.Loop k) next ≡ instruction_is (opening_at b s at)
+    pub opening_loop : (b ≡ 0x02 → ⊥) → InstructionRead.TheVariants.Is (Instruction.TheVariants.Loop k) next ≡ instruction_is (opening_at b s at)
     unfolding instruction_of
-    opening-loop f = opening_with Instruction.TheVariants.Loop (λ rs. rw (ne_eqb b 0x02 f))
+    opening_loop f = opening_with Instruction.TheVariants.Loop (λ rs. rw (ne_eqb b 0x02 f))
 
-pub ruleset opening_exits = (opening_refused, opening_block, opening-loop)
+pub ruleset opening_exits = (opening_refused, opening_block, opening_loop)
 
 -- null_at and tested_at
 

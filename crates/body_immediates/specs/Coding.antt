@@ -5,7 +5,7 @@ use Rattle.scope.specs.Reading.{Read, got, refused, Reader}
 use Rattle.scope.specs.Numbers.{bits32, bits64, u32, s32, s64, float32, float64}
 use Rattle.scope.specs.Syntax.{Heap, Val}
 use Rattle.scope.specs.Sections.{heap_at}
-use Rattle.scope.specs.Instructions.{Cast, Op, unreachable, nop, return, drop_value, br, br-if, local_get, local-set, local_tee, i32_const, i64_const, f32_const, f64_const, numeric, ref_null, ref-is-null, ref-eq, ref-as-non-null, struct_new, struct-new-default, struct_get, struct_set, ref_test, ref_cast, br_on_cast, br_on_cast_fail, struct-new-desc, struct-new-default-desc, ref_get_desc, ref_cast_desc_eq, br_on_cast_desc_eq, br_on_cast_desc_eq_fail, Instr, block, loop, end, op, having, having_two, opening}
+use Rattle.scope.specs.Instructions.{Cast, Op, unreachable, nop, return, drop_value, br, br_if, local_get, local_set, local_tee, i32_const, i64_const, f32_const, f64_const, numeric, ref_null, ref_is_null, ref_eq, ref_as_non_null, struct_new, struct_new_default, struct_get, struct_set, ref_test, ref_cast, br_on_cast, br_on_cast_fail, struct_new_desc, struct_new_default_desc, ref_get_desc, ref_cast_desc_eq, br_on_cast_desc_eq, br_on_cast_desc_eq_fail, Instr, block, loop, end, op, having, having_two, opening}
 use Rattle.type_table.specs.Kept.{kept}
 use Rattle.type_read.specs.Codes.{heap_code_kept, val_code_kept}
 use Rattle.body_immediates.specs.declared.Instruction.{Instruction}
@@ -27,9 +27,9 @@ operation_of nop = Instruction.TheVariants.Nop
 operation_of return = Instruction.TheVariants.Return
 operation_of drop_value = Instruction.TheVariants.Drop
 operation_of (br l) = Instruction.TheVariants.Br l
-operation_of (br-if l) = Instruction.TheVariants.BrIf l
+operation_of (br_if l) = Instruction.TheVariants.BrIf l
 operation_of (local_get x) = Instruction.TheVariants.LocalGet x
-operation_of (local-set x) = Instruction.TheVariants.LocalSet x
+operation_of (local_set x) = Instruction.TheVariants.LocalSet x
 operation_of (local_tee x) = Instruction.TheVariants.LocalTee x
 operation_of (i32_const n) = Instruction.TheVariants.I32Const n
 operation_of (i64_const n) = Instruction.TheVariants.I64Const n
@@ -37,19 +37,19 @@ operation_of (f32_const n) = Instruction.TheVariants.F32Const n
 operation_of (f64_const n) = Instruction.TheVariants.F64Const n
 operation_of (numeric b) = Instruction.TheVariants.Numeric b
 operation_of (ref_null h) = Instruction.TheVariants.RefNull (heap_code_kept h)
-operation_of ref-is-null = Instruction.TheVariants.RefIsNull
-operation_of ref-eq = Instruction.TheVariants.RefEq
-operation_of ref-as-non-null = Instruction.TheVariants.RefAsNonNull
+operation_of ref_is_null = Instruction.TheVariants.RefIsNull
+operation_of ref_eq = Instruction.TheVariants.RefEq
+operation_of ref_as_non_null = Instruction.TheVariants.RefAsNonNull
 operation_of (struct_new x) = Instruction.TheVariants.StructNew (kept x)
-operation_of (struct-new-default x) = Instruction.TheVariants.StructNewDefault (kept x)
+operation_of (struct_new_default x) = Instruction.TheVariants.StructNewDefault (kept x)
 operation_of (struct_get x i) = Instruction.TheVariants.StructGet (kept x) i
 operation_of (struct_set x i) = Instruction.TheVariants.StructSet (kept x) i
 operation_of (ref_test n h) = Instruction.TheVariants.RefTest n (heap_code_kept h)
 operation_of (ref_cast n h) = Instruction.TheVariants.RefCast n (heap_code_kept h)
 operation_of (br_on_cast k) = cast_with Instruction.TheVariants.BrOnCast k
 operation_of (br_on_cast_fail k) = cast_with Instruction.TheVariants.BrOnCastFail k
-operation_of (struct-new-desc x) = Instruction.TheVariants.StructNewDesc (kept x)
-operation_of (struct-new-default-desc x) = Instruction.TheVariants.StructNewDefaultDesc (kept x)
+operation_of (struct_new_desc x) = Instruction.TheVariants.StructNewDesc (kept x)
+operation_of (struct_new_default_desc x) = Instruction.TheVariants.StructNewDefaultDesc (kept x)
 operation_of (ref_get_desc x) = Instruction.TheVariants.RefGetDesc (kept x)
 operation_of (ref_cast_desc_eq n h) = Instruction.TheVariants.RefCastDescEq n (heap_code_kept h)
 operation_of (br_on_cast_desc_eq k) = cast_with Instruction.TheVariants.BrOnCastDescEq k
@@ -77,7 +77,7 @@ opening_at b = opening (opened b)
 
 abbrev pub numbered : ℕ → ℕ → Op
 numbered b x =
-    cond (eqb b 0x0C) (br x) (cond (eqb b 0x0D) (br-if x) (cond (eqb b 0x20) (local_get x) (cond (eqb b 0x21) (local-set x) (local_tee x))))
+    cond (eqb b 0x0C) (br x) (cond (eqb b 0x0D) (br_if x) (cond (eqb b 0x20) (local_get x) (cond (eqb b 0x21) (local_set x) (local_tee x))))
 
 unfoldable pub numbered_at : ℕ → Reader Instr
 numbered_at b = having u32 (numbered b)
@@ -100,8 +100,8 @@ null_at = having heap_at ref_null
 abbrev pub typed : ℕ → ℕ → Op
 typed b x =
     cond (eqb b 0x00) (struct_new x)
-    (cond (eqb b 0x01) (struct-new-default x)
-    (cond (eqb b 0x20) (struct-new-desc x) (cond (eqb b 0x21) (struct-new-default-desc x) (ref_get_desc x))))
+    (cond (eqb b 0x01) (struct_new_default x)
+    (cond (eqb b 0x20) (struct_new_desc x) (cond (eqb b 0x21) (struct_new_default_desc x) (ref_get_desc x))))
 
 unfoldable pub typed_at : ℕ → Reader Instr
 typed_at b = having u32 (typed b)

@@ -39,9 +39,9 @@ held codes at (suc n) = ap (λ (vs : List Val). val_at_code (get_or codes at 0 /
 
 module _ (codes : List ℕ) (values : Values) {first n : ℕ} where
   module _ (e : values ≡ Values.TheVariants.Types first n) where
-    pub no-types : n ≡ 0 → SplitOf codes values Split.TheVariants.Nothing
+    pub no_types : n ≡ 0 → SplitOf codes values Split.TheVariants.Nothing
     unfolding values_of last_of
-    no-types z = record { is = rw (e, no-codes val_at_code codes first n (omega arith)) }
+    no_types z = record { is = rw (e, no-codes val_at_code codes first n (omega arith)) }
 
     pub last_type : (n ≡ 0 → ⊥) → {w : ℕ} → WordAt codes (first + (n - 1)) w → SplitOf codes values (Split.TheVariants.Is (Values.TheVariants.Types first (n - 1)) w)
     unfolding values_of
@@ -61,4 +61,4 @@ pub only_type : (codes : List ℕ) (values : Values) {c : ℕ} → values ≡ Va
 unfolding values_of val_at_word last_of codes_at
 only_type codes values e = record { is = rw e }
 
-pub ruleset last_exits = (no-types, last_type, no_fields, last_field, only_type)
+pub ruleset last_exits = (no_types, last_type, no_fields, last_field, only_type)

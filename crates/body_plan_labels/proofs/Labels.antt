@@ -9,7 +9,7 @@ use lib.ListN.{get_elem?}
 use borrow.Author.Tests.{eq-eqb, ne_eqb}
 use Rattle.scope.specs.Refusals.{absent}
 use Rattle.scope.specs.Syntax.{Val}
-use Rattle.scope.specs.Instructions.{br, br-if}
+use Rattle.scope.specs.Instructions.{br, br_if}
 use Rattle.scope.specs.BodyRules.{plan_of}
 use Rattle.scope.specs.Bodies.{label_of}
 use Rattle.lent_u32.specs.Scratch.{Word32At}
@@ -87,7 +87,7 @@ module _ {work : List ℕ} {k : Scene} {depth l : ℕ} {r : Label} (a : LabelOf 
     unfolding plan_of planned_of
     br_absent = record { is = λ codes c is_set. rw (label_none codes) }
 
-    pub br_if_absent : Goes work k depth (br-if l) (Planned.TheVariants.Fault absent)
+    pub br_if_absent : Goes work k depth (br_if l) (Planned.TheVariants.Fault absent)
     unfolding plan_of planned_of
     br_if_absent = record { is = λ codes c is_set. rw (label_none codes) }
 
@@ -99,7 +99,7 @@ module _ {work : List ℕ} {k : Scene} {depth l : ℕ} {r : Label} (a : LabelOf 
     unfolding plan_of
     br_planned p = record { is = λ codes c is_set. rw (label_some codes, p.is codes) }
 
-    pub br_if_planned : Goes work k depth (br-if l) (Planned.TheVariants.Plain (record { top = 3; second = 0; rest = v; back = true; gives = 0; marks = 0; stops = false }))
+    pub br_if_planned : Goes work k depth (br_if l) (Planned.TheVariants.Plain (record { top = 3; second = 0; rest = v; back = true; gives = 0; marks = 0; stops = false }))
     unfolding plan_of planned_of plain_of
     br_if_planned =
         record { is = λ codes c is_set. rw (label_some codes, wants_i32, wants_none, gives_none, append-nil (values_of codes v)) }

@@ -1,7 +1,7 @@
 // Labels, and the rules of the instructions that branch to one and look at no type: br and br_if. A label that is absent is 21.
 #![tactic(auto)]
 
-ghost use Rattle.scope.specs.Instructions.{br, br-if};
+ghost use Rattle.scope.specs.Instructions.{br, br_if};
 ghost use Rattle.body_plan_labels.specs.Labels.{BlockLabel, LabelOf, Goes};
 
 use body_plan_parts::{I32, WANTED};
@@ -56,7 +56,7 @@ pub fn br(work: &[u32], scene: Scene, depth: u16, l: u64) -> Planned
 
 // br_if l
 pub fn br_if(work: &[u32], scene: Scene, depth: u16, l: u64) -> Planned
-    ensures { Goes work.now scene depth (br-if l) result }
+    ensures { Goes work.now scene depth (br_if l) result }
 {
     let label = label_of(work, scene, depth, l);
     match label {

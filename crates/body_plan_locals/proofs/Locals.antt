@@ -13,7 +13,7 @@ use borrow.Author.Tests.{ltb-true, ltb-false, not-true, not-false, ne_eqb}
 use mir.Syntax.{w16, w32, w64}
 use mir.Val.{Fits}
 use Rattle.scope.specs.Refusals.{absent, not_set}
-use Rattle.scope.specs.Instructions.{local_get, local-set, local_tee}
+use Rattle.scope.specs.Instructions.{local_get, local_set, local_tee}
 use Rattle.scope.specs.BodyRules.{plan_of}
 use Rattle.scope.proofs.Truths.{decided, none_is_not-some}
 use Rattle.type_table.specs.View.{val_at_code, codes_at, link_at}
@@ -48,7 +48,7 @@ module _ {work : List ℕ} {count x : ℕ} {r : Local} (a : LocalOf work count x
     unfolding plan_of planned_of
     get_absent is_set = record { is = λ codes ts count results labels. rw (absent_is e) }
 
-    pub set-absent : Sets (codes_at val_at_word work 0 count) (local-set x) (Planned.TheVariants.Fault absent)
+    pub set-absent : Sets (codes_at val_at_word work 0 count) (local_set x) (Planned.TheVariants.Fault absent)
     unfolding plan_of planned_of
     set-absent = record { is = λ is_set. record { is = λ codes ts count results labels. rw (absent_is e) } }
 
@@ -95,7 +95,7 @@ module _ {work : List ℕ} {count x : ℕ} {r : Local} (a : LocalOf work count x
                 rw (type_is, set_is, not-false s t, takes.is codes, wants_none, gives_value (a.small c e));
           }
 
-    pub set_planned : Sets (codes_at val_at_word work 0 count) (local-set x) (Planned.TheVariants.Plain (record { top = c + 3; second = 0; rest = Values.TheVariants.Types 0 0; back = false; gives = 0; marks = x + 1; stops = false }))
+    pub set_planned : Sets (codes_at val_at_word work 0 count) (local_set x) (Planned.TheVariants.Plain (record { top = c + 3; second = 0; rest = Values.TheVariants.Types 0 0; back = false; gives = 0; marks = x + 1; stops = false }))
     unfolding plan_of planned_of plain_of values_of codes_at
     set_planned =
         record {

@@ -3,7 +3,7 @@
 #![tactic(auto)]
 
 ghost use Rattle.std.specs.Prelude.{◌+◌};
-ghost use Rattle.scope.specs.Instructions.{local_get, local-set, local_tee};
+ghost use Rattle.scope.specs.Instructions.{local_get, local_set, local_tee};
 ghost use Rattle.type_table.specs.View.{codes_at};
 ghost use Rattle.body_state.specs.State.{val_at_word, sets_at};
 ghost use Rattle.body_plan_locals.specs.Uses.{Uses, Sets};
@@ -30,7 +30,7 @@ pub fn local_get(work: &[u32], locals: u16, depth: u16, x: u64) -> Planned
 
 // local.set x
 pub fn local_set(work: &[u32], locals: u16, x: u64) -> Planned
-    ensures { Sets (codes_at val_at_word work.now 0 locals) (local-set x) result }
+    ensures { Sets (codes_at val_at_word work.now 0 locals) (local_set x) result }
 {
     let local = body_state::local_of(work, locals, x);
     match local {

@@ -7,7 +7,7 @@ use lib.Dec.{ltb}
 use Rattle.scope.specs.Refusals.{out_of_reach, bad_struct}
 use Rattle.scope.specs.Lists.{is_none}
 use Rattle.scope.specs.Syntax.{exact, Val, ref, nullable, non_null, Types}
-use Rattle.scope.specs.Instructions.{struct_new, struct-new-desc}
+use Rattle.scope.specs.Instructions.{struct_new, struct_new_desc}
 use Rattle.scope.specs.BodyRules.{Scope, value, values, and_ruled, takes, from_top, fields_of, holds_of, plan_of}
 use Rattle.body_state.specs.declared.Values
 use Rattle.body_state.specs.declared.Planned.{Planned}
@@ -31,7 +31,7 @@ module _ (ts : Types) (count x : ℕ) (locals results : List Val) (here : Scope)
   unfolding plan_of struct_at undescribed_at
   new_is = found_then (ltb x count && true) out_of_reach (fields_of (ts x).form) bad_struct _ ∙ test-then (struct_at ts count x) (is_none (ts x).descriptor) bad_struct _
 
-  pub desc_is : plan_of (context_on ts count locals results) here (struct-new-desc x)
+  pub desc_is : plan_of (context_on ts count locals results) here (struct_new_desc x)
       ≡ and_ruled (described_at ts count x) (λ p. takes (value (nullable (exact p.1)) ∷ from_top (holds_of p.0)) (values (non_null (exact x) ∷ [])))
   unfolding plan_of struct_at described_at
   desc_is =
@@ -59,13 +59,13 @@ module _ {codes : List ℕ} {ts : Types} {count x : ℕ} {r : Fields} (a : Undes
 
 module _ {codes : List ℕ} {ts : Types} {count x : ℕ} {r : Pair} (a : Described codes ts count x r) where
   module _ {m : ℕ} (q : r ≡ Pair.TheVariants.Fault m) where
-    pub desc_refused : Follows codes ts count (struct-new-desc x) (Planned.TheVariants.Fault m)
+    pub desc_refused : Follows codes ts count (struct_new_desc x) (Planned.TheVariants.Fault m)
     unfolding planned_of
     desc_refused = record { is = λ locals results here. rw (desc_is ts count x locals results here, no-pair a q) }
 
   module _ {first n y : ℕ} (q : r ≡ Pair.TheVariants.Are first n y) where
     module _ {j : ℕ} (top : CodeIs (ref true (exact y)) j) where
-      pub desc_planned : {k : ℕ} → CodeIs (ref false (exact x)) k → {p : Planned} → Takes (j + 3) 0 (Values.TheVariants.Fields first n) (k + 1) p → Follows codes ts count (struct-new-desc x) p
+      pub desc_planned : {k : ℕ} → CodeIs (ref false (exact x)) k → {p : Planned} → Takes (j + 3) 0 (Values.TheVariants.Fields first n) (k + 1) p → Follows codes ts count (struct_new_desc x) p
       unfolding values_of
       desc_planned made takes =
           record {

@@ -2,7 +2,7 @@
 // struct.new_desc, which takes a reference to exactly the type's descriptor before the fields.
 #![tactic(auto)]
 
-ghost use Rattle.scope.specs.Instructions.{struct_new, struct-new-desc};
+ghost use Rattle.scope.specs.Instructions.{struct_new, struct_new_desc};
 ghost use Rattle.type_table.specs.View.{view, both_codes};
 ghost use Rattle.body_plan_parts.specs.Planning.{Follows};
 
@@ -26,7 +26,7 @@ pub fn struct_new(rows: &[u16], shared: &[u16], codes: &[u16], types: u16, x: u6
 
 // struct.new_desc x
 pub fn struct_new_desc(rows: &[u16], shared: &[u16], codes: &[u16], types: u16, x: u64) -> Planned
-    ensures { Follows (both_codes shared.now codes.now) (view rows.now (both_codes shared.now codes.now)) types (struct-new-desc x) result }
+    ensures { Follows (both_codes shared.now codes.now) (view rows.now (both_codes shared.now codes.now)) types (struct_new_desc x) result }
 {
     let found = body_plan_structs::described(rows, shared, codes, types, x);
     match found {

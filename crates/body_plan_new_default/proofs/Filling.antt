@@ -8,7 +8,7 @@ use borrow.Author.Tests.{not-true, not-false}
 use Rattle.scope.specs.Refusals.{out_of_reach, bad_struct, no_default}
 use Rattle.scope.specs.Lists.{is_none}
 use Rattle.scope.specs.Syntax.{exact, Val, ref, nullable, non_null, Types}
-use Rattle.scope.specs.Instructions.{struct-new-default, struct-new-default-desc}
+use Rattle.scope.specs.Instructions.{struct_new_default, struct_new_default_desc}
 use Rattle.scope.specs.BodyRules.{Scope, value, values, and_ruled, takes, fields_of, defaulted, plan_of}
 use Rattle.type_table.specs.View.{codes_at}
 use Rattle.body_state.specs.declared.Values
@@ -42,12 +42,12 @@ module _ {codes : List ℕ} {first n : ℕ} (top x : ℕ) {r : Bool} (e : r ≡ 
 -- what each rule asks of the struct that was found
 
 module _ (ts : Types) (count x : ℕ) (locals results : List Val) (here : Scope) where
-  pub default_is : plan_of (context_on ts count locals results) here (struct-new-default x)
+  pub default_is : plan_of (context_on ts count locals results) here (struct_new_default x)
       ≡ and_ruled (undescribed_at ts count x) (λ fs. defaulted fs (takes [] (values (non_null (exact x) ∷ []))))
   unfolding plan_of struct_at undescribed_at
   default_is = found_then (ltb x count && true) out_of_reach (fields_of (ts x).form) bad_struct _ ∙ test-then (struct_at ts count x) (is_none (ts x).descriptor) bad_struct _
 
-  pub default_desc_is : plan_of (context_on ts count locals results) here (struct-new-default-desc x)
+  pub default_desc_is : plan_of (context_on ts count locals results) here (struct_new_default_desc x)
       ≡ and_ruled (described_at ts count x) (λ p. defaulted p.0 (takes (value (nullable (exact p.1)) ∷ []) (values (non_null (exact x) ∷ []))))
   unfolding plan_of struct_at described_at
   default_desc_is =
@@ -58,12 +58,12 @@ module _ (ts : Types) (count x : ℕ) (locals results : List Val) (here : Scope)
 
 module _ {codes : List ℕ} {ts : Types} {count x : ℕ} {r : Fields} (a : Undescribed codes ts count x r) where
   module _ {m : ℕ} (q : r ≡ Fields.TheVariants.Fault m) where
-    pub default_refused : Follows codes ts count (struct-new-default x) (Planned.TheVariants.Fault m)
+    pub default_refused : Follows codes ts count (struct_new_default x) (Planned.TheVariants.Fault m)
     unfolding planned_of
     default_refused = record { is = λ locals results here. rw (default_is ts count x locals results here, no_fields a q) }
 
   module _ {first n : ℕ} (q : r ≡ Fields.TheVariants.Are first n) where
-    pub default_planned : {p : Planned} → Defaulted codes first n 0 x p → Follows codes ts count (struct-new-default x) p
+    pub default_planned : {p : Planned} → Defaulted codes first n 0 x p → Follows codes ts count (struct_new_default x) p
     unfolding all_default
     default_planned p =
         record { is = λ locals results here. rw (default_is ts count x locals results here, fields_are a q, p.is, wants_none) }
@@ -72,13 +72,13 @@ module _ {codes : List ℕ} {ts : Types} {count x : ℕ} {r : Fields} (a : Undes
 
 module _ {codes : List ℕ} {ts : Types} {count x : ℕ} {r : Pair} (a : Described codes ts count x r) where
   module _ {m : ℕ} (q : r ≡ Pair.TheVariants.Fault m) where
-    pub default_desc_refused : Follows codes ts count (struct-new-default-desc x) (Planned.TheVariants.Fault m)
+    pub default_desc_refused : Follows codes ts count (struct_new_default_desc x) (Planned.TheVariants.Fault m)
     unfolding planned_of
     default_desc_refused = record { is = λ locals results here. rw (default_desc_is ts count x locals results here, no-pair a q) }
 
   module _ {first n y : ℕ} (q : r ≡ Pair.TheVariants.Are first n y) where
     module _ {j : ℕ} (top : CodeIs (ref true (exact y)) j) where
-      pub default_desc_planned : {p : Planned} → Defaulted codes first n (j + 3) x p → Follows codes ts count (struct-new-default-desc x) p
+      pub default_desc_planned : {p : Planned} → Defaulted codes first n (j + 3) x p → Follows codes ts count (struct_new_default_desc x) p
       unfolding all_default
       default_desc_planned p =
           record {

@@ -3,7 +3,7 @@
 #![tactic(auto)]
 
 ghost use Rattle.std.specs.Prelude.{◌<◌, ◌^◌};
-ghost use Rattle.scope.specs.Instructions.{struct-new-default, struct-new-default-desc};
+ghost use Rattle.scope.specs.Instructions.{struct_new_default, struct_new_default_desc};
 ghost use Rattle.type_table.specs.View.{view, both_codes};
 ghost use Rattle.body_plan_parts.specs.Planning.{Follows};
 ghost use Rattle.body_plan_new_default.specs.Filled.{Defaulted};
@@ -33,7 +33,7 @@ pub fn struct_new_default(
     types: u16,
     x: u64,
 ) -> Planned
-    ensures { Follows (both_codes shared.now codes.now) (view rows.now (both_codes shared.now codes.now)) types (struct-new-default x) result }
+    ensures { Follows (both_codes shared.now codes.now) (view rows.now (both_codes shared.now codes.now)) types (struct_new_default x) result }
 {
     let found = body_plan_structs::undescribed(rows, shared, codes, types, x);
     match found {
@@ -50,7 +50,7 @@ pub fn struct_new_default_desc(
     types: u16,
     x: u64,
 ) -> Planned
-    ensures { Follows (both_codes shared.now codes.now) (view rows.now (both_codes shared.now codes.now)) types (struct-new-default-desc x) result }
+    ensures { Follows (both_codes shared.now codes.now) (view rows.now (both_codes shared.now codes.now)) types (struct_new_default_desc x) result }
 {
     let found = body_plan_structs::described(rows, shared, codes, types, x);
     match found {

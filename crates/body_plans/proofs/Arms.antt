@@ -33,9 +33,9 @@ module _ (codes : List ℕ) (c : Context) (s : State) (i : Instruction) where
   unfolding act_of instr_of
   opens_block e = rw e
 
-  pub opens-loop : {w : ℕ} → i ≡ Instruction.TheVariants.Loop w → act_of codes c s (Act.TheVariants.Opens true w) ≡ judge_instr c s (instr_of i)
+  pub opens_loop : {w : ℕ} → i ≡ Instruction.TheVariants.Loop w → act_of codes c s (Act.TheVariants.Opens true w) ≡ judge_instr c s (instr_of i)
   unfolding act_of instr_of
-  opens-loop e = rw e
+  opens_loop e = rw e
 
   pub closes : i ≡ Instruction.TheVariants.End → act_of codes c s Act.TheVariants.Closes ≡ judge_instr c s (instr_of i)
   unfolding act_of instr_of

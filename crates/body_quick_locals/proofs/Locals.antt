@@ -14,7 +14,7 @@ use mir.Val.{Fits}
 use Rattle.scope.specs.Reading.{got}
 use Rattle.scope.specs.Numbers.{u32}
 use Rattle.scope.specs.Syntax.{Val}
-use Rattle.scope.specs.Instructions.{op, local_get, local-set, local_tee, instr_at}
+use Rattle.scope.specs.Instructions.{op, local_get, local_set, local_tee, instr_at}
 use Rattle.scope.specs.BodyRules.{Context, Scope, value, values, takes, takes_and_sets, plan_of}
 use Rattle.scope.specs.Bodies.{scope_of}
 use Rattle.lent_u32.specs.Scratch.{Word32At}
@@ -93,7 +93,7 @@ pub ruleset get_exits = (local_exits, get_told, plainly_not)
 
 -- local.set and local.tee
 
-read_set : (s : List ℕ) (at n x : ℕ) → get_elem? s at ≡ some 0x21 → u32 s (at + 1) ≡ got x (at + 1 + n) → instr_at s at ≡ got (op (local-set x)) (at + (1 + n))
+read_set : (s : List ℕ) (at n x : ℕ) → get_elem? s at ≡ some 0x21 → u32 s (at + 1) ≡ got x (at + 1 + n) → instr_at s at ≡ got (op (local_set x)) (at + (1 + n))
 unfolding instr_at
 read_set s at n x e q = let place : at + 1 + n ≡ at + (1 + n) = omega arith in rw (e, q, place)
 
@@ -101,7 +101,7 @@ read_tee : (s : List ℕ) (at n x : ℕ) → get_elem? s at ≡ some 0x22 → u3
 unfolding instr_at
 read_tee s at n x e q = let place : at + 1 + n ≡ at + (1 + n) = omega arith in rw (e, q, place)
 
-plan_set : (c : Context) (here : Scope) (x : ℕ) {v : Val} → get_elem? c.locals x ≡ some v → plan_of c here (local-set x) ≡ takes_and_sets x (value v ∷ []) (values [])
+plan_set : (c : Context) (here : Scope) (x : ℕ) {v : Val} → get_elem? c.locals x ≡ some v → plan_of c here (local_set x) ≡ takes_and_sets x (value v ∷ []) (values [])
 unfolding plan_of
 plan_set c here x e = rw e
 
@@ -126,7 +126,7 @@ module _ (rows codes : List ℕ) (k : Scene) {s : List ℕ} {at : ℕ} {work : L
       let x = q.number in
       let c = context_at rows codes work k in
       let g' : Marked work work' k.locals (depth + 1) (some x) = rw (link_is_lem x) at g in
-      told-set c (local-set x) a.stands (plan_set c (scope_of c (state_at work k.locals (check_of depth base top dead))) x (d.typed m)) (took_ordered a.stands.ordered taken some') (took_value q.code taken some') (read_set s at q.size x a.byte (d.is m)) (omega arith) g'
+      told-set c (local_set x) a.stands (plan_set c (scope_of c (state_at work k.locals (check_of depth base top dead))) x (d.typed m)) (took_ordered a.stands.ordered taken some') (took_value q.code taken some') (read_set s at q.size x a.byte (d.is m)) (omega arith) g'
 
 module _ (rows codes : List ℕ) (k : Scene) {s : List ℕ} {at : ℕ} {work : List ℕ} {depth base top dead : ℕ} (a : Asked 0x22 s at work k.locals depth base top dead) {q : Named} (d : LocalTold s (at + 1) work k.locals q) (m : q.size ≡ 0 → ⊥) {t : ℕ} (taken : Took (view rows codes) work base top dead (q.code + 2) t) (some' : t ≡ 0 → ⊥) {work' : List ℕ} {r : Done} (p : PutAndSet work work' k.locals (depth + 1) (q.number + 1) (t - 1) (q.code + 2) (1 + q.size) r) where
   tee_goes : (n : r.size ≡ 0 → ⊥) → Told (context_at rows codes work k) s at work work' k.locals depth base top dead r

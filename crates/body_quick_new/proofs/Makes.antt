@@ -13,7 +13,7 @@ use mir.Val.{Fits}
 use Rattle.scope.specs.Reading.{got}
 use Rattle.scope.specs.Numbers.{u32}
 use Rattle.scope.specs.Syntax.{Types, Val, exact, ref, non_null}
-use Rattle.scope.specs.Instructions.{op, struct_new, struct-new-default, instr_at}
+use Rattle.scope.specs.Instructions.{op, struct_new, struct_new_default, instr_at}
 use Rattle.scope.specs.BodyRules.{Scope, values, allowed, takes, from_top, holds_of, plan_of}
 use Rattle.scope.specs.Bodies.{Operand, known, take_all, scope_of}
 use Rattle.type_table.specs.View.{field_at_code, codes_at, val_at_code, view}
@@ -130,11 +130,11 @@ pub ruleset new_exits = (after_exits, size_fits, may_make, new_told, told-not)
 
 -- struct.new_default
 
-read_default : (s : List ℕ) (at n x : ℕ) → get_elem? s at ≡ some 0xFB → u32 s (at + 1) ≡ got 0x01 (at + 2) → u32 s (at + 2) ≡ got x (at + 2 + n) → instr_at s at ≡ got (op (struct-new-default x)) (at + (2 + n))
+read_default : (s : List ℕ) (at n x : ℕ) → get_elem? s at ≡ some 0xFB → u32 s (at + 1) ≡ got 0x01 (at + 2) → u32 s (at + 2) ≡ got x (at + 2 + n) → instr_at s at ≡ got (op (struct_new_default x)) (at + (2 + n))
 unfolding instr_at
 read_default s at n x e f g = let place : at + 2 + n ≡ at + (2 + n) = omega arith in rw (e, f, g, place)
 
-plan_default : (rows codes work : List ℕ) (k : Scene) (here : Scope) (x first n : ℕ) {r : Fields} → Undescribed codes (view rows codes) k.types x r → r ≡ Fields.TheVariants.Are first n → all_default true codes first n ≡ true → plan_of (context_at rows codes work k) here (struct-new-default x) ≡ takes [] (values (non_null (exact x) ∷ []))
+plan_default : (rows codes work : List ℕ) (k : Scene) (here : Scope) (x first n : ℕ) {r : Fields} → Undescribed codes (view rows codes) k.types x r → r ≡ Fields.TheVariants.Are first n → all_default true codes first n ≡ true → plan_of (context_at rows codes work k) here (struct_new_default x) ≡ takes [] (values (non_null (exact x) ∷ []))
 unfolding context_at all_default
 plan_default rows codes work k here x first n u e f = default_is (view rows codes) k.types x _ _ here ∙ rw (fields_are u e, f)
 
@@ -146,7 +146,7 @@ module _ (rows codes : List ℕ) (k : Scene) {s : List ℕ} {at : ℕ} {work : L
         let x = q.value in
         let g = p.is j in
         let c = context_at rows codes work k in
-        told-put c (struct-new-default x) a.stands (plan_default rows codes work k (scope_of c (state_at work k.locals (check_of depth base top dead))) x first n u e g.all) a.stands.ordered.above (left-none (view rows codes) (eqb dead 1) (stack work base (top - base))) (read_default s at q.size x a.byte a.code (d.is m)) (word_is g.code) g.put
+        told-put c (struct_new_default x) a.stands (plan_default rows codes work k (scope_of c (state_at work k.locals (check_of depth base top dead))) x first n u e g.all) a.stands.ordered.above (left-none (view rows codes) (eqb dead 1) (stack work base (top - base))) (read_default s at q.size x a.byte a.code (d.is m)) (word_is g.code) g.put
 
     pub default_told : Told (context_at rows codes work k) s at work work' k.locals depth base top dead done
     default_told = record { goes = λ j. (default_goes j).goes j; ordered = λ j. (default_goes j).ordered j; kept = p.kept }

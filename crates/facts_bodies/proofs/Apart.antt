@@ -16,7 +16,7 @@ use Rattle.scope.specs.Bodies.{Operand, known, on_top, Frame, of_block, of_loop,
 use Rattle.scope.proofs.TenRows.{row_kept, pair-kept}
 use Rattle.scope.proofs.Order.{tested-order}
 use Rattle.facts_bodies.specs.Premises.{Default, zero_default, null_default}
-use Rattle.facts_bodies.specs.Apart.{IsTop, any_is_top, func_is_top, extern_is_top, TopOf, top_of_lem, Rest, rest_is_source, rest-not_null, Labels, own_label, block_label, loop_label, Sees, sees, SetAtFirst, none-set, parameter_set, default_set, default_missing, Starts, starts, Around, around_none, around_block, around_loop, AllOperands, all_operands_lem, Wants, wants_none, wants_last, Lie, none_lie, last_lies, Marks, marks_none, marks_this, marks_later, marks_nothing}
+use Rattle.facts_bodies.specs.Apart.{IsTop, any_is_top, func_is_top, extern_is_top, TopOf, top_of_lem, Rest, rest_is_source, rest_not_null, Labels, own_label, block_label, loop_label, Sees, sees, SetAtFirst, none_set, parameter_set, default_set, default_missing, Starts, starts, Around, around_none, around_block, around_loop, AllOperands, all_operands_lem, Wants, wants_none, wants_last, Lie, none_lie, last_lies, Marks, marks_none, marks_this, marks_later, marks_nothing}
 use Rattle.facts_bodies.proofs.Premises.{Ordered}
 
 -- a hierarchy's top
@@ -64,8 +64,8 @@ pub rest_stands : (k : Cast) → Rest k (rest_of k)
 rest_stands k = go k.target_null k.source_null refl refl
   where
     go : (t n : Bool) → k.target_null ≡ t → k.source_null ≡ n → Rest k (ref (n && not t) k.source)
-    go true true e f = rest-not_null e
-    go true false e f = rest-not_null e
+    go true true e f = rest_not_null e
+    go true false e f = rest_not_null e
     go false true e f = rw (← f) (rest_is_source e)
     go false false e f = rw (← f) (rest_is_source e)
 
@@ -75,7 +75,7 @@ only_rest k (rest_is_source e) = rw e (go k.source_null)
     go : (n : Bool) → ref (n && true) k.source ≡ ref n k.source
     go true = refl
     go false = refl
-only_rest k (rest-not_null e) = rw e (go k.source_null)
+only_rest k (rest_not_null e) = rw e (go k.source_null)
   where
     go : (n : Bool) → ref (n && false) k.source ≡ ref false k.source
     go true = refl
@@ -105,7 +105,7 @@ not_default : {h : Heap} → ¬ Default (ref false h)
 not_default d = elim d [ ]
 
 locals_stand : (ls : List Val) → SetAtFirst [] ls (map has_default ls)
-locals_stand [] = none-set
+locals_stand [] = none_set
 locals_stand (num n ∷ ls) = default_set zero_default (locals_stand ls)
 locals_stand (ref true h ∷ ls) = default_set null_default (locals_stand ls)
 locals_stand (ref false h ∷ ls) = default_missing not_default (locals_stand ls)
@@ -124,7 +124,7 @@ has_not (ref true h) none_there_lem = absurd (none_there_lem null_default)
 has_not (ref false h) none_there_lem = refl
 
 only_sets : {ps ls : List Val} {bs : List Bool} → SetAtFirst ps ls bs → map (λ v. true) ps ++ map has_default ls ≡ bs
-only_sets none-set = refl
+only_sets none_set = refl
 only_sets (parameter_set more) = rw (only_sets more)
 only_sets (default_set d more) = rw (has_it d, only_sets more)
 only_sets (default_missing {v = v} none_there_lem more) = rw (has_not v none_there_lem, only_sets more)

@@ -22,7 +22,7 @@ use Rattle.scope.proofs.Forward.{never_back}
 use Rattle.scope.proofs.ForwardBodies.{instr_takes}
 use Rattle.scope.proofs.Impossible.{contradiction}
 use Rattle.facts_bodies.specs.Premises.{ValReached}
-use Rattle.facts_bodies.specs.Typing.{TypedInstr, TypedBody, last_end, goes_on_lem, InstrsAt, no_instr, next_instr, Entry, Locals, no-locals, more_locals, EntriesAt, no_entry, next_entry}
+use Rattle.facts_bodies.specs.Typing.{TypedInstr, TypedBody, last_end, goes_on_lem, InstrsAt, no_instr, next_instr, Entry, Locals, no_locals, more_locals, EntriesAt, no_entry, next_entry}
 use Rattle.facts_bodies.proofs.Premises.{Ordered, all_below, tested_value_reached, value_reached-tested}
 use Rattle.facts_bodies.proofs.Steps.{allowed_typed, typed_allowed}
 
@@ -84,7 +84,7 @@ module _ (s : List ℕ) (count : ℕ) where
 
   pub got_locals : (n before at : ℕ) {vs : List Val} {stop : ℕ} → locals_at count n before s at ≡ got vs stop → LocalsRead n before at vs stop
   unfolding locals_at
-  got_locals zero before at e = as_locals (record { entries = []; counted = refl; reads = no_entry; stands = no-locals }) e
+  got_locals zero before at e = as_locals (record { entries = []; counted = refl; reads = no_entry; stands = no_locals }) e
   got_locals (suc n) before at e =
       let (k, type, counted, more) = first_got (u32 s at) _ e in
       let (v, next, typed, tests) = first_got (val_at s type) _ more in
@@ -93,7 +93,7 @@ module _ (s : List ℕ) (count : ℕ) where
 
   pub locals_got : {before at stop : ℕ} {es : List Entry} {vs : List Val} → EntriesAt s at es stop → Locals count before es vs → locals_at count (length es) before s at ≡ got vs stop
   unfolding locals_at
-  locals_got no_entry no-locals = refl
+  locals_got no_entry no_locals = refl
   locals_got {before = before} (next_entry {e = e} counted typed later) (more_locals below few rest) =
       rw (counted, typed, value_reached-tested count below, le-leb _ _ few, locals_got {before = before + e.many} later rest)
 

@@ -9,7 +9,7 @@ use Rattle.scope.specs.Lists.{is_none}
 use Rattle.scope.specs.Syntax.{Heap, Val, num, nullable, Field}
 use Rattle.scope.specs.TypeRules.{heap_names}
 use Rattle.scope.specs.Numeric.{Numeric, numeric_of}
-use Rattle.scope.specs.Instructions.{Cast, Op, unreachable, nop, return, drop_value, br, br-if, local_get, local-set, local_tee, i32_const, i64_const, f32_const, f64_const, numeric, ref_null, ref-is-null, ref-eq, ref-as-non-null, struct_new, struct-new-default, struct_get, struct_set, ref_test, ref_cast, br_on_cast, br_on_cast_fail, struct-new-desc, struct-new-default-desc, ref_get_desc, ref_cast_desc_eq, br_on_cast_desc_eq, br_on_cast_desc_eq_fail}
+use Rattle.scope.specs.Instructions.{Cast, Op, unreachable, nop, return, drop_value, br, br_if, local_get, local_set, local_tee, i32_const, i64_const, f32_const, f64_const, numeric, ref_null, ref_is_null, ref_eq, ref_as_non_null, struct_new, struct_new_default, struct_get, struct_set, ref_test, ref_cast, br_on_cast, br_on_cast_fail, struct_new_desc, struct_new_default_desc, ref_get_desc, ref_cast_desc_eq, br_on_cast_desc_eq, br_on_cast_desc_eq_fail}
 use Rattle.scope.specs.BodyRules.{Context, Scope, Wanted, values, Plan, Ruled, allowed, takes, operands_of, holds_of, last_of, source_of, target_of, rest_of, reached, struct_of, field_of, undescribed, defaulted, cast_reached, branches, plan_of, from_top, value}
 use Rattle.scope.proofs.Order.{tested_value_order}
 use Rattle.facts_codes.proofs.Numeric.{numeric-listed}
@@ -110,12 +110,12 @@ module _ (c : Context) (here : Scope) where
   planned_rule return e = stated rule_return e
   planned_rule drop_value e = stated rule_drop e
   planned_rule (br l) e = let (vs, label, plan) = need_met _ _ _ e in stated (rule_br label) plan
-  planned_rule (br-if l) e = let (vs, label, plan) = need_met _ _ _ e in stated (rule_br_if label) plan
+  planned_rule (br_if l) e = let (vs, label, plan) = need_met _ _ _ e in stated (rule_br_if label) plan
   planned_rule (local_get x) e =
       let (v, local, more) = need_met _ _ _ e in
       let (is_set, plan) = test-passed _ _ _ more in
       stated (rule_local_get local (tested-set here.is_set x is_set)) plan
-  planned_rule (local-set x) e = let (v, local, plan) = need_met _ _ _ e in stated (rule_local_set local) plan
+  planned_rule (local_set x) e = let (v, local, plan) = need_met _ _ _ e in stated (rule_local_set local) plan
   planned_rule (local_tee x) e = let (v, local, plan) = need_met _ _ _ e in stated (rule_local_tee local) plan
   planned_rule (i32_const n) e = stated rule_i32_const e
   planned_rule (i64_const n) e = stated rule_i64_const e
@@ -123,14 +123,14 @@ module _ (c : Context) (here : Scope) where
   planned_rule (f64_const n) e = stated rule_f64_const e
   planned_rule (numeric b) e = let (kinds, is, plan) = need_met _ _ _ e in numeric_stated b is plan
   planned_rule (ref_null h) e = let (in_reach, plan) = heap_found h _ e in stated (rule_ref_null in_reach) plan
-  planned_rule ref-is-null e = stated rule_ref_is_null e
-  planned_rule ref-eq e = stated rule_ref_eq e
-  planned_rule ref-as-non-null e = stated rule_ref_as_non_null e
+  planned_rule ref_is_null e = stated rule_ref_is_null e
+  planned_rule ref_eq e = stated rule_ref_eq e
+  planned_rule ref_as_non_null e = stated rule_ref_as_non_null e
   planned_rule (struct_new x) e =
       let (fs, is_struct, more) = struct_found x _ e in
       let (none_there_lem, plan) = no_descriptor_lem x _ more in
       stated (rule_struct_new is_struct none_there_lem) plan
-  planned_rule (struct-new-default x) e =
+  planned_rule (struct_new_default x) e =
       let (fs, is_struct, more) = struct_found x _ e in
       let (none_there_lem, last) = no_descriptor_lem x _ more in
       let (defaults, plan) = all_defaults_lem fs _ last in
@@ -150,11 +150,11 @@ module _ (c : Context) (here : Scope) where
       let (label, named, more) = cast_found k _ e in
       let (vs, branching, plan) = branch_found k _ _ [] named more in
       stated (rule_br_on_cast_fail (rest_stands k) branching) plan
-  planned_rule (struct-new-desc x) e =
+  planned_rule (struct_new_desc x) e =
       let (fs, is_struct, more) = struct_found x _ e in
       let (y, described, plan) = need_met _ _ _ more in
       stated (rule_struct_new_desc is_struct described) plan
-  planned_rule (struct-new-default-desc x) e =
+  planned_rule (struct_new_default_desc x) e =
       let (fs, is_struct, more) = struct_found x _ e in
       let (y, described, last) = need_met _ _ _ more in
       let (defaults, plan) = all_defaults_lem fs _ last in

@@ -19,7 +19,7 @@ use Rattle.scope.specs.Bodies.{Operand, known, unknown, unknown_reference, is_re
 use Rattle.scope.proofs.Truths.{none_is_not-some, both, from_both}
 use Rattle.scope.proofs.Accepted.{Passes}
 use Rattle.scope.proofs.Order.{tested_value_order, value_order-tested}
-use Rattle.facts_bodies.specs.Premises.{Each, of_none, of_first, HeapReached, abstract_reached, defined-reached, exact_reached, ValReached, number-reached, reference_reached, Default, zero_default, null_default, CastTakes, its_descriptor_lem, its_exact_descriptor, OperandFits, known_below, unknown_below, unknown_reference_below, Meets, as_value, as_any, as_reference}
+use Rattle.facts_bodies.specs.Premises.{Each, of_none, of_first, HeapReached, abstract_reached, defined_reached, exact_reached, ValReached, number_reached, reference_reached, Default, zero_default, null_default, CastTakes, its_descriptor_lem, its_exact_descriptor, OperandFits, known_below, unknown_below, unknown_reference_below, Meets, as_value, as_any, as_reference}
 
 pub same_some : {A : Type 0} {x y : A} → some x ≡ some y → x ≡ y
 same_some e = cc
@@ -65,20 +65,20 @@ module _ (count : ℕ) where
 
   pub tested-heap-reached : (h : Heap) → all_below count (heap_names h) ≡ true → HeapReached count h
   tested-heap-reached (abstract a) e = abstract_reached
-  tested-heap-reached (defined x) e = defined-reached (tested-number-reached x e)
+  tested-heap-reached (defined x) e = defined_reached (tested-number-reached x e)
   tested-heap-reached (exact x) e = exact_reached (tested-number-reached x e)
 
   pub heap-reached-tested : {h : Heap} → HeapReached count h → all_below count (heap_names h) ≡ true
   heap-reached-tested abstract_reached = refl
-  heap-reached-tested (defined-reached h) = number-reached-tested h
+  heap-reached-tested (defined_reached h) = number-reached-tested h
   heap-reached-tested (exact_reached h) = number-reached-tested h
 
   pub tested_value_reached : (v : Val) → all_below count (val_names v) ≡ true → ValReached count v
-  tested_value_reached (num n) e = number-reached
+  tested_value_reached (num n) e = number_reached
   tested_value_reached (ref n h) e = reference_reached (tested-heap-reached h e)
 
   pub value_reached-tested : {v : Val} → ValReached count v → all_below count (val_names v) ≡ true
-  value_reached-tested number-reached = refl
+  value_reached-tested number_reached = refl
   value_reached-tested (reference_reached h) = heap-reached-tested h
 
   pub tested-values-reached : (vs : List Val) → all_below count (joined (map val_names vs)) ≡ true → Each (ValReached count) vs

@@ -17,7 +17,7 @@ use Rattle.scope.specs.Bodies.{Operand, Taken, put, Frame, of_block, of_loop, St
 use Rattle.facts_bodies.specs.Premises.{Takes}
 use Rattle.facts_bodies.specs.Apart.{Sees}
 use Rattle.facts_bodies.specs.Rules.{Rule}
-use Rattle.facts_bodies.specs.Typing.{inside, past_block, Roomy, Opens, Results, TypedInstr, passes, stops, opens_block, opens-loop, ends_block, ends_loop, ends_body}
+use Rattle.facts_bodies.specs.Typing.{inside, past_block, Roomy, Opens, Results, TypedInstr, passes, stops, opens_block, opens_loop, ends_block, ends_loop, ends_body}
 use Rattle.facts_bodies.proofs.Ruled.{fault_is_not_allowed, same_allowed, test-passed, first_allowed}
 use Rattle.facts_bodies.proofs.Premises.{Ordered, tested-values-reached, values-reached-tested}
 use Rattle.facts_bodies.proofs.Apart.{scope_stands, only_scope, operands_stand, only_operands}
@@ -138,7 +138,7 @@ module _ (c : Context) (st : State) where
     pub allowed_typed : (i : Instr) {n : Next} → judge_instr c st i ≡ allowed n → TypedInstr c st i n
     unfolding judge_instr
     allowed_typed (block rs) e = let (opens, same) = entered-opens rs _ e in as_typed (opens_block opens) same
-    allowed_typed (loop rs) e = let (opens, same) = entered-opens rs _ e in as_typed (opens-loop opens) same
+    allowed_typed (loop rs) e = let (opens, same) = entered-opens rs _ e in as_typed (opens_loop opens) same
     allowed_typed end e = closed_typed st.frames refl e
     allowed_typed (op o) e =
         let (p, plan, more) = first_allowed _ _ e in
@@ -149,7 +149,7 @@ module _ (c : Context) (st : State) where
     typed_allowed (passes {p = p} seen rule s k puts roomy) = rw (derived_plan c (scope_of c st) ordered (as_seen seen rule)) (planned p k (rw (s, puts_put ordered puts)) roomy)
     typed_allowed (stops {p = p} seen rule s k roomy) = rw (derived_plan c (scope_of c st) ordered (as_seen seen rule)) (planned p k (rw s) roomy)
     typed_allowed (opens_block o) = opens-entered _ o
-    typed_allowed (opens-loop o) = opens-entered _ o
+    typed_allowed (opens_loop o) = opens-entered _ o
     typed_allowed (ends_block p results roomy) = ap (judge_end c st) p ∙ results_ending _ results ∙ roomy_within roomy
     typed_allowed (ends_loop p results roomy) = ap (judge_end c st) p ∙ results_ending _ results ∙ roomy_within roomy
     typed_allowed (ends_body p results) = ap (judge_end c st) p ∙ results_ending _ results

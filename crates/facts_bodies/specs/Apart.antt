@@ -45,7 +45,7 @@ pub data OneHierarchy (ts : Types) (h k : Heap) : Type 0 where
 -- "The rest is the source, not null where the target may be null."
 pub data Rest (k : Cast) : Val → Type 0 where
   rest_is_source : k.target_null ≡ false → Rest k (cast_source k)
-  rest-not_null : k.target_null ≡ true → Rest k (non_null k.source)
+  rest_not_null : k.target_null ≡ true → Rest k (non_null k.source)
 
 -- A block's label takes its results, a loop's nothing, for a block has no parameters; the outermost label is the function's own
 -- and takes its results. Innermost first.
@@ -63,7 +63,7 @@ pub data Sees (c : Context) (st : State) : Scope → Type 0 where
 -- "A local without a default must be set before it is read": parameters are set at first, and of the other locals those with a
 -- default
 pub data SetAtFirst : List Val → List Val → List Bool → Type 0 where
-  none-set : SetAtFirst [] [] []
+  none_set : SetAtFirst [] [] []
   parameter_set : {p : Val} {ps ls : List Val} {bs : List Bool} → SetAtFirst ps ls bs → SetAtFirst (p ∷ ps) ls (true ∷ bs)
   default_set : {v : Val} {ls : List Val} {bs : List Bool} → Default v → SetAtFirst [] ls bs → SetAtFirst [] (v ∷ ls) (true ∷ bs)
   default_missing : {v : Val} {ls : List Val} {bs : List Bool} → ¬ Default v → SetAtFirst [] ls bs → SetAtFirst [] (v ∷ ls) (false ∷ bs)

@@ -18,11 +18,11 @@ pub data Each {A : Type 0} (P : A → Type 0) : List A → Type 0 where
 -- its type number, where it has one, names a type of the section: there are `count` of them
 pub data HeapReached (count : ℕ) : Heap → Type 0 where
   abstract_reached : {a : Abstract} → HeapReached count (abstract a)
-  defined-reached : {x : ℕ} → x < count → HeapReached count (defined x)
+  defined_reached : {x : ℕ} → x < count → HeapReached count (defined x)
   exact_reached : {x : ℕ} → x < count → HeapReached count (exact x)
 
 pub data ValReached (count : ℕ) : Val → Type 0 where
-  number-reached : {n : Number} → ValReached count (num n)
+  number_reached : {n : Number} → ValReached count (num n)
   reference_reached : {null : Bool} {h : Heap} → HeapReached count h → ValReached count (ref null h)
 
 -- numbers and nullable references have a default

@@ -6,7 +6,7 @@ use Rattle.std.proofs.Math.ListN.{get_elem?}
 use Rattle.scope.specs.Abstract.{Abstract, ANY, EQ}
 use Rattle.scope.specs.Syntax.{Heap, abstract, defined, exact, Number, i32, i64, f32, f64, Val, num, ref, nullable, non_null, Field, struct}
 use Rattle.scope.specs.Order.{ValOrder}
-use Rattle.scope.specs.Instructions.{Cast, Op, unreachable, nop, return, drop_value, br, br-if, local_get, local-set, local_tee, i32_const, i64_const, f32_const, f64_const, numeric, ref_null, ref-is-null, ref-eq, ref-as-non-null, struct_new, struct-new-default, struct_get, struct_set, ref_test, ref_cast, br_on_cast, br_on_cast_fail, struct-new-desc, struct-new-default-desc, ref_get_desc, ref_cast_desc_eq, br_on_cast_desc_eq, br_on_cast_desc_eq_fail}
+use Rattle.scope.specs.Instructions.{Cast, Op, unreachable, nop, return, drop_value, br, br_if, local_get, local_set, local_tee, i32_const, i64_const, f32_const, f64_const, numeric, ref_null, ref_is_null, ref_eq, ref_as_non_null, struct_new, struct_new_default, struct_get, struct_set, ref_test, ref_cast, br_on_cast, br_on_cast_fail, struct_new_desc, struct_new_default_desc, ref_get_desc, ref_cast_desc_eq, br_on_cast_desc_eq, br_on_cast_desc_eq_fail}
 use Rattle.scope.specs.BodyRules.{Context, Scope, Wanted, value, any_value, any_reference, Gives, values, it_non_null, its_descriptor, Plan, from_top, holds_of}
 use Rattle.facts_codes.specs.Numeric.{Listed}
 use Rattle.facts_bodies.specs.Premises.{Each, HeapReached, Default, CastTakes}
@@ -55,13 +55,13 @@ pub data Rule (c : Context) (here : Scope) : Op → Plan → Type 0 where
   rule_drop : Rule c here drop_value (taking (any_value ∷ []) (values []))
   rule_br : {l : ℕ} {vs : List Val} → get_elem? here.labels l ≡ some vs → Rule c here (br l) (stopping (from_top vs))
   -- values kept by br_if are read as the label's types afterwards
-  rule_br_if : {l : ℕ} {vs : List Val} → get_elem? here.labels l ≡ some vs → Rule c here (br-if l) (taking (value (num i32) ∷ from_top vs) (values vs))
+  rule_br_if : {l : ℕ} {vs : List Val} → get_elem? here.labels l ≡ some vs → Rule c here (br_if l) (taking (value (num i32) ∷ from_top vs) (values vs))
   -- "A local without a default must be set before it is read."
   rule_local_get : {x : ℕ} {v : Val}
       → get_elem? c.locals x ≡ some v
       → get_elem? here.is_set x ≡ some true
       → Rule c here (local_get x) (taking [] (values (v ∷ [])))
-  rule_local_set : {x : ℕ} {v : Val} → get_elem? c.locals x ≡ some v → Rule c here (local-set x) (setting x (value v ∷ []) (values []))
+  rule_local_set : {x : ℕ} {v : Val} → get_elem? c.locals x ≡ some v → Rule c here (local_set x) (setting x (value v ∷ []) (values []))
   rule_local_tee : {x : ℕ} {v : Val} → get_elem? c.locals x ≡ some v → Rule c here (local_tee x) (setting x (value v ∷ []) (values (v ∷ [])))
   rule_i32_const : {n : ℕ} → Rule c here (i32_const n) (taking [] (values (num i32 ∷ [])))
   rule_i64_const : {n : ℕ} → Rule c here (i64_const n) (taking [] (values (num i64 ∷ [])))
@@ -71,9 +71,9 @@ pub data Rule (c : Context) (here : Scope) : Op → Plan → Type 0 where
   -- the code in the list by name
   rule_numeric : {b : ℕ} {ks : List Number} {r : Number} → Listed b ks r → Rule c here (numeric b) (taking (from_top (map num ks)) (values (num r ∷ [])))
   rule_ref_null : {h : Heap} → HeapReached c.count h → Rule c here (ref_null h) (taking [] (values (nullable h ∷ [])))
-  rule_ref_is_null : Rule c here ref-is-null (taking (any_reference ∷ []) (values (num i32 ∷ [])))
-  rule_ref_eq : Rule c here ref-eq (taking (value (nullable (abstract EQ)) ∷ value (nullable (abstract EQ)) ∷ []) (values (num i32 ∷ [])))
-  rule_ref_as_non_null : Rule c here ref-as-non-null (taking (any_reference ∷ []) it_non_null)
+  rule_ref_is_null : Rule c here ref_is_null (taking (any_reference ∷ []) (values (num i32 ∷ [])))
+  rule_ref_eq : Rule c here ref_eq (taking (value (nullable (abstract EQ)) ∷ value (nullable (abstract EQ)) ∷ []) (values (num i32 ∷ [])))
+  rule_ref_as_non_null : Rule c here ref_as_non_null (taking (any_reference ∷ []) it_non_null)
   -- "struct.new and its default take only types with no descriptor. .. All give (ref (exact x))."
   rule_struct_new : {x : ℕ} {fs : List Field}
       → StructType c x fs
@@ -83,7 +83,7 @@ pub data Rule (c : Context) (here : Scope) : Op → Plan → Type 0 where
       → StructType c x fs
       → (c.types x).descriptor ≡ none
       → Each Default (holds_of fs)
-      → Rule c here (struct-new-default x) (taking [] (values (non_null (exact x) ∷ [])))
+      → Rule c here (struct_new_default x) (taking [] (values (non_null (exact x) ∷ [])))
   rule_struct_get : {x i : ℕ} {f : Field} → FieldOf c x i f → Rule c here (struct_get x i) (taking (value (nullable (defined x)) ∷ []) (values (f.holds ∷ [])))
   rule_struct_set : {x i : ℕ} {f : Field}
       → FieldOf c x i f
@@ -111,12 +111,12 @@ pub data Rule (c : Context) (here : Scope) : Op → Plan → Type 0 where
   rule_struct_new_desc : {x y : ℕ} {fs : List Field}
       → StructType c x fs
       → (c.types x).descriptor ≡ some y
-      → Rule c here (struct-new-desc x) (taking (value (nullable (exact y)) ∷ from_top (holds_of fs)) (values (non_null (exact x) ∷ [])))
+      → Rule c here (struct_new_desc x) (taking (value (nullable (exact y)) ∷ from_top (holds_of fs)) (values (non_null (exact x) ∷ [])))
   rule_struct_new_default_desc : {x y : ℕ} {fs : List Field}
       → StructType c x fs
       → (c.types x).descriptor ≡ some y
       → Each Default (holds_of fs)
-      → Rule c here (struct-new-default-desc x) (taking (value (nullable (exact y)) ∷ []) (values (non_null (exact x) ∷ [])))
+      → Rule c here (struct_new_default_desc x) (taking (value (nullable (exact y)) ∷ []) (values (non_null (exact x) ∷ [])))
   -- "ref.get_desc x takes (ref null x) and gives (ref y), exact when the operand is below (ref null (exact x))."
   rule_ref_get_desc : {x y : ℕ}
       → x < c.count

@@ -69,7 +69,7 @@ pub data TypedInstr (c : Context) (st : State) : Instr → Next → Type 0 where
   opens_block : {rs : List Val}
       → Opens c st rs
       → TypedInstr c st (block rs) (goes_on (inside st (of_block rs st.operands st.dead st.is_set)))
-  opens-loop : {rs : List Val}
+  opens_loop : {rs : List Val}
       → Opens c st rs
       → TypedInstr c st (loop rs) (goes_on (inside st (of_loop rs st.operands st.dead st.is_set)))
   ends_block : {rs : List Val} {os : List Operand} {dead : Bool} {is_set : List Bool} {fs : List Frame}
@@ -99,7 +99,7 @@ pub record Entry : Type 0 where
 -- The locals that entries stand for, over a section of `count` types: each type is in reach, and up to each entry there are
 -- at most 256 locals with the parameters, where so many stand before.
 pub data Locals (count : ℕ) : ℕ → List Entry → List Val → Type 0 where
-  no-locals : {before : ℕ} → Locals count before [] []
+  no_locals : {before : ℕ} → Locals count before [] []
   more_locals : {before : ℕ} {e : Entry} {es : List Entry} {vs : List Val}
       → ValReached count e.type
       → before + e.many ≤ most_locals

@@ -33,7 +33,7 @@ use Rattle.facts_refusals.specs.Bodies.{BodySaysNo}
 use Rattle.facts_calls.specs.Zero.{Zero}
 use Rattle.facts_calls.specs.Lent.{TableSuffices, TableShort, BodySuffices, BodyShort, RunSuffices}
 use Rattle.facts_calls.specs.Meant.{SectionOf, BodyOf, CanRun, RunSaysNo}
-use Rattle.facts_calls.specs.Calls.{RowTells, Stops, Wiped, ended-at_trap}
+use Rattle.facts_calls.specs.Calls.{RowTells, Stops, Wiped, ended_at_trap}
 use Rattle.facts_calls.specs.Asked.{LiesIn, library_holds, addon_holds, TypeOf, Lies, AskSaysNo}
 use Rattle.facts_calls.proofs.Placed.{accepted_body}
 use Rattle.facts_calls.proofs.OfAsked.{of_asked, of_handed}
@@ -240,7 +240,7 @@ pub null_trapped : RanSoundly null_descriptor (sample null_descriptor) 9 memory 
 null_trapped = (runs trap_run).ran (sample null_descriptor) memory_suffices null_can_run
 
 pub only_a_body_that_can_run : RunSuffices memory × ((b : Body) × CanRun empty_library F1 null_descriptor 2 9 b)
-only_a_body_that_can_run = (runs trap_run).only_then ended-at_trap
+only_a_body_that_can_run = (runs trap_run).only_then ended_at_trap
 
 -- refused: a budget of 1,000,001, and a body that is refused by itself; the state is zero
 

@@ -11,7 +11,7 @@ use Rattle.scope.specs.Layout.{rows_size, codes_size, work_size, ends_size, coun
 use Rattle.scope.specs.Memory.{StateWords}
 use Rattle.scope.specs.Answers.{holds, table_lent, state_lent, run_lent, RunMemory}
 use Rattle.scope.proofs.Truths.{both, from_both}
-use Rattle.facts_calls.specs.Lent.{Fits, Under, TableSuffices, TableShort, rows_under, shared-under, codes-under, BodySuffices, BodyShort, table_short, work-under, StateSuffices, StateShort, counts-under, objects_under, cells_under, locals-under, operands_under, blocks-under, RunSuffices, RunShort, body_short, ends_under, state_short}
+use Rattle.facts_calls.specs.Lent.{Fits, Under, TableSuffices, TableShort, rows_under, shared_under, codes_under, BodySuffices, BodyShort, table_short, work_under, StateSuffices, StateShort, counts_under, objects_under, cells_under, locals_under, operands_under, blocks_under, RunSuffices, RunShort, body_short, ends_under, state_short}
 
 from_neither : (a b : Bool) → a && b ≡ false → (a ≡ false) ⊎ (b ≡ false)
 from_neither true b e = inr e
@@ -67,13 +67,13 @@ module _ {rows shared codes : List ℕ} where
   pub table_is_short : table_lent rows shared codes ≡ false → TableShort rows shared codes
   table_is_short e =
       either (two-tests rows shared) (holds codes_size codes) e (λ of_two.
-      either (holds rows_size rows) (holds codes_size shared) of_two (λ a. rows_under (under rows_size rows a)) (λ a. shared-under (under codes_size shared a)))
-      (λ a. codes-under (under codes_size codes a))
+      either (holds rows_size rows) (holds codes_size shared) of_two (λ a. rows_under (under rows_size rows a)) (λ a. shared_under (under codes_size shared a)))
+      (λ a. codes_under (under codes_size codes a))
 
   pub short_table : TableShort rows shared codes → table_lent rows shared codes ≡ false
   short_table (rows_under a) = first_fails _ (first_fails (holds codes_size shared) (undered rows_size rows a))
-  short_table (shared-under a) = first_fails _ (second_fails (holds rows_size rows) (undered codes_size shared a))
-  short_table (codes-under a) = second_fails (two-tests rows shared) (undered codes_size codes a)
+  short_table (shared_under a) = first_fails _ (second_fails (holds rows_size rows) (undered codes_size shared a))
+  short_table (codes_under a) = second_fails (two-tests rows shared) (undered codes_size codes a)
 
 -- a body's
 
@@ -89,11 +89,11 @@ module _ {rows shared codes work : List ℕ} where
     where
       go : (table_lent rows shared codes ≡ false) ⊎ (holds work_size work ≡ false) → BodyShort rows shared codes work
       go (inl a) = table_short (table_is_short a)
-      go (inr b) = work-under (under work_size work b)
+      go (inr b) = work_under (under work_size work b)
 
   pub short_body : BodyShort rows shared codes work → table_lent rows shared codes && holds work_size work ≡ false
   short_body (table_short a) = first_fails _ (short_table a)
-  short_body (work-under b) = second_fails (table_lent rows shared codes) (undered work_size work b)
+  short_body (work_under b) = second_fails (table_lent rows shared codes) (undered work_size work b)
 
 -- a run's
 
@@ -142,23 +142,23 @@ module _ (w : StateWords) where
       either three (holds locals_size w.locals) of_four (λ of_three.
       either two (holds cells_size w.cells) of_three (λ of_two.
       either (holds counts_size w.counts) (holds objects_size w.objects) of_two
-      (λ a. counts-under (under counts_size w.counts a))
+      (λ a. counts_under (under counts_size w.counts a))
       (λ a. objects_under (under objects_size w.objects a)))
       (λ a. cells_under (under cells_size w.cells a)))
-      (λ a. locals-under (under locals_size w.locals a)))
+      (λ a. locals_under (under locals_size w.locals a)))
       (λ a. operands_under (under operands_size w.operands a)))
-      (λ a. blocks-under (under blocks_size w.blocks a))
+      (λ a. blocks_under (under blocks_size w.blocks a))
 
   short_two : two ≡ false → state_lent w ≡ false
   short_two e = first_fails _ (first_fails _ (first_fails _ (first_fails (holds cells_size w.cells) e)))
 
   short_state : StateShort w → state_lent w ≡ false
-  short_state (counts-under a) = short_two (first_fails _ (undered counts_size w.counts a))
+  short_state (counts_under a) = short_two (first_fails _ (undered counts_size w.counts a))
   short_state (objects_under a) = short_two (second_fails (holds counts_size w.counts) (undered objects_size w.objects a))
   short_state (cells_under a) = first_fails _ (first_fails _ (first_fails _ (second_fails two (undered cells_size w.cells a))))
-  short_state (locals-under a) = first_fails _ (first_fails _ (second_fails three (undered locals_size w.locals a)))
+  short_state (locals_under a) = first_fails _ (first_fails _ (second_fails three (undered locals_size w.locals a)))
   short_state (operands_under a) = first_fails _ (second_fails four (undered operands_size w.operands a))
-  short_state (blocks-under a) = second_fails five (undered blocks_size w.blocks a)
+  short_state (blocks_under a) = second_fails five (undered blocks_size w.blocks a)
 
 module _ (m : RunMemory) where
   abbrev body-test : Bool

@@ -36,7 +36,7 @@ use Rattle.facts_steps.proofs.Runs.{run_by_rules}
 use Rattle.facts_refusals.proofs.Bodies.{body-no, no_body}
 use Rattle.facts_calls.specs.Lent.{RunSuffices, RunShort}
 use Rattle.facts_calls.specs.Meant.{IsBody, CanRun, RunSaysNo, by_body, by_budget, by_parameters}
-use Rattle.facts_calls.specs.Calls.{Stops, stops_done, stops_at_trap, Wiped, HoldsState, Ended, ended-done, ended-at_trap, ended_spent, OfRun}
+use Rattle.facts_calls.specs.Calls.{Stops, stops_done, stops_at_trap, Wiped, HoldsState, Ended, ended_done, ended_at_trap, ended_spent, OfRun}
 use Rattle.facts_calls.proofs.Zero.{wiped-zero, filled-holds}
 use Rattle.facts_calls.proofs.Lent.{run_suffices, run_lent_lem, run_is_short, short_run}
 use Rattle.facts_calls.proofs.Placed.{accepted_body, body_accepted}
@@ -129,8 +129,8 @@ stopped s e (is_spent reaches typed) f within = absurd (false≢true (sym f))
 
 -- no refusal
 ended-no : {r : Ran} → Ended r → {n : ℕ} {p : Place} → r ≡ Ran.TheVariants.Refused n p → ⊥
-ended-no ended-done e = contradiction cc
-ended-no ended-at_trap e = contradiction cc
+ended-no ended_done e = contradiction cc
+ended-no ended_at_trap e = contradiction cc
 ended-no ended_spent e = contradiction cc
 
 -- the second of the counts

@@ -19,7 +19,7 @@ use Rattle.scope.specs.Syntax.{Val, Field, Form, struct, func, Definition, Group
 use Rattle.scope.specs.Judging.{Joined}
 use Rattle.scope.specs.Memory.{field_code, val_code, form_codes, form_words, starts_of, ends_of, row_words, rows_from, table_codes, library_types, addon_types, joined_rows}
 use Rattle.scope.proofs.Truths.{decided}
-use Rattle.facts_sections.specs.Writing.{Sevens, last_seven, seven_more, Unsigned, a_numeral, WritesVal, i32_type, i64_type, f32_type, f64_type, nullable_reference, reference, abstract_alone, WritesField, a_field, Entries, no_entry, an_entry, count_and-entries, Listed, listed, WritesForm, a_struct_form, a_func_form, WritesDefinition, a_definition, WritesGroup, several, alone, WritesGroups, no_group, a_group, WritesSection, a_section}
+use Rattle.facts_sections.specs.Writing.{Sevens, last_seven, seven_more, Unsigned, a_numeral, WritesVal, i32_type, i64_type, f32_type, f64_type, nullable_reference, reference, abstract_alone, WritesField, a_field, Entries, no_entry, an_entry, count_and_entries, Listed, listed, WritesForm, a_struct_form, a_func_form, WritesDefinition, a_definition, WritesGroup, several, alone, WritesGroups, no_group, a_group, WritesSection, a_section}
 use Rattle.facts_sections.specs.Allowed.{Section, Allowed}
 use Rattle.facts_calls.specs.Calls.{codes_begin_at, RowTells, a_library_row, an_addon_row}
 use Rattle.facts_calls.proofs.VeryBytes.{row-length, behind_form, append-append, further, rows-length}
@@ -54,7 +54,7 @@ entries_long l no_entry = omega arith
 entries_long l (an_entry {w = w} {u = u} this later) = let here = l.long this in let more = entries_long l later in let all = length-append w u in omega arith
 
 listed_long : {A : Type 0} {W : List ℕ → A → Type 0} → Long W → {w : List ℕ} {xs : List A} → Listed W w xs → length xs ≤ length w
-listed_long l (listed (count_and-entries {w = w} {u = u} n entries)) = let more = entries_long l entries in let all = length-append w u in omega arith
+listed_long l (listed (count_and_entries {w = w} {u = u} n entries)) = let more = entries_long l entries in let all = length-append w u in omega arith
 
 length-map : {A B : Type 0} (f : A → B) (xs : List A) → length (map f xs) ≡ length xs
 length-map f [] = refl
@@ -93,7 +93,7 @@ definitions_long (an_entry {w = w} {u = u} {x = d} {xs = ds} this later) =
     omega arith
 
 group_long : {first at : ℕ} {w : List ℕ} {g : Group} → WritesGroup first at w g → length (table_codes g) ≤ length w
-group_long (several (count_and-entries {w = w} {u = u} n entries)) = let more = definitions_long entries in let all = length-append w u in omega arith
+group_long (several (count_and_entries {w = w} {u = u} n entries)) = let more = definitions_long entries in let all = length-append w u in omega arith
 group_long (alone {d = d} this) = let here = definition_long this in let codes = length-append (form_codes d.form) [] in omega arith
 
 groups_long : {first at : ℕ} {u : List ℕ} {gs : List Group} → WritesGroups first at u gs → length (table_codes (joined gs)) ≤ length u

@@ -17,7 +17,7 @@ use Rattle.scope.specs.Layout.{row_span}
 use Rattle.scope.specs.Syntax.{Form, struct, func, Definition, Group, super_of}
 use Rattle.scope.specs.Memory.{flag, or_zero, form_words, spare_words, row_words, rows_from, form_codes}
 use Rattle.scope.proofs.Truths.{none_is_not-some, decided}
-use Rattle.facts_sections.specs.Writing.{Entries, no_entry, an_entry, count_and-entries, WritesDefinition, a_definition, WritesGroup, several, alone, WritesGroups, no_group, a_group, WritesSection, a_section}
+use Rattle.facts_sections.specs.Writing.{Entries, no_entry, an_entry, count_and_entries, WritesDefinition, a_definition, WritesGroup, several, alone, WritesGroups, no_group, a_group, WritesSection, a_section}
 use Rattle.facts_calls.specs.Asked.{LiesIn, begins_at, ends_at}
 
 -- a stretch of bytes that begin at `at` is the writing of this definition
@@ -102,7 +102,7 @@ in_entries (an_entry {w = w} {u = u} this later) (Memᴰ.head e) = put_behind {u
 in_entries (an_entry {w = w} this later) (Memᴰ.tail m) = put_before w (in_entries later m)
 
 in_group : {first at : ℕ} {w : List ℕ} {g : Group} {d : Definition} → WritesGroup first at w g → Memᴰ d g → Written at w d
-in_group (several (count_and-entries {w = w} number entries)) m = put_before (0x4E ∷ []) (put_before w (in_entries entries m))
+in_group (several (count_and_entries {w = w} number entries)) m = put_before (0x4E ∷ []) (put_before w (in_entries entries m))
 in_group (alone this) (Memᴰ.head e) = rw e (one_definition this)
 in_group (alone this) (Memᴰ.tail m) = elim m [ ]
 

@@ -109,8 +109,8 @@ pub record HoldsState (words after : StateWords) : Type 0 where
 
 -- an answer that is no refusal
 pub data Ended : Ran → Type 0 where
-  ended-done : {steps results : ℕ} → Ended (Ran.TheVariants.Done steps results)
-  ended-at_trap : {number place steps : ℕ} → Ended (Ran.TheVariants.Trapped number place steps)
+  ended_done : {steps results : ℕ} → Ended (Ran.TheVariants.Done steps results)
+  ended_at_trap : {number place steps : ℕ} → Ended (Ran.TheVariants.Trapped number place steps)
   ended_spent : {steps : ℕ} → Ended (Ran.TheVariants.Spent steps)
 
 module _ {library section s : List ℕ} {x budget : ℕ} {m m' : RunMemory} {r : Ran} where

@@ -21,8 +21,8 @@ pub record TableSuffices (rows shared codes : List ℕ) : Type 0 where
 
 pub data TableShort (rows shared codes : List ℕ) : Type 0 where
   rows_under : Under rows_size rows → TableShort rows shared codes
-  shared-under : Under codes_size shared → TableShort rows shared codes
-  codes-under : Under codes_size codes → TableShort rows shared codes
+  shared_under : Under codes_size shared → TableShort rows shared codes
+  codes_under : Under codes_size codes → TableShort rows shared codes
 
 -- and the scratch of a body
 
@@ -32,7 +32,7 @@ pub record BodySuffices (rows shared codes work : List ℕ) : Type 0 where
 
 pub data BodyShort (rows shared codes work : List ℕ) : Type 0 where
   table_short : TableShort rows shared codes → BodyShort rows shared codes work
-  work-under : Under work_size work → BodyShort rows shared codes work
+  work_under : Under work_size work → BodyShort rows shared codes work
 
 -- and the scratch and the state of a run
 
@@ -45,12 +45,12 @@ pub record StateSuffices (w : StateWords) : Type 0 where
   pub blocks_fit : Fits blocks_size w.blocks
 
 pub data StateShort (w : StateWords) : Type 0 where
-  counts-under : Under counts_size w.counts → StateShort w
+  counts_under : Under counts_size w.counts → StateShort w
   objects_under : Under objects_size w.objects → StateShort w
   cells_under : Under cells_size w.cells → StateShort w
-  locals-under : Under locals_size w.locals → StateShort w
+  locals_under : Under locals_size w.locals → StateShort w
   operands_under : Under operands_size w.operands → StateShort w
-  blocks-under : Under blocks_size w.blocks → StateShort w
+  blocks_under : Under blocks_size w.blocks → StateShort w
 
 pub record RunSuffices (m : RunMemory) : Type 0 where
   pub body : BodySuffices m.rows m.shared m.codes m.work

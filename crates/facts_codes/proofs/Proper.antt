@@ -20,7 +20,7 @@ use Rattle.scope.proofs.Impossible.{impossible}
 use Rattle.scope.proofs.WholeNumbers.{Within, above_zero, below-zero, signed-within}
 use Rattle.scope.proofs.Telling.{Gives, gives_this, gives_nothing, gives_then, gives_either}
 use Rattle.facts_codes.specs.Numeric.{code}
-use Rattle.facts_codes.specs.Proper.{AreBytes, CodeListed, code-listed, ProperOp, Proper}
+use Rattle.facts_codes.specs.Proper.{AreBytes, CodeListed, code_listed, ProperOp, Proper}
 use Rattle.facts_codes.proofs.Numeric.{numeric-listed}
 
 -- numbers
@@ -68,7 +68,7 @@ float_small {s} bytes n at = go (little_endian n s at) refl
 pub listed_at : (b : ℕ) {kinds : Numeric} → numeric_of b ≡ some kinds → CodeListed b
 listed_at b e =
     let (line, among, byte) = numeric-listed b e in
-    subst CodeListed byte (code-listed {ks = line.typed.takes} {r = line.typed.gives} among)
+    subst CodeListed byte (code_listed {ks = line.typed.takes} {r = line.typed.gives} among)
 
 -- the rows of the two tables
 
@@ -93,59 +93,59 @@ module _ (s : List ℕ) where
 
   data Rows : List (ℕ × Reader Instr) → Type 0 where
     none_left_lem : Rows []
-    row-and : {code : ℕ} {r : Reader Instr} {more : List (ℕ × Reader Instr)} → Proves r → Rows more → Rows ((code, r) ∷ more)
+    row_and : {code : ℕ} {r : Reader Instr} {more : List (ℕ × Reader Instr)} → Proves r → Rows more → Rows ((code, r) ∷ more)
 
   plain_proper : {A : Type 0} (one : Reader A) (make : A → Op) → ((x : A) → ProperOp s (make x)) → Proves (having one make)
   plain_proper one make h = having_proper one make (λ at x next e. h x)
 
   first_rows : Rows first_bytes
   first_rows =
-      row-and (bare_proper _ tt)
-      (row-and (bare_proper _ tt)
-      (row-and (opening_proper _ (λ rs. tt))
-      (row-and (opening_proper _ (λ rs. tt))
-      (row-and closing_proper
-      (row-and (plain_proper u32 _ (λ x. tt))
-      (row-and (plain_proper u32 _ (λ x. tt))
-      (row-and (bare_proper _ tt)
-      (row-and (bare_proper _ tt)
-      (row-and (plain_proper u32 _ (λ x. tt))
-      (row-and (plain_proper u32 _ (λ x. tt))
-      (row-and (plain_proper u32 _ (λ x. tt))
-      (row-and (having_proper s32 (λ n. i32_const (bits32 n)) (λ at w next e. fits_32 ((signed-within s 32 at).tells w next e)))
-      (row-and (having_proper s64 (λ n. i64_const (bits64 n)) (λ at w next e. fits_64 ((signed-within s 64 at).tells w next e)))
-      (row-and (having_proper float32 f32_const (λ at v next e bytes. (float_small bytes 4 at).tells v next e))
-      (row-and (having_proper float64 f64_const (λ at v next e bytes. (float_small bytes 8 at).tells v next e))
-      (row-and (plain_proper heap_at _ (λ h. tt))
-      (row-and (bare_proper _ tt)
-      (row-and (bare_proper _ tt)
-      (row-and (bare_proper _ tt)
+      row_and (bare_proper _ tt)
+      (row_and (bare_proper _ tt)
+      (row_and (opening_proper _ (λ rs. tt))
+      (row_and (opening_proper _ (λ rs. tt))
+      (row_and closing_proper
+      (row_and (plain_proper u32 _ (λ x. tt))
+      (row_and (plain_proper u32 _ (λ x. tt))
+      (row_and (bare_proper _ tt)
+      (row_and (bare_proper _ tt)
+      (row_and (plain_proper u32 _ (λ x. tt))
+      (row_and (plain_proper u32 _ (λ x. tt))
+      (row_and (plain_proper u32 _ (λ x. tt))
+      (row_and (having_proper s32 (λ n. i32_const (bits32 n)) (λ at w next e. fits_32 ((signed-within s 32 at).tells w next e)))
+      (row_and (having_proper s64 (λ n. i64_const (bits64 n)) (λ at w next e. fits_64 ((signed-within s 64 at).tells w next e)))
+      (row_and (having_proper float32 f32_const (λ at v next e bytes. (float_small bytes 4 at).tells v next e))
+      (row_and (having_proper float64 f64_const (λ at v next e bytes. (float_small bytes 8 at).tells v next e))
+      (row_and (plain_proper heap_at _ (λ h. tt))
+      (row_and (bare_proper _ tt)
+      (row_and (bare_proper _ tt)
+      (row_and (bare_proper _ tt)
       none_left_lem)))))))))))))))))))
 
   later_rows : Rows after_fb
   later_rows =
-      row-and (plain_proper u32 _ (λ x. tt))
-      (row-and (plain_proper u32 _ (λ x. tt))
-      (row-and (having-two_proper _ (λ x y. tt))
-      (row-and (having-two_proper _ (λ x y. tt))
-      (row-and (plain_proper heap_at _ (λ h. tt))
-      (row-and (plain_proper heap_at _ (λ h. tt))
-      (row-and (plain_proper heap_at _ (λ h. tt))
-      (row-and (plain_proper heap_at _ (λ h. tt))
-      (row-and (plain_proper cast_at _ (λ k. tt))
-      (row-and (plain_proper cast_at _ (λ k. tt))
-      (row-and (plain_proper u32 _ (λ x. tt))
-      (row-and (plain_proper u32 _ (λ x. tt))
-      (row-and (plain_proper u32 _ (λ x. tt))
-      (row-and (plain_proper heap_at _ (λ h. tt))
-      (row-and (plain_proper heap_at _ (λ h. tt))
-      (row-and (plain_proper cast_at _ (λ k. tt))
-      (row-and (plain_proper cast_at _ (λ k. tt))
+      row_and (plain_proper u32 _ (λ x. tt))
+      (row_and (plain_proper u32 _ (λ x. tt))
+      (row_and (having-two_proper _ (λ x y. tt))
+      (row_and (having-two_proper _ (λ x y. tt))
+      (row_and (plain_proper heap_at _ (λ h. tt))
+      (row_and (plain_proper heap_at _ (λ h. tt))
+      (row_and (plain_proper heap_at _ (λ h. tt))
+      (row_and (plain_proper heap_at _ (λ h. tt))
+      (row_and (plain_proper cast_at _ (λ k. tt))
+      (row_and (plain_proper cast_at _ (λ k. tt))
+      (row_and (plain_proper u32 _ (λ x. tt))
+      (row_and (plain_proper u32 _ (λ x. tt))
+      (row_and (plain_proper u32 _ (λ x. tt))
+      (row_and (plain_proper heap_at _ (λ h. tt))
+      (row_and (plain_proper heap_at _ (λ h. tt))
+      (row_and (plain_proper cast_at _ (λ k. tt))
+      (row_and (plain_proper cast_at _ (λ k. tt))
       none_left_lem))))))))))))))))
 
   found_proper : (b : ℕ) {rows : List (ℕ × Reader Instr)} → Rows rows → {other : Read Instr} (at : ℕ) → Gives (Proper s) other → Gives (Proper s) (given (find b rows) other (λ r. r s at))
   found_proper b none_left_lem at o = o
-  found_proper b (row-and {code} {r} {more} k rest) {other} at o = go (eqb b code) (found_proper b rest at o)
+  found_proper b (row_and {code} {r} {more} k rest) {other} at o = go (eqb b code) (found_proper b rest at o)
     where
       go : (t : Bool) → Gives (Proper s) (given (find b more) other (λ q. q s at)) → Gives (Proper s) (given (cond t (some r) (find b more)) other (λ q. q s at))
       go true later = k at

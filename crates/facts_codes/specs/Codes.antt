@@ -6,7 +6,7 @@ use Rattle.scope.specs.Refusals.{bytes_end, bad_number, not_listed, padded}
 use Rattle.scope.specs.Reading.{Read, got, refused}
 use Rattle.scope.specs.Abstract.{ANY, EQ}
 use Rattle.scope.specs.Syntax.{abstract, defined, exact, i64, num, nullable}
-use Rattle.scope.specs.Instructions.{Instr, block, loop, end, op, unreachable, nop, return, drop_value, br, br-if, local_get, local-set, local_tee, i32_const, i64_const, f32_const, f64_const, numeric, ref_null, ref-is-null, ref-eq, ref-as-non-null, struct_new, struct-new-default, struct_get, struct_set, ref_test, ref_cast, br_on_cast, br_on_cast_fail, struct-new-desc, struct-new-default-desc, ref_get_desc, ref_cast_desc_eq, br_on_cast_desc_eq, br_on_cast_desc_eq_fail, instr_at}
+use Rattle.scope.specs.Instructions.{Instr, block, loop, end, op, unreachable, nop, return, drop_value, br, br_if, local_get, local_set, local_tee, i32_const, i64_const, f32_const, f64_const, numeric, ref_null, ref_is_null, ref_eq, ref_as_non_null, struct_new, struct_new_default, struct_get, struct_set, ref_test, ref_cast, br_on_cast, br_on_cast_fail, struct_new_desc, struct_new_default_desc, ref_get_desc, ref_cast_desc_eq, br_on_cast_desc_eq, br_on_cast_desc_eq_fail, instr_at}
 use Rattle.facts_codes.specs.Numeric.{upward}
 
 pub record Row : Type 0 where
@@ -28,11 +28,11 @@ listed =
     ∷ record { bytes = 0x03 ∷ 0x63 ∷ 0x05 ∷ []; instruction = loop (nullable (defined 5) ∷ []) }
     ∷ record { bytes = 0x0B ∷ []; instruction = end }
     ∷ record { bytes = 0x0C ∷ 0x03 ∷ []; instruction = op (br 3) }
-    ∷ record { bytes = 0x0D ∷ 0x03 ∷ []; instruction = op (br-if 3) }
+    ∷ record { bytes = 0x0D ∷ 0x03 ∷ []; instruction = op (br_if 3) }
     ∷ record { bytes = 0x0F ∷ []; instruction = op return }
     ∷ record { bytes = 0x1A ∷ []; instruction = op drop_value }
     ∷ record { bytes = 0x20 ∷ 0x04 ∷ []; instruction = op (local_get 4) }
-    ∷ record { bytes = 0x21 ∷ 0x04 ∷ []; instruction = op (local-set 4) }
+    ∷ record { bytes = 0x21 ∷ 0x04 ∷ []; instruction = op (local_set 4) }
     ∷ record { bytes = 0x22 ∷ 0x04 ∷ []; instruction = op (local_tee 4) }
     ∷ record { bytes = 0x41 ∷ 0x05 ∷ []; instruction = op (i32_const 5) }
     ∷ record { bytes = 0x41 ∷ 0x7B ∷ []; instruction = op (i32_const 4_294_967_291) }
@@ -53,11 +53,11 @@ listed =
     ∷ record { bytes = 0x44 ∷ 0x08 ∷ 0x07 ∷ 0x06 ∷ 0x05 ∷ 0x04 ∷ 0x03 ∷ 0x02 ∷ 0x01 ∷ []; instruction = op (f64_const 0x0102_0304_0506_0708) }
     ∷ record { bytes = 0xD0 ∷ 0x6E ∷ []; instruction = op (ref_null (abstract ANY)) }
     ∷ record { bytes = 0xD0 ∷ 0x62 ∷ 0x07 ∷ []; instruction = op (ref_null (exact 7)) }
-    ∷ record { bytes = 0xD1 ∷ []; instruction = op ref-is-null }
-    ∷ record { bytes = 0xD3 ∷ []; instruction = op ref-eq }
-    ∷ record { bytes = 0xD4 ∷ []; instruction = op ref-as-non-null }
+    ∷ record { bytes = 0xD1 ∷ []; instruction = op ref_is_null }
+    ∷ record { bytes = 0xD3 ∷ []; instruction = op ref_eq }
+    ∷ record { bytes = 0xD4 ∷ []; instruction = op ref_as_non_null }
     ∷ record { bytes = 0xFB ∷ 0x00 ∷ 0x02 ∷ []; instruction = op (struct_new 2) }
-    ∷ record { bytes = 0xFB ∷ 0x01 ∷ 0x02 ∷ []; instruction = op (struct-new-default 2) }
+    ∷ record { bytes = 0xFB ∷ 0x01 ∷ 0x02 ∷ []; instruction = op (struct_new_default 2) }
     ∷ record { bytes = 0xFB ∷ 0x02 ∷ 0x02 ∷ 0x09 ∷ []; instruction = op (struct_get 2 9) }
     ∷ record { bytes = 0xFB ∷ 0x05 ∷ 0x02 ∷ 0x09 ∷ []; instruction = op (struct_set 2 9) }
     ∷ record { bytes = 0xFB ∷ 0x14 ∷ 0x03 ∷ []; instruction = op (ref_test false (defined 3)) }
@@ -68,8 +68,8 @@ listed =
     ∷ record { bytes = 0xFB ∷ 0x19 ∷ 0x01 ∷ 0x01 ∷ 0x6D ∷ 0x62 ∷ 0x03 ∷ []; instruction = op (br_on_cast_fail (record { label = 1; source_null = true; source = abstract EQ; target_null = false; target = exact 3 })) }
     ∷ record { bytes = 0xFB ∷ 0x25 ∷ 0x02 ∷ 0x01 ∷ 0x6D ∷ 0x62 ∷ 0x03 ∷ []; instruction = op (br_on_cast_desc_eq (record { label = 1; source_null = false; source = abstract EQ; target_null = true; target = exact 3 })) }
     ∷ record { bytes = 0xFB ∷ 0x26 ∷ 0x03 ∷ 0x01 ∷ 0x6D ∷ 0x62 ∷ 0x03 ∷ []; instruction = op (br_on_cast_desc_eq_fail (record { label = 1; source_null = true; source = abstract EQ; target_null = true; target = exact 3 })) }
-    ∷ record { bytes = 0xFB ∷ 0x20 ∷ 0x02 ∷ []; instruction = op (struct-new-desc 2) }
-    ∷ record { bytes = 0xFB ∷ 0x21 ∷ 0x02 ∷ []; instruction = op (struct-new-default-desc 2) }
+    ∷ record { bytes = 0xFB ∷ 0x20 ∷ 0x02 ∷ []; instruction = op (struct_new_desc 2) }
+    ∷ record { bytes = 0xFB ∷ 0x21 ∷ 0x02 ∷ []; instruction = op (struct_new_default_desc 2) }
     ∷ record { bytes = 0xFB ∷ 0x22 ∷ 0x02 ∷ []; instruction = op (ref_get_desc 2) }
     ∷ record { bytes = 0xFB ∷ 0x23 ∷ 0x62 ∷ 0x03 ∷ []; instruction = op (ref_cast_desc_eq false (exact 3)) }
     ∷ record { bytes = 0xFB ∷ 0x24 ∷ 0x62 ∷ 0x03 ∷ []; instruction = op (ref_cast_desc_eq true (exact 3)) }

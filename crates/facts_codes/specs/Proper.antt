@@ -4,7 +4,7 @@ use Rattle.std.specs.Prelude.{ℕ, ◌<◌, ◌^◌, ◌≡◌, List}
 use Rattle.std.proofs.Math.Option.{some}
 use Rattle.std.proofs.Math.ListN.{get_elem?}
 use Rattle.scope.specs.Syntax.{Number, i32, i64, f32, f64}
-use Rattle.scope.specs.Instructions.{Op, unreachable, nop, return, drop_value, br, br-if, local_get, local-set, local_tee, i32_const, i64_const, f32_const, f64_const, numeric, ref_null, ref-is-null, ref-eq, ref-as-non-null, struct_new, struct-new-default, struct_get, struct_set, ref_test, ref_cast, br_on_cast, br_on_cast_fail, struct-new-desc, struct-new-default-desc, ref_get_desc, ref_cast_desc_eq, br_on_cast_desc_eq, br_on_cast_desc_eq_fail, Instr, block, loop, end, op}
+use Rattle.scope.specs.Instructions.{Op, unreachable, nop, return, drop_value, br, br_if, local_get, local_set, local_tee, i32_const, i64_const, f32_const, f64_const, numeric, ref_null, ref_is_null, ref_eq, ref_as_non_null, struct_new, struct_new_default, struct_get, struct_set, ref_test, ref_cast, br_on_cast, br_on_cast_fail, struct_new_desc, struct_new_default_desc, ref_get_desc, ref_cast_desc_eq, br_on_cast_desc_eq, br_on_cast_desc_eq_fail, Instr, block, loop, end, op}
 use Rattle.facts_codes.specs.Numeric.{Listed}
 
 -- the input is made of bytes
@@ -19,7 +19,7 @@ width_of f32 = 32
 width_of f64 = 64
 
 pub data CodeListed (b : ℕ) : Type 0 where
-  code-listed : {ks : List Number} {r : Number} → Listed b ks r → CodeListed b
+  code_listed : {ks : List Number} {r : Number} → Listed b ks r → CodeListed b
 
 abbrev pub ProperOp : List ℕ → Op → Type 0
 ProperOp s (i32_const n) = n < 2 ^ width_of i32
@@ -32,24 +32,24 @@ ProperOp s nop = Unit {0}
 ProperOp s return = Unit {0}
 ProperOp s drop_value = Unit {0}
 ProperOp s (br l) = Unit {0}
-ProperOp s (br-if l) = Unit {0}
+ProperOp s (br_if l) = Unit {0}
 ProperOp s (local_get x) = Unit {0}
-ProperOp s (local-set x) = Unit {0}
+ProperOp s (local_set x) = Unit {0}
 ProperOp s (local_tee x) = Unit {0}
 ProperOp s (ref_null h) = Unit {0}
-ProperOp s ref-is-null = Unit {0}
-ProperOp s ref-eq = Unit {0}
-ProperOp s ref-as-non-null = Unit {0}
+ProperOp s ref_is_null = Unit {0}
+ProperOp s ref_eq = Unit {0}
+ProperOp s ref_as_non_null = Unit {0}
 ProperOp s (struct_new x) = Unit {0}
-ProperOp s (struct-new-default x) = Unit {0}
+ProperOp s (struct_new_default x) = Unit {0}
 ProperOp s (struct_get x i) = Unit {0}
 ProperOp s (struct_set x i) = Unit {0}
 ProperOp s (ref_test n h) = Unit {0}
 ProperOp s (ref_cast n h) = Unit {0}
 ProperOp s (br_on_cast k) = Unit {0}
 ProperOp s (br_on_cast_fail k) = Unit {0}
-ProperOp s (struct-new-desc x) = Unit {0}
-ProperOp s (struct-new-default-desc x) = Unit {0}
+ProperOp s (struct_new_desc x) = Unit {0}
+ProperOp s (struct_new_default_desc x) = Unit {0}
 ProperOp s (ref_get_desc x) = Unit {0}
 ProperOp s (ref_cast_desc_eq n h) = Unit {0}
 ProperOp s (br_on_cast_desc_eq k) = Unit {0}

@@ -24,8 +24,8 @@ pub record Case : Type 0 where
 
 -- the answers
 
-abbrev pub no-types : List ℕ
-no-types = 1 ∷ 0 ∷ []
+abbrev pub no_types : List ℕ
+no_types = 1 ∷ 0 ∷ []
 
 abbrev pub instructions : ℕ → List ℕ
 instructions n = 1 ∷ n ∷ []
@@ -84,7 +84,7 @@ exact_of_super =
 
 abbrev pub starred : List Case
 starred =
-    record { asks = section (0x00 ∷ []); says = no-types }
+    record { asks = section (0x00 ∷ []); says = no_types }
     ∷ record { asks = section []; says = byte_refusal 1 0 }
     ∷ record { asks = section (0x01 ∷ 0x4E ∷ 0x02 ∷ 0x4D ∷ 0x01 ∷ 0x5F ∷ 0x00 ∷ 0x4C ∷ 0x00 ∷ 0x5F ∷ 0x00 ∷ []); says = structs 2 }
     ∷ record { asks = section (0x01 ∷ 0x4E ∷ 0x02 ∷ 0x4C ∷ 0x01 ∷ 0x5F ∷ 0x00 ∷ 0x4D ∷ 0x00 ∷ 0x5F ∷ 0x00 ∷ []); says = refusal 10 0 }

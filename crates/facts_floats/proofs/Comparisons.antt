@@ -144,7 +144,7 @@ module _ (w : Width) where
     -- ---- less
     pub less_true : {a b : ℕ} → Less w a b → float_less w a b ≡ true
     less_true (Less.numbers s t m n h k l) = less_numbers s t h k ∙ sym (signed-tested s t (units w m) (units w n)) ∙ whole-tested l
-    less_true (Less.below-infinity s m h) = less_infinity s false h ∙ less_than_greatest (units w m) greatest (units_lt w h) s
+    less_true (Less.below_infinity s m h) = less_infinity s false h ∙ less_than_greatest (units w m) greatest (units_lt w h) s
     less_true (Less.above_minus_infinity t n h) = infinity_less true t h ∙ least_less (units w n) greatest (units_lt w h) t
     less_true Less.infinities = less_both true false ∙ lt-ltb 0 (greatest + greatest) (double greatest greatest_pos)
       where
@@ -163,7 +163,7 @@ module _ (w : Width) where
 
     to_infinity : (s t : Bool) {m : ℕ} → m < infinite w → float_less w (with_sign w s m) (infinity w t) ≡ true → Less w (with_sign w s m) (infinity w t)
     to_infinity s true {m} h e = impossible (let z = less_infinity s true h ∙ not_less_than_least (units w m) greatest (units_lt w h) s in cc)
-    to_infinity s false {m} h e = Less.below-infinity s m h
+    to_infinity s false {m} h e = Less.below_infinity s m h
 
     less_of : {a b : ℕ} → Form w a → Form w b → float_less w a b ≡ true → Less w a b
     less_of {a} {b} (is_nan_lem s h) g e = impossible (let z = nan_not_less s h b in cc)

@@ -41,12 +41,12 @@ module _ (w : Width) where
     sum_fits (Sum.second_nan s h) = nan_fits
     sum_fits (Sum.opposite_infinities s) = nan_fits
     sum_fits (Sum.equal_infinities s) = infinity-fits s
-    sum_fits (Sum.first-infinite s t n h) = infinity-fits s
-    sum_fits (Sum.second-infinite s t m h) = infinity-fits t
+    sum_fits (Sum.first_infinite s t n h) = infinity-fits s
+    sum_fits (Sum.second_infinite s t m h) = infinity-fits t
     sum_fits (Sum.opposite_zeros s) = zero-fits false
     sum_fits (Sum.equal_zeros s) = zero-fits s
-    sum_fits (Sum.first-zero s t h) = magnitude-fits t (le_of_lt h.finite)
-    sum_fits (Sum.second-zero s t h) = magnitude-fits s (le_of_lt h.finite)
+    sum_fits (Sum.first_zero s t h) = magnitude-fits t (le_of_lt h.finite)
+    sum_fits (Sum.second_zero s t h) = magnitude-fits s (le_of_lt h.finite)
     sum_fits (Sum.cancels s h) = zero-fits false
     sum_fits (Sum.alike s h k e) = once_fits e
     sum_fits (Sum.first_greater s h k l e g) = once_fits g
@@ -58,10 +58,10 @@ module _ (w : Width) where
     product_fits (Product.zero_by_infinity s t) = nan_fits
     product_fits (Product.infinity_by_zero s t) = nan_fits
     product_fits (Product.infinities s t) = infinity-fits (sign_of s t)
-    product_fits (Product.first-infinite s t h) = infinity-fits (sign_of s t)
-    product_fits (Product.second-infinite s t h) = infinity-fits (sign_of s t)
-    product_fits (Product.first-zero s t n h) = zero-fits (sign_of s t)
-    product_fits (Product.second-zero s t m h) = zero-fits (sign_of s t)
+    product_fits (Product.first_infinite s t h) = infinity-fits (sign_of s t)
+    product_fits (Product.second_infinite s t h) = infinity-fits (sign_of s t)
+    product_fits (Product.first_zero s t n h) = zero-fits (sign_of s t)
+    product_fits (Product.second_zero s t m h) = zero-fits (sign_of s t)
     product_fits (Product.numbers s t h k e) = once_fits e
 
     quotient_fits : {a b r : ℕ} → Quotient w a b r → Fits r
@@ -69,9 +69,9 @@ module _ (w : Width) where
     quotient_fits (Quotient.second_nan s h) = nan_fits
     quotient_fits (Quotient.infinities s t) = nan_fits
     quotient_fits (Quotient.zeros s t) = nan_fits
-    quotient_fits (Quotient.first-infinite s t n h) = infinity-fits (sign_of s t)
+    quotient_fits (Quotient.first_infinite s t n h) = infinity-fits (sign_of s t)
     quotient_fits (Quotient.by_infinity s t m h) = zero-fits (sign_of s t)
-    quotient_fits (Quotient.first-zero s t h) = zero-fits (sign_of s t)
+    quotient_fits (Quotient.first_zero s t h) = zero-fits (sign_of s t)
     quotient_fits (Quotient.by_zero s t h) = infinity-fits (sign_of s t)
     quotient_fits (Quotient.numbers s t h k e) = once_fits e
 

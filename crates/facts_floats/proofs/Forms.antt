@@ -87,11 +87,11 @@ module _ (w : Width) where
     pub number_finite : is_infinite w (with_sign w s m) ≡ false
     number_finite = rw number-magnitude (ne_eqb m (infinite w) (λ e. lt_irrefl (infinite w) (rw e at h)))
 
-    pub number-zero : is_zero w (with_sign w s m) ≡ eqb m 0
-    number-zero = ap (λ (x : ℕ). eqb x 0) number-magnitude
+    pub number_zero : is_zero w (with_sign w s m) ≡ eqb m 0
+    number_zero = ap (λ (x : ℕ). eqb x 0) number-magnitude
 
   pub nonzero_no-zero : (s : Bool) {m : ℕ} → Nonzero w m → is_zero w (with_sign w s m) ≡ false
-  nonzero_no-zero s {m} h = number-zero s h.finite ∙ ne_eqb m 0 (λ e. omega (arith, h.some))
+  nonzero_no-zero s {m} h = number_zero s h.finite ∙ ne_eqb m 0 (λ e. omega (arith, h.some))
 
   -- of a proper width
   module _ (proper : Proper w) where
@@ -109,7 +109,7 @@ module _ (w : Width) where
     infinity-no-zero s = rw (magnitude_is s infinite-below) (ne_eqb (infinite w) 0 (λ e. lt_irrefl 0 (rw e at infinite_pos)))
 
     pub zero-zero : (s : Bool) → is_zero w (zero_of w s) ≡ true
-    zero-zero s = number-zero s infinite_pos ∙ eq-eqb 0 0 refl
+    zero-zero s = number_zero s infinite_pos ∙ eq-eqb 0 0 refl
 
   pub units-zero : units w 0 ≡ 0
   units-zero = units-low w 0 lead_pos

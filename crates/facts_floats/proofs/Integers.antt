@@ -101,9 +101,9 @@ module _ (n : ℕ) where
 
   -- a sum that is too great comes round by 2 ^ n, a difference that is too small too
   module _ {a b : ℕ} (h : a < 2 ^ n) (k : b < 2 ^ n) where
-    pub add-within : a + b < 2 ^ n → int_add n a b ≡ a + b
+    pub add_within : a + b < 2 ^ n → int_add n a b ≡ a + b
     unfolding int_add
-    add-within l = mod-eq_of_lt l
+    add_within l = mod-eq_of_lt l
 
     pub add_around : 2 ^ n ≤ a + b → int_add n a b + 2 ^ n ≡ a + b
     unfolding int_add

@@ -13,7 +13,7 @@ use Rattle.facts_floats.proofs.Products.{product_is, product_only, quotient_is, 
 use Rattle.facts_floats.proofs.Finite.{sum_once_alike, sum_once_first, sum_once_second, product_once, quotient_once}
 use Rattle.facts_floats.proofs.Fits as Fits
 use Rattle.facts_floats.proofs.Comparisons.{less_true, true_less, equal_true, true_equal, only_unequal_first, only_unequal_second, at_most_not_greater, at_least_not_less}
-use Rattle.facts_floats.proofs.Integers.{add-fits, add-within, add_around, sub-fits, sub_within, sub_around, signed_less, less_signed_lem, at_most_signed}
+use Rattle.facts_floats.proofs.Integers.{add-fits, add_within, add_around, sub-fits, sub_within, sub_around, signed_less, less_signed_lem, at_most_signed}
 
 pub float_laws : (w : Width) → Proper w → FloatLaws w
 float_laws w proper =
@@ -32,7 +32,7 @@ float_laws w proper =
       quotients = record { said = λ a b h k. quotient_is w proper h k; only = λ a b r l. quotient_only w proper l };
       sum_alike = λ a b f g e. sum_once_alike w proper f g e;
       sum_first = λ a b f g e l. sum_once_first w proper f g e l;
-      sum-second = λ a b f g e l. sum_once_second w proper f g e l;
+      sum_second = λ a b f g e l. sum_once_second w proper f g e l;
       product = λ a b f g. product_once w proper f g;
       quotient = λ a b f g z. quotient_once w proper f g z;
       add-fits = λ a b h k. Fits.add-fits w proper h k;
@@ -66,7 +66,7 @@ pub integer_laws : (n : ℕ) → IntegerLaws n
 integer_laws n =
     record {
       add-fits = add-fits (suc n);
-      add-within = λ a b h k l. add-within (suc n) h k l;
+      add_within = λ a b h k l. add_within (suc n) h k l;
       add_around = λ a b h k l. add_around (suc n) h k l;
       sub-fits = sub-fits (suc n);
       sub_within = λ a b h k l. sub_within (suc n) h k l;

@@ -124,10 +124,10 @@ module _ (w : Width) where
     product_only (Product.zero_by_infinity s t) = sym (mul-zero_by_infinity s t)
     product_only (Product.infinity_by_zero s t) = sym (mul-infinity_by_zero s t)
     product_only (Product.infinities s t) = sym (mul_infinities s t)
-    product_only (Product.first-infinite s t h) = sym (mul-first-infinite s t h)
-    product_only (Product.second-infinite s t h) = sym (mul-second-infinite s t h)
-    product_only (Product.first-zero s t n h) = sym (mul-first-zero s t h)
-    product_only (Product.second-zero s t m h) = sym (mul-second-zero s t h)
+    product_only (Product.first_infinite s t h) = sym (mul-first-infinite s t h)
+    product_only (Product.second_infinite s t h) = sym (mul-second-infinite s t h)
+    product_only (Product.first_zero s t n h) = sym (mul-first-zero s t h)
+    product_only (Product.second_zero s t m h) = sym (mul-second-zero s t h)
     product_only (Product.numbers s t h k e) = once_only w proper one_pos e ∙ sym (mul-numbers s t h.finite k.finite)
 
     pub quotient_only : {a b r : ℕ} → Quotient w a b r → r ≡ float_div w a b
@@ -135,9 +135,9 @@ module _ (w : Width) where
     quotient_only {a} {b} (Quotient.second_nan s h) = sym (div-second_nan s h a)
     quotient_only (Quotient.infinities s t) = sym (div_infinities s t)
     quotient_only (Quotient.zeros s t) = sym (div-zeros s t)
-    quotient_only (Quotient.first-infinite s t n h) = sym (div-first-infinite s t h)
+    quotient_only (Quotient.first_infinite s t n h) = sym (div-first-infinite s t h)
     quotient_only (Quotient.by_infinity s t m h) = sym (div_by_infinity s t h)
-    quotient_only (Quotient.first-zero s t h) = sym (div-first-zero s t h)
+    quotient_only (Quotient.first_zero s t h) = sym (div-first-zero s t h)
     quotient_only (Quotient.by_zero s t h) = sym (div_by_zero s t h)
     quotient_only (Quotient.numbers s t h k e) =
         once_only w proper (units_pos w k.some) e ∙ sym (div-numbers s t h.finite k.finite (nonzero_no-zero w t k))
@@ -158,17 +158,17 @@ module _ (w : Width) where
     sized {m} h = elim (eq-zero-or-pos m) [ inl e ↦ rw e none | inr l ↦ some (record { some = l; finite = h }) ]
 
     product_numbers : (s t : Bool) {m n : ℕ} → m < infinite w → n < infinite w → Sized m → Sized n → Product w (with_sign w s m) (with_sign w t n) (float_mul w (with_sign w s m) (with_sign w t n))
-    product_numbers s t {m} {n} h k none y = product_line (mul-first-zero s t k) (Product.first-zero s t n k)
-    product_numbers s t {m} {n} h k (some x) none = product_line (mul-second-zero s t h) (Product.second-zero s t m h)
+    product_numbers s t {m} {n} h k none y = product_line (mul-first-zero s t k) (Product.first_zero s t n k)
+    product_numbers s t {m} {n} h k (some x) none = product_line (mul-second-zero s t h) (Product.second_zero s t m h)
     product_numbers s t {m} {n} h k (some x) (some y) = product_line (mul-numbers s t h k) (Product.numbers s t x y (once w proper (sign_of s t) (units w m * units w n) (one w) one_pos))
 
     infinity_by : (s t : Bool) {n : ℕ} → Sized n → Product w (infinity w s) (with_sign w t n) (float_mul w (infinity w s) (with_sign w t n))
     infinity_by s t none = product_line (mul-infinity_by_zero s t) (Product.infinity_by_zero s t)
-    infinity_by s t (some y) = product_line (mul-first-infinite s t y) (Product.first-infinite s t y)
+    infinity_by s t (some y) = product_line (mul-first-infinite s t y) (Product.first_infinite s t y)
 
     by_infinity : (s t : Bool) {m : ℕ} → Sized m → Product w (with_sign w s m) (infinity w t) (float_mul w (with_sign w s m) (infinity w t))
     by_infinity s t none = product_line (mul-zero_by_infinity s t) (Product.zero_by_infinity s t)
-    by_infinity s t (some x) = product_line (mul-second-infinite s t x) (Product.second-infinite s t x)
+    by_infinity s t (some x) = product_line (mul-second-infinite s t x) (Product.second_infinite s t x)
 
     product_of : {a b : ℕ} → Form w a → Form w b → Product w a b (float_mul w a b)
     product_of {a} {b} (is_nan_lem s h) g = product_line (mul-first_nan s h b) (Product.first_nan s h)
@@ -184,7 +184,7 @@ module _ (w : Width) where
 
     quotient_numbers : (s t : Bool) {m n : ℕ} → m < infinite w → n < infinite w → Sized m → Sized n → Quotient w (with_sign w s m) (with_sign w t n) (float_div w (with_sign w s m) (with_sign w t n))
     quotient_numbers s t h k none none = quotient_line (div-zeros s t) (Quotient.zeros s t)
-    quotient_numbers s t h k none (some y) = quotient_line (div-first-zero s t y) (Quotient.first-zero s t y)
+    quotient_numbers s t h k none (some y) = quotient_line (div-first-zero s t y) (Quotient.first_zero s t y)
     quotient_numbers s t h k (some x) none = quotient_line (div_by_zero s t x) (Quotient.by_zero s t x)
     quotient_numbers s t {m} {n} h k (some x) (some y) =
         quotient_line (div-numbers s t h k (nonzero_no-zero w t y)) (Quotient.numbers s t x y (once w proper (sign_of s t) (units w m * one w) (units w n) (units_pos w y.some)))
@@ -193,7 +193,7 @@ module _ (w : Width) where
     quotient_of {a} {b} (is_nan_lem s h) g = quotient_line (div-first_nan s h b) (Quotient.first_nan s h)
     quotient_of {a} {b} (is_infinity s) (is_nan_lem t h) = quotient_line (div-second_nan t h a) (Quotient.second_nan t h)
     quotient_of (is_infinity s) (is_infinity t) = quotient_line (div_infinities s t) (Quotient.infinities s t)
-    quotient_of (is_infinity s) (is_number t n h) = quotient_line (div-first-infinite s t h) (Quotient.first-infinite s t n h)
+    quotient_of (is_infinity s) (is_number t n h) = quotient_line (div-first-infinite s t h) (Quotient.first_infinite s t n h)
     quotient_of {a} {b} (is_number s m h) (is_nan_lem t k) = quotient_line (div-second_nan t k a) (Quotient.second_nan t k)
     quotient_of (is_number s m h) (is_infinity t) = quotient_line (div_by_infinity s t h) (Quotient.by_infinity s t m h)
     quotient_of (is_number s m h) (is_number t n k) = quotient_numbers s t h k (sized h) (sized k)

@@ -128,12 +128,12 @@ module _ (w : Width) where
     sum_only {a} {b} (Sum.second_nan s h) = sym (add-second_nan s h a)
     sum_only (Sum.opposite_infinities s) = sym (add_opposite_infinities s)
     sum_only (Sum.equal_infinities s) = sym (add_equal_infinities s)
-    sum_only (Sum.first-infinite s t n h) = sym (add-first-infinite s t h)
-    sum_only (Sum.second-infinite s t m h) = sym (add-second-infinite s t h)
+    sum_only (Sum.first_infinite s t n h) = sym (add-first-infinite s t h)
+    sum_only (Sum.second_infinite s t m h) = sym (add-second-infinite s t h)
     sum_only (Sum.opposite_zeros s) = sym (add_opposite_zeros s)
     sum_only (Sum.equal_zeros s) = sym (add_equal_zeros s)
-    sum_only (Sum.first-zero s t h) = sym (add-first-zero h s t)
-    sum_only (Sum.second-zero s t h) = sym (add-second-zero h s t)
+    sum_only (Sum.first_zero s t h) = sym (add-first-zero h s t)
+    sum_only (Sum.second_zero s t h) = sym (add-second-zero h s t)
     sum_only (Sum.cancels s h) = sym (add_cancels s h.finite)
     sum_only (Sum.alike s h k e) = once_only w proper (zero-lt-suc 0) e ∙ sym (add_alike s h.finite k.finite)
     sum_only (Sum.first_greater s h k l e g) = once_only w proper (zero-lt-suc 0) g ∙ sym (add-first_greater s h.finite k.finite l e)
@@ -179,12 +179,12 @@ module _ (w : Width) where
     sum-numbers s t {m} {n} h k = elim (eq-zero-or-pos m) [
       | inl e ↦ elim (eq-zero-or-pos n) [
         | inl z ↦ rw (e, z) (sum_zeros s t)
-        | inr l ↦ let some : Nonzero w n = record { some = l; finite = k } in rw e (line (add-first-zero some s t) (Sum.first-zero s t some))
+        | inr l ↦ let some : Nonzero w n = record { some = l; finite = k } in rw e (line (add-first-zero some s t) (Sum.first_zero s t some))
       ]
       | inr l ↦
           let first : Nonzero w m = record { some = l; finite = h } in
           elim (eq-zero-or-pos n) [
-            | inl z ↦ rw z (line (add-second-zero first s t) (Sum.second-zero s t first))
+            | inl z ↦ rw z (line (add-second-zero first s t) (Sum.second_zero s t first))
             | inr g ↦ sum_nonzero first (record { some = g; finite = k }) s t
           ]
     ]
@@ -199,9 +199,9 @@ module _ (w : Width) where
     sum_of_lem {a} {b} (is_nan_lem s h) g = line (add-first_nan s h b) (Sum.first_nan s h)
     sum_of_lem {a} {b} (is_infinity s) (is_nan_lem t h) = line (add-second_nan t h a) (Sum.second_nan t h)
     sum_of_lem (is_infinity s) (is_infinity t) = sum_infinities s t
-    sum_of_lem (is_infinity s) (is_number t n h) = line (add-first-infinite s t h) (Sum.first-infinite s t n h)
+    sum_of_lem (is_infinity s) (is_number t n h) = line (add-first-infinite s t h) (Sum.first_infinite s t n h)
     sum_of_lem {a} {b} (is_number s m h) (is_nan_lem t k) = line (add-second_nan t k a) (Sum.second_nan t k)
-    sum_of_lem (is_number s m h) (is_infinity t) = line (add-second-infinite s t h) (Sum.second-infinite s t m h)
+    sum_of_lem (is_number s m h) (is_infinity t) = line (add-second-infinite s t h) (Sum.second_infinite s t m h)
     sum_of_lem (is_number s m h) (is_number t n k) = sum-numbers s t h k
 
     pub sum_is : {a b : ℕ} → a < 2 * sign_bit w → b < 2 * sign_bit w → Sum w a b (float_add w a b)

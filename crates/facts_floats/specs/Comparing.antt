@@ -16,7 +16,7 @@ counted false n = plus n
 pub data Less (w : Width) : ℕ → ℕ → Type 0 where
   numbers : (s t : Bool) (m n : ℕ) → m < infinite w → n < infinite w
       → WholeLess (counted s (units w m)) (counted t (units w n)) → Less w (with_sign w s m) (with_sign w t n)
-  below-infinity : (s : Bool) (m : ℕ) → m < infinite w → Less w (with_sign w s m) (infinity w false)
+  below_infinity : (s : Bool) (m : ℕ) → m < infinite w → Less w (with_sign w s m) (infinity w false)
   above_minus_infinity : (t : Bool) (n : ℕ) → n < infinite w → Less w (infinity w true) (with_sign w t n)
   infinities : Less w (infinity w true) (infinity w false)
 

@@ -40,7 +40,7 @@ pub record FloatLaws (w : Width) : Type 0 where
       → RoundedOnce w (negative w a) (units_of w a + units_of w b) 1 (float_add w a b)
   pub sum_first : (a b : ℕ) → Finite w a → Finite w b → beq (negative w a) (negative w b) ≡ false → units_of w b < units_of w a
       → RoundedOnce w (negative w a) (units_of w a - units_of w b) 1 (float_add w a b)
-  pub sum-second : (a b : ℕ) → Finite w a → Finite w b → beq (negative w a) (negative w b) ≡ false → units_of w a < units_of w b
+  pub sum_second : (a b : ℕ) → Finite w a → Finite w b → beq (negative w a) (negative w b) ≡ false → units_of w a < units_of w b
       → RoundedOnce w (negative w b) (units_of w b - units_of w a) 1 (float_add w a b)
   pub product : (a b : ℕ) → Finite w a → Finite w b
       → RoundedOnce w (sign_of (negative w a) (negative w b)) (units_of w a * units_of w b) (one w) (float_mul w a b)
@@ -67,7 +67,7 @@ pub record FloatLaws (w : Width) : Type 0 where
 pub record IntegerLaws (n : ℕ) : Type 0 where
   -- modulo 2 ^ (n + 1)
   pub add-fits : (a b : ℕ) → int_add (suc n) a b < 2 ^ suc n
-  pub add-within : (a b : ℕ) → a < 2 ^ suc n → b < 2 ^ suc n → a + b < 2 ^ suc n → int_add (suc n) a b ≡ a + b
+  pub add_within : (a b : ℕ) → a < 2 ^ suc n → b < 2 ^ suc n → a + b < 2 ^ suc n → int_add (suc n) a b ≡ a + b
   pub add_around : (a b : ℕ) → a < 2 ^ suc n → b < 2 ^ suc n → 2 ^ suc n ≤ a + b → int_add (suc n) a b + 2 ^ suc n ≡ a + b
   pub sub-fits : (a b : ℕ) → int_sub (suc n) a b < 2 ^ suc n
   pub sub_within : (a b : ℕ) → a < 2 ^ suc n → b < 2 ^ suc n → b ≤ a → int_sub (suc n) a b + b ≡ a

@@ -53,12 +53,12 @@ pub data Sum (w : Width) : ℕ → ℕ → ℕ → Type 0 where
   second_nan : (s : Bool) {a p : ℕ} → Payload w p → Sum w a (nan_of w s p) (canonical_nan w)
   opposite_infinities : (s : Bool) → Sum w (infinity w s) (infinity w (not s)) (canonical_nan w)
   equal_infinities : (s : Bool) → Sum w (infinity w s) (infinity w s) (infinity w s)
-  first-infinite : (s t : Bool) (n : ℕ) → n < infinite w → Sum w (infinity w s) (with_sign w t n) (infinity w s)
-  second-infinite : (s t : Bool) (m : ℕ) → m < infinite w → Sum w (with_sign w s m) (infinity w t) (infinity w t)
+  first_infinite : (s t : Bool) (n : ℕ) → n < infinite w → Sum w (infinity w s) (with_sign w t n) (infinity w s)
+  second_infinite : (s t : Bool) (m : ℕ) → m < infinite w → Sum w (with_sign w s m) (infinity w t) (infinity w t)
   opposite_zeros : (s : Bool) → Sum w (zero_of w s) (zero_of w (not s)) (zero_of w false)
   equal_zeros : (s : Bool) → Sum w (zero_of w s) (zero_of w s) (zero_of w s)
-  first-zero : (s t : Bool) {n : ℕ} → Nonzero w n → Sum w (zero_of w s) (with_sign w t n) (with_sign w t n)
-  second-zero : (s t : Bool) {m : ℕ} → Nonzero w m → Sum w (with_sign w s m) (zero_of w t) (with_sign w s m)
+  first_zero : (s t : Bool) {n : ℕ} → Nonzero w n → Sum w (zero_of w s) (with_sign w t n) (with_sign w t n)
+  second_zero : (s t : Bool) {m : ℕ} → Nonzero w m → Sum w (with_sign w s m) (zero_of w t) (with_sign w s m)
   cancels : (s : Bool) {m : ℕ} → Nonzero w m → Sum w (with_sign w s m) (with_sign w (not s) m) (zero_of w false)
   -- the exact sum, rounded: of equal signs, and of opposite ones the first or the second the greater by k units
   alike : (s : Bool) {m n r : ℕ} → Nonzero w m → Nonzero w n
@@ -79,10 +79,10 @@ pub data Product (w : Width) : ℕ → ℕ → ℕ → Type 0 where
   zero_by_infinity : (s t : Bool) → Product w (zero_of w s) (infinity w t) (canonical_nan w)
   infinity_by_zero : (s t : Bool) → Product w (infinity w s) (zero_of w t) (canonical_nan w)
   infinities : (s t : Bool) → Product w (infinity w s) (infinity w t) (infinity w (sign_of s t))
-  first-infinite : (s t : Bool) {n : ℕ} → Nonzero w n → Product w (infinity w s) (with_sign w t n) (infinity w (sign_of s t))
-  second-infinite : (s t : Bool) {m : ℕ} → Nonzero w m → Product w (with_sign w s m) (infinity w t) (infinity w (sign_of s t))
-  first-zero : (s t : Bool) (n : ℕ) → n < infinite w → Product w (zero_of w s) (with_sign w t n) (zero_of w (sign_of s t))
-  second-zero : (s t : Bool) (m : ℕ) → m < infinite w → Product w (with_sign w s m) (zero_of w t) (zero_of w (sign_of s t))
+  first_infinite : (s t : Bool) {n : ℕ} → Nonzero w n → Product w (infinity w s) (with_sign w t n) (infinity w (sign_of s t))
+  second_infinite : (s t : Bool) {m : ℕ} → Nonzero w m → Product w (with_sign w s m) (infinity w t) (infinity w (sign_of s t))
+  first_zero : (s t : Bool) (n : ℕ) → n < infinite w → Product w (zero_of w s) (with_sign w t n) (zero_of w (sign_of s t))
+  second_zero : (s t : Bool) (m : ℕ) → m < infinite w → Product w (with_sign w s m) (zero_of w t) (zero_of w (sign_of s t))
   numbers : (s t : Bool) {m n r : ℕ} → Nonzero w m → Nonzero w n
       → RoundedOnce w (sign_of s t) (units w m * units w n) (one w) r → Product w (with_sign w s m) (with_sign w t n) r
 
@@ -92,9 +92,9 @@ pub data Quotient (w : Width) : ℕ → ℕ → ℕ → Type 0 where
   second_nan : (s : Bool) {a p : ℕ} → Payload w p → Quotient w a (nan_of w s p) (canonical_nan w)
   infinities : (s t : Bool) → Quotient w (infinity w s) (infinity w t) (canonical_nan w)
   zeros : (s t : Bool) → Quotient w (zero_of w s) (zero_of w t) (canonical_nan w)
-  first-infinite : (s t : Bool) (n : ℕ) → n < infinite w → Quotient w (infinity w s) (with_sign w t n) (infinity w (sign_of s t))
+  first_infinite : (s t : Bool) (n : ℕ) → n < infinite w → Quotient w (infinity w s) (with_sign w t n) (infinity w (sign_of s t))
   by_infinity : (s t : Bool) (m : ℕ) → m < infinite w → Quotient w (with_sign w s m) (infinity w t) (zero_of w (sign_of s t))
-  first-zero : (s t : Bool) {n : ℕ} → Nonzero w n → Quotient w (zero_of w s) (with_sign w t n) (zero_of w (sign_of s t))
+  first_zero : (s t : Bool) {n : ℕ} → Nonzero w n → Quotient w (zero_of w s) (with_sign w t n) (zero_of w (sign_of s t))
   by_zero : (s t : Bool) {m : ℕ} → Nonzero w m → Quotient w (with_sign w s m) (zero_of w t) (infinity w (sign_of s t))
   numbers : (s t : Bool) {m n r : ℕ} → Nonzero w m → Nonzero w n
       → RoundedOnce w (sign_of s t) (units w m * one w) (units w n) r → Quotient w (with_sign w s m) (with_sign w t n) r

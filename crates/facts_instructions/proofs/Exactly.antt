@@ -14,7 +14,7 @@ use Rattle.scope.specs.Reading.{Read, got, refused, Reader, given, then, on_byte
 use Rattle.scope.specs.Lists.{is_none}
 use Rattle.scope.specs.Numbers.{u32, bits32, bits64}
 use Rattle.scope.specs.Numeric.{Numeric, numeric_of}
-use Rattle.scope.specs.Instructions.{Op, numeric, struct_get, struct_set, i32_const, i64_const, br, br-if, br_on_cast, br_on_cast_desc_eq, br_on_cast_desc_eq_fail, br_on_cast_fail, f32_const, f64_const, local_get, local-set, local_tee, ref_cast, ref_cast_desc_eq, ref_get_desc, ref_null, ref_test, struct_new, struct-new-default, struct-new-default-desc, struct-new-desc, Instr, block, loop, end, op, bare, having, having_two, first_bytes, after_fb, find, instr_at}
+use Rattle.scope.specs.Instructions.{Op, numeric, struct_get, struct_set, i32_const, i64_const, br, br_if, br_on_cast, br_on_cast_desc_eq, br_on_cast_desc_eq_fail, br_on_cast_fail, f32_const, f64_const, local_get, local_set, local_tee, ref_cast, ref_cast_desc_eq, ref_get_desc, ref_null, ref_test, struct_new, struct_new_default, struct_new_default_desc, struct_new_desc, Instr, block, loop, end, op, bare, having, having_two, first_bytes, after_fb, find, instr_at}
 use Rattle.scope.proofs.Truths.{none_is_not-some}
 use Rattle.facts_codes.specs.Numeric.{upward, Among, is_first_lem, is_later}
 use Rattle.facts_codes.proofs.Numeric.{read_off, numeric_ends}
@@ -24,7 +24,7 @@ use Rattle.facts_sections.proofs.Between.{join, split}
 use Rattle.facts_sections.proofs.Readers.{Found, Reads, AnySize, refused_is_not_got, by_cond, by_given, then_got, byte_got, found_got, this_byte}
 use Rattle.facts_sections.proofs.NumberReading.{unsigned_reads, signed_reads}
 use Rattle.facts_sections.proofs.ValueReading.{heap_reads}
-use Rattle.facts_instructions.specs.Writing.{WritesTwo, two-numbers, Follows, is_unreachable_lem, is_nop, is_end, is_return, is_drop, is_ref_is_null, is_ref_eq, is_ref_as_non_null, is_block, is_loop, is_br, is_br_if, is_local_get, is_local_set, is_local_tee, is_i32_const, is_i64_const, is_f32_const, is_f64_const, is_ref_null, is_numeric_lem, FollowsFB, is_struct_new, is_struct_new_default, is_struct_new_desc, is_struct_new_default_desc, is_ref_get_desc, is_struct_get, is_struct_set, is_ref_test, is_ref_test_null, is_ref_cast, is_ref_cast_null, is_ref_cast_desc_eq, is_ref_cast_desc_eq_null, is_br_on_cast, is_br_on_cast_fail, is_br_on_cast_desc_eq, is_br_on_cast_desc_eq_fail, WritesInstruction, by_first_byte, after_FB}
+use Rattle.facts_instructions.specs.Writing.{WritesTwo, two_numbers, Follows, is_unreachable_lem, is_nop, is_end, is_return, is_drop, is_ref_is_null, is_ref_eq, is_ref_as_non_null, is_block, is_loop, is_br, is_br_if, is_local_get, is_local_set, is_local_tee, is_i32_const, is_i64_const, is_f32_const, is_f64_const, is_ref_null, is_numeric_lem, FollowsFB, is_struct_new, is_struct_new_default, is_struct_new_desc, is_struct_new_default_desc, is_ref_get_desc, is_struct_get, is_struct_set, is_ref_test, is_ref_test_null, is_ref_cast, is_ref_cast_null, is_ref_cast_desc_eq, is_ref_cast_desc_eq_null, is_br_on_cast, is_br_on_cast_fail, is_br_on_cast_desc_eq, is_br_on_cast_desc_eq_fail, WritesInstruction, by_first_byte, after_FB}
 use Rattle.facts_instructions.specs.Laws.{Lies, InstructionsRead}
 use Rattle.facts_instructions.proofs.Reading.{float_reads, block_type_reads, cast_reads}
 
@@ -48,14 +48,14 @@ two_sound f writes s at j next e =
     let (y, stop, second, h) = then_got (u32 s mid) _ g in
     let m = (unsigned_reads 32).sound s at first in
     let n = (unsigned_reads 32).sound s mid second in
-    found_got h (record { bytes = m.bytes ++ n.bytes; lies = join m.lies n.lies; writes = writes (m.bytes ++ n.bytes) x y (two-numbers m.writes n.writes); small = tt })
+    found_got h (record { bytes = m.bytes ++ n.bytes; lies = join m.lies n.lies; writes = writes (m.bytes ++ n.bytes) x y (two_numbers m.writes n.writes); small = tt })
 
 data Lines (W : ℕ → List ℕ → Instr → Type 0) : List (ℕ × Reader Instr) → Type 0 where
-  no-row : Lines W []
+  no_row_lem : Lines W []
   a_row_lem : {b : ℕ} {r : Reader Instr} {more : List (ℕ × Reader Instr)} → Sound (W b) r → Lines W more → Lines W ((b, r) ∷ more)
 
 found_line : {W : ℕ → List ℕ → Instr → Type 0} {rows : List (ℕ × Reader Instr)} → Lines W rows → (b : ℕ) (r : Reader Instr) → find b rows ≡ some r → Sound (W b) r
-found_line no-row b r e = absurd (none_is_not-some e)
+found_line no_row_lem b r e = absurd (none_is_not-some e)
 found_line {W} (a_row_lem {b = a} {r = q} {more = rows} sound more) b r e = go (eqb b a) refl e (λ f. found_line more b r f)
   where
     go : (t : Bool) → eqb b a ≡ t → cond t (some q) (find b rows) ≡ some r → (find b rows ≡ some r → Sound (W b) r) → Sound (W b) r
@@ -72,11 +72,11 @@ first_lines =
     (a_row_lem (made_sound loop block_type_reads (λ w x. is_loop))
     (a_row_lem (bare_sound is_end)
     (a_row_lem (made_sound (λ x. op (br x)) (unsigned_reads 32) (λ w x. is_br))
-    (a_row_lem (made_sound (λ x. op (br-if x)) (unsigned_reads 32) (λ w x. is_br_if))
+    (a_row_lem (made_sound (λ x. op (br_if x)) (unsigned_reads 32) (λ w x. is_br_if))
     (a_row_lem (bare_sound is_return)
     (a_row_lem (bare_sound is_drop)
     (a_row_lem (made_sound (λ x. op (local_get x)) (unsigned_reads 32) (λ w x. is_local_get))
-    (a_row_lem (made_sound (λ x. op (local-set x)) (unsigned_reads 32) (λ w x. is_local_set))
+    (a_row_lem (made_sound (λ x. op (local_set x)) (unsigned_reads 32) (λ w x. is_local_set))
     (a_row_lem (made_sound (λ x. op (local_tee x)) (unsigned_reads 32) (λ w x. is_local_tee))
     (a_row_lem (made_sound (λ n. op (i32_const (bits32 n))) (signed_reads 32) (λ w x. is_i32_const))
     (a_row_lem (made_sound (λ n. op (i64_const (bits64 n))) (signed_reads 64) (λ w x. is_i64_const))
@@ -86,12 +86,12 @@ first_lines =
     (a_row_lem (bare_sound is_ref_is_null)
     (a_row_lem (bare_sound is_ref_eq)
     (a_row_lem (bare_sound is_ref_as_non_null)
-    no-row))))))))))))))))))))
+    no_row_lem))))))))))))))))))))
 
 fb_lines : Lines FollowsFB after_fb
 fb_lines =
     (a_row_lem (made_sound (λ x. op (struct_new x)) (unsigned_reads 32) (λ w x. is_struct_new))
-    (a_row_lem (made_sound (λ x. op (struct-new-default x)) (unsigned_reads 32) (λ w x. is_struct_new_default))
+    (a_row_lem (made_sound (λ x. op (struct_new_default x)) (unsigned_reads 32) (λ w x. is_struct_new_default))
     (a_row_lem (two_sound struct_get (λ w x y. is_struct_get))
     (a_row_lem (two_sound struct_set (λ w x y. is_struct_set))
     (a_row_lem (made_sound (λ x. op (ref_test false x)) heap_reads (λ w x. is_ref_test))
@@ -100,14 +100,14 @@ fb_lines =
     (a_row_lem (made_sound (λ x. op (ref_cast true x)) heap_reads (λ w x. is_ref_cast_null))
     (a_row_lem (made_sound (λ x. op (br_on_cast x)) cast_reads (λ w x. is_br_on_cast))
     (a_row_lem (made_sound (λ x. op (br_on_cast_fail x)) cast_reads (λ w x. is_br_on_cast_fail))
-    (a_row_lem (made_sound (λ x. op (struct-new-desc x)) (unsigned_reads 32) (λ w x. is_struct_new_desc))
-    (a_row_lem (made_sound (λ x. op (struct-new-default-desc x)) (unsigned_reads 32) (λ w x. is_struct_new_default_desc))
+    (a_row_lem (made_sound (λ x. op (struct_new_desc x)) (unsigned_reads 32) (λ w x. is_struct_new_desc))
+    (a_row_lem (made_sound (λ x. op (struct_new_default_desc x)) (unsigned_reads 32) (λ w x. is_struct_new_default_desc))
     (a_row_lem (made_sound (λ x. op (ref_get_desc x)) (unsigned_reads 32) (λ w x. is_ref_get_desc))
     (a_row_lem (made_sound (λ x. op (ref_cast_desc_eq false x)) heap_reads (λ w x. is_ref_cast_desc_eq))
     (a_row_lem (made_sound (λ x. op (ref_cast_desc_eq true x)) heap_reads (λ w x. is_ref_cast_desc_eq_null))
     (a_row_lem (made_sound (λ x. op (br_on_cast_desc_eq x)) cast_reads (λ w x. is_br_on_cast_desc_eq))
     (a_row_lem (made_sound (λ x. op (br_on_cast_desc_eq_fail x)) cast_reads (λ w x. is_br_on_cast_desc_eq_fail))
-    no-row)))))))))))))))))
+    no_row_lem)))))))))))))))))
 
 -- from the reader to the writing
 
@@ -225,8 +225,8 @@ fb_read at there number rest (is_ref_cast_desc_eq x) = rw (there, number, heap_r
 fb_read at there number rest (is_ref_cast_desc_eq_null x) = rw (there, number, heap_reads.complete rest x tt)
 fb_read at there number rest (is_br_on_cast_desc_eq x) = rw (there, number, cast_reads.complete rest x tt)
 fb_read at there number rest (is_br_on_cast_desc_eq_fail x) = rw (there, number, cast_reads.complete rest x tt)
-fb_read at there number rest (is_struct_get (two-numbers x y)) = rw (there, number) (two_read struct_get rest x y)
-fb_read at there number rest (is_struct_set (two-numbers x y)) = rw (there, number) (two_read struct_set rest x y)
+fb_read at there number rest (is_struct_get (two_numbers x y)) = rw (there, number) (two_read struct_get rest x y)
+fb_read at there number rest (is_struct_set (two_numbers x y)) = rw (there, number) (two_read struct_set rest x y)
 
 instruction_read : {s w : List ℕ} {at next : ℕ} {i : Instr} → Between s at w next → WritesInstruction w i → instr_at s at ≡ got i next
 instruction_read lies (by_first_byte f) = first_read lies f

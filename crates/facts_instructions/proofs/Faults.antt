@@ -26,7 +26,7 @@ use Rattle.facts_sections.proofs.Readers.{by_cond, by_given}
 use Rattle.facts_sections.proofs.NumberReading.{unsigned_reads, signed_reads}
 use Rattle.facts_sections.proofs.NumberFaults.{every-number}
 use Rattle.facts_sections.proofs.ValueReading.{code_of, heap_reads}
-use Rattle.facts_instructions.specs.Faults.{NumberFault, cut_short, goes_on-and-on, not_in_range, byte_to_spare, UnsignedFault, SignedFault, Numbered, HeapFault, heap_missing, exact_number, type-number_fault, negative-type, ValFault, val_missing, nullable-heap, non_null_heap, val_not-listed, BlockTypeFault, block_type_fault, CastFault, flags_missing, flags_not-listed, label_fault, source_fault, target_fault, FaultsAre, ItemFaults}
+use Rattle.facts_instructions.specs.Faults.{NumberFault, cut_short, goes_on_and_on, not_in_range, byte_to_spare, UnsignedFault, SignedFault, Numbered, HeapFault, heap_missing, exact_number, type_number_fault, negative_type, ValFault, val_missing, nullable_heap, non_null_heap, val_not_listed, BlockTypeFault, block_type_fault, CastFault, flags_missing, flags_not_listed, label_fault, source_fault, target_fault, FaultsAre, ItemFaults}
 
 -- refusals, taken apart
 
@@ -61,7 +61,7 @@ module _ {A : Type 0} {W : List ℕ → A → Type 0} {Range : ℕ → A → Typ
   number-no width s at {n} {p} e = let (place, which) = faults.only width s at n p e in go place which e
     where
       bad : (GoOn s at (greatest_length width)) ⊎ (OutOfRange W Range width s at) → NumberFault W Range width s at bad_number at
-      bad (inl on) = goes_on-and-on on
+      bad (inl on) = goes_on_and_on on
       bad (inr out) = not_in_range out
 
       go : {n p : ℕ} → p ≡ at → (n ≡ bytes_end) ⊎ ((n ≡ bad_number) ⊎ (n ≡ padded)) → read width s at ≡ refused n p → NumberFault W Range width s at n p
@@ -71,7 +71,7 @@ module _ {A : Type 0} {W : List ℕ → A → Type 0} {Range : ℕ → A → Typ
 
   pub no_number : {width : ℕ} {s : List ℕ} {at n p : ℕ} → NumberFault W Range width s at n p → read width s at ≡ refused n p
   no_number {width} {s} {at} (cut_short e) = (faults.ends width s at).1 e
-  no_number {width} {s} {at} (goes_on-and-on g) = (faults.bad width s at).1 (inl g)
+  no_number {width} {s} {at} (goes_on_and_on g) = (faults.bad width s at).1 (inl g)
   no_number {width} {s} {at} (not_in_range o) = (faults.bad width s at).1 (inr o)
   no_number {width} {s} {at} (byte_to_spare h) = (faults.spare width s at).1 h
 
@@ -100,7 +100,7 @@ heap-no s at {n} {p} e =
     by_given (abstract_of b) (λ a named h. absurd (got_is_not_refused h))
     (λ unnamed h.
     let numbered : Numbered b = record { not_exact = eqb-false b 0x62 other; not_abstract = no_code unnamed } in
-    by_then (s33 s at) (type_number at) (λ bad. type-number_fault there numbered (number-no every-number.wholes 33 s at bad))
+    by_then (s33 s at) (type_number at) (λ bad. type_number_fault there numbered (number-no every-number.wholes 33 s at bad))
     (λ w next read i. negative b there numbered w next read i) h)
     g)
     f)
@@ -110,15 +110,15 @@ heap-no s at {n} {p} e =
     negative b there numbered (plus x) next read i = absurd (got_is_not_refused i)
     negative b there numbered (minus v) next read i =
         let f = (signed_reads 33).sound s at read in
-        told_as (HeapFault s at) {A = Heap} i (negative-type there numbered f.lies f.writes)
+        told_as (HeapFault s at) {A = Heap} i (negative_type there numbered f.lies f.writes)
 
 pub no-heap : {s : List ℕ} {at n p : ℕ} → HeapFault s at n p → heap_at s at ≡ refused n p
 unfolding heap_at
 no-heap (heap_missing e) = rw e
 no-heap (exact_number there f) = rw (there, no_number every-number.naturals f)
-no-heap (type-number_fault {b = b} there numbered f) =
+no-heap (type_number_fault {b = b} there numbered f) =
     rw (there, ne_eqb b 0x62 numbered.not_exact, code-none b numbered.not_abstract, no_number every-number.wholes f)
-no-heap (negative-type {b = b} there numbered lies w) =
+no-heap (negative_type {b = b} there numbered lies w) =
     rw (there, ne_eqb b 0x62 numbered.not_exact, code-none b numbered.not_abstract, (signed_reads 33).complete lies w tt)
 
 -- value types
@@ -132,7 +132,7 @@ val_no s at e =
     (λ unnumbered g.
     by_cond (eqb b 0x63)
     (λ same h.
-    by_then (heap_at s (at + 1)) _ (λ bad. nullable-heap (there ∙ ap some (eqb-true b 0x63 same)) (heap-no s (at + 1) bad)) (λ x next read i. absurd (got_is_not_refused i)) h)
+    by_then (heap_at s (at + 1)) _ (λ bad. nullable_heap (there ∙ ap some (eqb-true b 0x63 same)) (heap-no s (at + 1) bad)) (λ x next read i. absurd (got_is_not_refused i)) h)
     (λ not-63 h.
     by_cond (eqb b 0x64)
     (λ same i.
@@ -141,7 +141,7 @@ val_no s at e =
     by_given (abstract_of b) (λ a named j. absurd (got_is_not_refused j))
     (λ unnamed j.
     told_as (ValFault s at) j
-    (val_not-listed there (λ q. none_is_not-some (sym unnumbered ∙ ap number_of q)) (λ q. none_is_not-some (sym unnumbered ∙ ap number_of q))
+    (val_not_listed there (λ q. none_is_not-some (sym unnumbered ∙ ap number_of q)) (λ q. none_is_not-some (sym unnumbered ∙ ap number_of q))
     (λ q. none_is_not-some (sym unnumbered ∙ ap number_of q)) (λ q. none_is_not-some (sym unnumbered ∙ ap number_of q))
     (eqb-false b 0x63 not-63) (eqb-false b 0x64 not-64) (no_code unnamed)))
     i)
@@ -153,9 +153,9 @@ val_no s at e =
 no_val : {s : List ℕ} {at n p : ℕ} → ValFault s at n p → val_at s at ≡ refused n p
 unfolding val_at
 no_val (val_missing e) = rw e
-no_val (nullable-heap there f) = rw (there, no-heap f)
+no_val (nullable_heap there f) = rw (there, no-heap f)
 no_val (non_null_heap there f) = rw (there, no-heap f)
-no_val (val_not-listed {b = b} there a c d e f g h) =
+no_val (val_not_listed {b = b} there a c d e f g h) =
     rw (there, ne_eqb b 0x7F a, ne_eqb b 0x7E c, ne_eqb b 0x7D d, ne_eqb b 0x7C e, ne_eqb b 0x63 f, ne_eqb b 0x64 g, code-none b h)
 
 -- blocks' types
@@ -207,14 +207,14 @@ cast_no s at e =
     (λ target stop second j. absurd (got_is_not_refused j)) i)
     h)
     g)
-    (λ many g. told_as (CastFault s at) g (flags_not-listed there (ltb-false b 4 many)))
+    (λ many g. told_as (CastFault s at) g (flags_not_listed there (ltb-false b 4 many)))
     f)
     e
 
 pub no_cast : {s : List ℕ} {at n p : ℕ} → CastFault s at n p → cast_at s at ≡ refused n p
 unfolding cast_at
 no_cast (flags_missing e) = rw e
-no_cast (flags_not-listed {b = b} there many) = rw (there, le-ltb b 4 many)
+no_cast (flags_not_listed {b = b} there many) = rw (there, le-ltb b 4 many)
 no_cast (label_fault {b = b} there few f) = rw (there, lt-ltb b 4 few, no_number every-number.naturals f)
 no_cast (source_fault {b = b} there few lies l f) = rw (there, lt-ltb b 4 few, (unsigned_reads 32).complete lies l tt, no-heap f)
 no_cast (target_fault {b = b} there few lies l more h f) = rw (there, lt-ltb b 4 few, (unsigned_reads 32).complete lies l tt, heap_reads.complete more h tt, no-heap f)

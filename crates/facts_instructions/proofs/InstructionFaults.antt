@@ -14,7 +14,7 @@ use Rattle.scope.specs.Refusals.{bytes_end, not_listed}
 use Rattle.scope.specs.Reading.{Read, got, refused, Reader, given, then}
 use Rattle.scope.specs.Numbers.{u32, bits32, bits64, little_endian, float_bytes}
 use Rattle.scope.specs.Numeric.{Numeric, numeric_of}
-use Rattle.scope.specs.Instructions.{Op, br, br-if, local_get, local-set, local_tee, i32_const, i64_const, f32_const, f64_const, ref_null, struct_new, struct-new-default, struct_get, struct_set, ref_test, ref_cast, br_on_cast, br_on_cast_fail, struct-new-desc, struct-new-default-desc, ref_get_desc, ref_cast_desc_eq, br_on_cast_desc_eq, br_on_cast_desc_eq_fail, Instr, block, loop, op, having_two, first_bytes, after_fb, find, instr_at}
+use Rattle.scope.specs.Instructions.{Op, br, br_if, local_get, local_set, local_tee, i32_const, i64_const, f32_const, f64_const, ref_null, struct_new, struct_new_default, struct_get, struct_set, ref_test, ref_cast, br_on_cast, br_on_cast_fail, struct_new_desc, struct_new_default_desc, ref_get_desc, ref_cast_desc_eq, br_on_cast_desc_eq, br_on_cast_desc_eq_fail, Instr, block, loop, op, having_two, first_bytes, after_fb, find, instr_at}
 use Rattle.scope.proofs.Truths.{none_is_not-some}
 use Rattle.scope.proofs.Forward.{float_inside}
 use Rattle.facts_codes.specs.Numeric.{Among, is_first_lem, is_later}
@@ -23,7 +23,7 @@ use Rattle.facts_sections.proofs.Readers.{by_cond, by_given}
 use Rattle.facts_sections.proofs.NumberReading.{unsigned_reads}
 use Rattle.facts_sections.proofs.NumberFaults.{every-number}
 use Rattle.facts_instructions.specs.Faults.{FloatFault, float_cut, FaultsAre}
-use Rattle.facts_instructions.specs.InstructionFaults.{first_codes, numbers_after_fb, TwoFault, first-number, second-number, ImmediateFault, of_block_lem, of_loop_lem, of_br, of_br_if, of_local_get, of_local_set, of_local_tee, of_i32_const, of_i64_const, of_f32_const, of_f64_const, of_ref_null, ImmediateFaultFB, of_struct_new, of_struct_new_default, of_struct_get, of_struct_set, of_ref_test, of_ref_test_null, of_ref_cast, of_ref_cast_null, of_br_on_cast, of_br_on_cast_fail, of_struct_new_desc, of_struct_new_default_desc, of_ref_get_desc, of_ref_cast_desc_eq, of_ref_cast_desc_eq_null, of_br_on_cast_desc_eq, of_br_on_cast_desc_eq_fail, InstructionFault, code_missing, code-not-listed, in_immediates, number-after_FB, FB-not-listed, in_immediates_after_FB, InstructionFaults}
+use Rattle.facts_instructions.specs.InstructionFaults.{first_codes, numbers_after_fb, TwoFault, first_number, second_number, ImmediateFault, of_block_lem, of_loop_lem, of_br, of_br_if, of_local_get, of_local_set, of_local_tee, of_i32_const, of_i64_const, of_f32_const, of_f64_const, of_ref_null, ImmediateFaultFB, of_struct_new, of_struct_new_default, of_struct_get, of_struct_set, of_ref_test, of_ref_test_null, of_ref_cast, of_ref_cast_null, of_br_on_cast, of_br_on_cast_fail, of_struct_new_desc, of_struct_new_default_desc, of_ref_get_desc, of_ref_cast_desc_eq, of_ref_cast_desc_eq_null, of_br_on_cast_desc_eq, of_br_on_cast_desc_eq_fail, InstructionFault, code_missing, code_not_listed, in_immediates, number_after_FB, FB_not_listed, in_immediates_after_FB, InstructionFaults}
 use Rattle.facts_instructions.proofs.Exactly.{Kinds, numeric_there}
 use Rattle.facts_instructions.proofs.Faults.{got_is_not_refused, told_as, by_then, by_byte, number-no, no_number, heap-no, no-heap, block_no, no_block, cast_no, no_cast}
 
@@ -73,24 +73,24 @@ made_no {one = one} f tells means s at n p e =
 two-no : {F : List ℕ → ℕ → ℕ → ℕ → Type 0} (f : ℕ → ℕ → Op) → ((s : List ℕ) (at n p : ℕ) → TwoFault s at n p → F s at n p)
     → (s : List ℕ) (at n p : ℕ) → having_two f s at ≡ refused n p → F s at n p
 two-no f means s at n p e =
-    by_then (u32 s at) _ (λ bad. means s at n p (first-number (number-no every-number.naturals 32 s at bad)))
+    by_then (u32 s at) _ (λ bad. means s at n p (first_number (number-no every-number.naturals 32 s at bad)))
     (λ x next first g.
     let m = (unsigned_reads 32).sound s at first in
-    by_then (u32 s next) _ (λ bad. means s at n p (second-number m.lies m.writes (number-no every-number.naturals 32 s next bad)))
+    by_then (u32 s next) _ (λ bad. means s at n p (second_number m.lies m.writes (number-no every-number.naturals 32 s next bad)))
     (λ y stop second h. absurd (got_is_not_refused h)) g)
     e
 
 no-two : (f : ℕ → ℕ → Op) {s : List ℕ} {at n p : ℕ} → TwoFault s at n p → having_two f s at ≡ refused n p
-no-two f (first-number bad) = rw (no_number every-number.naturals bad)
-no-two f (second-number lies x bad) = rw ((unsigned_reads 32).complete lies x tt, no_number every-number.naturals bad)
+no-two f (first_number bad) = rw (no_number every-number.naturals bad)
+no-two f (second_number lies x bad) = rw ((unsigned_reads 32).complete lies x tt, no_number every-number.naturals bad)
 
 data Lines (F : List ℕ → ℕ → ℕ → ℕ → ℕ → Type 0) : List (ℕ × Reader Instr) → Type 0 where
-  no-row : Lines F []
+  no_row_lem : Lines F []
   a_row_lem : {b : ℕ} {r : Reader Instr} {more : List (ℕ × Reader Instr)} → ((s : List ℕ) (at n p : ℕ) → r s at ≡ refused n p → F s at b n p) → Lines F more → Lines F ((b, r) ∷ more)
 
 line_no : {F : List ℕ → ℕ → ℕ → ℕ → ℕ → Type 0} {rows : List (ℕ × Reader Instr)} → Lines F rows → (b : ℕ) (r : Reader Instr) → find b rows ≡ some r
     → (s : List ℕ) (at n p : ℕ) → r s at ≡ refused n p → F s at b n p
-line_no no-row b r e = absurd (none_is_not-some e)
+line_no no_row_lem b r e = absurd (none_is_not-some e)
 line_no {F} (a_row_lem {b = a} {r = q} {more = rows} tells more) b r e = go (eqb b a) refl e (λ f. line_no more b r f)
   where
     go : (t : Bool) → eqb b a ≡ t → cond t (some q) (find b rows) ≡ some r → (find b rows ≡ some r → (s : List ℕ) (at n p : ℕ) → r s at ≡ refused n p → F s at b n p)
@@ -108,11 +108,11 @@ first_lines =
     (a_row_lem (made_no loop (λ s at n p. block_no s at) (λ s at n p. of_loop_lem))
     (a_row_lem (λ s at n p e. absurd (got_is_not_refused e))
     (a_row_lem (made_no (λ x. op (br x)) (λ s at n p. number-no every-number.naturals 32 s at) (λ s at n p. of_br))
-    (a_row_lem (made_no (λ x. op (br-if x)) (λ s at n p. number-no every-number.naturals 32 s at) (λ s at n p. of_br_if))
+    (a_row_lem (made_no (λ x. op (br_if x)) (λ s at n p. number-no every-number.naturals 32 s at) (λ s at n p. of_br_if))
     (a_row_lem (λ s at n p e. absurd (got_is_not_refused e))
     (a_row_lem (λ s at n p e. absurd (got_is_not_refused e))
     (a_row_lem (made_no (λ x. op (local_get x)) (λ s at n p. number-no every-number.naturals 32 s at) (λ s at n p. of_local_get))
-    (a_row_lem (made_no (λ x. op (local-set x)) (λ s at n p. number-no every-number.naturals 32 s at) (λ s at n p. of_local_set))
+    (a_row_lem (made_no (λ x. op (local_set x)) (λ s at n p. number-no every-number.naturals 32 s at) (λ s at n p. of_local_set))
     (a_row_lem (made_no (λ x. op (local_tee x)) (λ s at n p. number-no every-number.naturals 32 s at) (λ s at n p. of_local_tee))
     (a_row_lem (made_no (λ n. op (i32_const (bits32 n))) (λ s at n p. number-no every-number.wholes 32 s at) (λ s at n p. of_i32_const))
     (a_row_lem (made_no (λ n. op (i64_const (bits64 n))) (λ s at n p. number-no every-number.wholes 64 s at) (λ s at n p. of_i64_const))
@@ -122,12 +122,12 @@ first_lines =
     (a_row_lem (λ s at n p e. absurd (got_is_not_refused e))
     (a_row_lem (λ s at n p e. absurd (got_is_not_refused e))
     (a_row_lem (λ s at n p e. absurd (got_is_not_refused e))
-    no-row))))))))))))))))))))
+    no_row_lem))))))))))))))))))))
 
 fb_lines : Lines (λ s at b n p. ImmediateFaultFB s at b n p) after_fb
 fb_lines =
     (a_row_lem (made_no (λ x. op (struct_new x)) (λ s at n p. number-no every-number.naturals 32 s at) (λ s at n p. of_struct_new))
-    (a_row_lem (made_no (λ x. op (struct-new-default x)) (λ s at n p. number-no every-number.naturals 32 s at) (λ s at n p. of_struct_new_default))
+    (a_row_lem (made_no (λ x. op (struct_new_default x)) (λ s at n p. number-no every-number.naturals 32 s at) (λ s at n p. of_struct_new_default))
     (a_row_lem (two-no struct_get (λ s at n p. of_struct_get))
     (a_row_lem (two-no struct_set (λ s at n p. of_struct_set))
     (a_row_lem (made_no (λ x. op (ref_test false x)) (λ s at n p. heap-no s at) (λ s at n p. of_ref_test))
@@ -136,14 +136,14 @@ fb_lines =
     (a_row_lem (made_no (λ x. op (ref_cast true x)) (λ s at n p. heap-no s at) (λ s at n p. of_ref_cast_null))
     (a_row_lem (made_no (λ x. op (br_on_cast x)) (λ s at n p. cast_no s at) (λ s at n p. of_br_on_cast))
     (a_row_lem (made_no (λ x. op (br_on_cast_fail x)) (λ s at n p. cast_no s at) (λ s at n p. of_br_on_cast_fail))
-    (a_row_lem (made_no (λ x. op (struct-new-desc x)) (λ s at n p. number-no every-number.naturals 32 s at) (λ s at n p. of_struct_new_desc))
-    (a_row_lem (made_no (λ x. op (struct-new-default-desc x)) (λ s at n p. number-no every-number.naturals 32 s at) (λ s at n p. of_struct_new_default_desc))
+    (a_row_lem (made_no (λ x. op (struct_new_desc x)) (λ s at n p. number-no every-number.naturals 32 s at) (λ s at n p. of_struct_new_desc))
+    (a_row_lem (made_no (λ x. op (struct_new_default_desc x)) (λ s at n p. number-no every-number.naturals 32 s at) (λ s at n p. of_struct_new_default_desc))
     (a_row_lem (made_no (λ x. op (ref_get_desc x)) (λ s at n p. number-no every-number.naturals 32 s at) (λ s at n p. of_ref_get_desc))
     (a_row_lem (made_no (λ x. op (ref_cast_desc_eq false x)) (λ s at n p. heap-no s at) (λ s at n p. of_ref_cast_desc_eq))
     (a_row_lem (made_no (λ x. op (ref_cast_desc_eq true x)) (λ s at n p. heap-no s at) (λ s at n p. of_ref_cast_desc_eq_null))
     (a_row_lem (made_no (λ x. op (br_on_cast_desc_eq x)) (λ s at n p. cast_no s at) (λ s at n p. of_br_on_cast_desc_eq))
     (a_row_lem (made_no (λ x. op (br_on_cast_desc_eq_fail x)) (λ s at n p. cast_no s at) (λ s at n p. of_br_on_cast_desc_eq_fail))
-    no-row)))))))))))))))))
+    no_row_lem)))))))))))))))))
 
 -- not listed
 
@@ -196,17 +196,17 @@ instruction_no s at {n} {p} e =
     by_cond (eqb b 0xFB)
     (λ same g.
     let fb : get_elem? s at ≡ some 0xFB = there ∙ ap some (eqb-true b 0xFB same) in
-    by_then (u32 s (at + 1)) _ (λ bad. number-after_FB fb (number-no every-number.naturals 32 s (at + 1) bad))
+    by_then (u32 s (at + 1)) _ (λ bad. number_after_FB fb (number-no every-number.naturals 32 s (at + 1) bad))
     (λ k next number h.
     let m = (unsigned_reads 32).sound s (at + 1) number in
     by_given (find k after_fb) (λ r line i. in_immediates_after_FB fb m.lies m.writes (line_no fb_lines k r line s next n p i))
-    (λ absent i. told_as (InstructionFault s at) i (FB-not-listed fb m.lies m.writes (never_among k after_fb absent))) h)
+    (λ absent i. told_as (InstructionFault s at) i (FB_not_listed fb m.lies m.writes (never_among k after_fb absent))) h)
     g)
     (λ other g.
     by_given (find b first_bytes) (λ r line h. in_immediates there (line_no first_lines b r line s (at + 1) n p h))
     (λ absent h.
     by_given (numeric_of b) (λ kinds listed i. absurd (got_is_not_refused i))
-    (λ none-such i. told_as (InstructionFault s at) i (code-not-listed there (eqb-false b 0xFB other) (never_among b first_bytes absent) (not-numeric b none-such))) h)
+    (λ none-such i. told_as (InstructionFault s at) i (code_not_listed there (eqb-false b 0xFB other) (never_among b first_bytes absent) (not-numeric b none-such))) h)
     g)
     f)
     e
@@ -251,10 +251,10 @@ no-after at there number (of_br_on_cast_desc_eq_fail f) = rw (there, number, no_
 no_instruction : {s : List ℕ} {at n p : ℕ} → InstructionFault s at n p → instr_at s at ≡ refused n p
 unfolding instr_at
 no_instruction (code_missing e) = rw e
-no_instruction (code-not-listed {b = b} there other never out) = rw (there, ne_eqb b 0xFB other, no_line b first_bytes never, numeric-none b out)
+no_instruction (code_not_listed {b = b} there other never out) = rw (there, ne_eqb b 0xFB other, no_line b first_bytes never, numeric-none b out)
 no_instruction {at = at} (in_immediates there f) = no-first at there f
-no_instruction (number-after_FB there f) = rw (there, no_number every-number.naturals f)
-no_instruction (FB-not-listed {k = k} there lies w never) = rw (there, (unsigned_reads 32).complete lies w tt, no_line k after_fb never)
+no_instruction (number_after_FB there f) = rw (there, no_number every-number.naturals f)
+no_instruction (FB_not_listed {k = k} there lies w never) = rw (there, (unsigned_reads 32).complete lies w tt, no_line k after_fb never)
 no_instruction {at = at} (in_immediates_after_FB there lies w f) = no-after at there ((unsigned_reads 32).complete lies w tt) f
 
 pub instruction_faults : InstructionFaults

@@ -22,7 +22,7 @@ use Rattle.facts_sections.proofs.Between.{join, split, end_is}
 use Rattle.facts_sections.proofs.Readers.{Found, Reads, AnySize, refused_is_not_got, by_cond, by_given, then_got, byte_got, found_got, this_byte}
 use Rattle.facts_sections.proofs.NumberReading.{unsigned_reads}
 use Rattle.facts_sections.proofs.ValueReading.{heap_reads, val_reads}
-use Rattle.facts_instructions.specs.Writing.{LowestFirst, no_byte, low_byte, FloatBytes, WritesBlockType, no_result, one_result, Flags, flags_0, flags_1, flags_2, flags_3, WritesCast, a_cast, WritesTwo, two-numbers}
+use Rattle.facts_instructions.specs.Writing.{LowestFirst, no_byte, low_byte, FloatBytes, WritesBlockType, no_result, one_result, Flags, flags_0, flags_1, flags_2, flags_3, WritesCast, a_cast, WritesTwo, two_numbers}
 
 -- floats
 

@@ -17,7 +17,7 @@ use Rattle.facts_sections.specs.NumberFaults.{EndsInside, OutOfRange, HasSpare, 
 -- a number: cut, too long or out of range, with a byte to spare
 pub data NumberFault {A : Type 0} (W : List ℕ → A → Type 0) (Range : ℕ → A → Type 0) (width : ℕ) (s : List ℕ) (at : ℕ) : ℕ → ℕ → Type 0 where
   cut_short : EndsInside width s at → NumberFault W Range width s at bytes_end at
-  goes_on-and-on : GoOn s at (greatest_length width) → NumberFault W Range width s at bad_number at
+  goes_on_and_on : GoOn s at (greatest_length width) → NumberFault W Range width s at bad_number at
   not_in_range : OutOfRange W Range width s at → NumberFault W Range width s at bad_number at
   byte_to_spare : HasSpare W Range width s at → NumberFault W Range width s at padded at
 
@@ -40,15 +40,15 @@ pub record Numbered (b : ℕ) : Type 0 where
 pub data HeapFault (s : List ℕ) (at : ℕ) : ℕ → ℕ → Type 0 where
   heap_missing : get_elem? s at ≡ none → HeapFault s at bytes_end at
   exact_number : {number place : ℕ} → get_elem? s at ≡ some 0x62 → UnsignedFault 32 s (at + 1) number place → HeapFault s at number place
-  type-number_fault : {b number place : ℕ} → get_elem? s at ≡ some b → Numbered b → SignedFault 33 s at number place → HeapFault s at number place
-  negative-type : {b v next : ℕ} {w : List ℕ} → get_elem? s at ≡ some b → Numbered b → Between s at w next → Signed 33 w (minus v) → HeapFault s at not_listed at
+  type_number_fault : {b number place : ℕ} → get_elem? s at ≡ some b → Numbered b → SignedFault 33 s at number place → HeapFault s at number place
+  negative_type : {b v next : ℕ} {w : List ℕ} → get_elem? s at ≡ some b → Numbered b → Between s at w next → Signed 33 w (minus v) → HeapFault s at not_listed at
 
 -- a value type
 pub data ValFault (s : List ℕ) (at : ℕ) : ℕ → ℕ → Type 0 where
   val_missing : get_elem? s at ≡ none → ValFault s at bytes_end at
-  nullable-heap : {number place : ℕ} → get_elem? s at ≡ some 0x63 → HeapFault s (at + 1) number place → ValFault s at number place
+  nullable_heap : {number place : ℕ} → get_elem? s at ≡ some 0x63 → HeapFault s (at + 1) number place → ValFault s at number place
   non_null_heap : {number place : ℕ} → get_elem? s at ≡ some 0x64 → HeapFault s (at + 1) number place → ValFault s at number place
-  val_not-listed : {b : ℕ} → get_elem? s at ≡ some b → ¬ (b ≡ 0x7F) → ¬ (b ≡ 0x7E) → ¬ (b ≡ 0x7D) → ¬ (b ≡ 0x7C) → ¬ (b ≡ 0x63) → ¬ (b ≡ 0x64)
+  val_not_listed : {b : ℕ} → get_elem? s at ≡ some b → ¬ (b ≡ 0x7F) → ¬ (b ≡ 0x7E) → ¬ (b ≡ 0x7D) → ¬ (b ≡ 0x7C) → ¬ (b ≡ 0x63) → ¬ (b ≡ 0x64)
       → ((a : Abstract) → ¬ (b ≡ (row a).code)) → ValFault s at not_listed at
 
 -- a block's type
@@ -58,7 +58,7 @@ pub data BlockTypeFault (s : List ℕ) (at : ℕ) : ℕ → ℕ → Type 0 where
 -- a cast: flags, label, source, target; "above 3 is 3, said before the label is read"
 pub data CastFault (s : List ℕ) (at : ℕ) : ℕ → ℕ → Type 0 where
   flags_missing : get_elem? s at ≡ none → CastFault s at bytes_end at
-  flags_not-listed : {b : ℕ} → get_elem? s at ≡ some b → 4 ≤ b → CastFault s at not_listed at
+  flags_not_listed : {b : ℕ} → get_elem? s at ≡ some b → 4 ≤ b → CastFault s at not_listed at
   label_fault : {b number place : ℕ} → get_elem? s at ≡ some b → b < 4 → UnsignedFault 32 s (at + 1) number place → CastFault s at number place
   source_fault : {b l next number place : ℕ} {w : List ℕ} → get_elem? s at ≡ some b → b < 4 → Between s (at + 1) w next → Unsigned 32 w l
       → HeapFault s next number place → CastFault s at number place

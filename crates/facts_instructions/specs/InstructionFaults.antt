@@ -22,8 +22,8 @@ numbers_after_fb =
 
 -- two numbers
 pub data TwoFault (s : List ℕ) (at : ℕ) : ℕ → ℕ → Type 0 where
-  first-number : {number place : ℕ} → UnsignedFault 32 s at number place → TwoFault s at number place
-  second-number : {x next number place : ℕ} {w : List ℕ} → Between s at w next → Unsigned 32 w x → UnsignedFault 32 s next number place → TwoFault s at number place
+  first_number : {number place : ℕ} → UnsignedFault 32 s at number place → TwoFault s at number place
+  second_number : {x next number place : ℕ} {w : List ℕ} → Between s at w next → Unsigned 32 w x → UnsignedFault 32 s next number place → TwoFault s at number place
 
 -- what follows a first byte; an instruction without immediates has no fault there
 pub data ImmediateFault (s : List ℕ) (at : ℕ) : ℕ → ℕ → ℕ → Type 0 where
@@ -62,10 +62,10 @@ pub data ImmediateFaultFB (s : List ℕ) (at : ℕ) : ℕ → ℕ → ℕ → Ty
 
 pub data InstructionFault (s : List ℕ) (at : ℕ) : ℕ → ℕ → Type 0 where
   code_missing : get_elem? s at ≡ none → InstructionFault s at bytes_end at
-  code-not-listed : {b : ℕ} → get_elem? s at ≡ some b → ¬ (b ≡ 0xFB) → ¬ Among b first_codes → (b < 0x45) ⊎ (0xC4 < b) → InstructionFault s at not_listed at
+  code_not_listed : {b : ℕ} → get_elem? s at ≡ some b → ¬ (b ≡ 0xFB) → ¬ Among b first_codes → (b < 0x45) ⊎ (0xC4 < b) → InstructionFault s at not_listed at
   in_immediates : {b number place : ℕ} → get_elem? s at ≡ some b → ImmediateFault s (at + 1) b number place → InstructionFault s at number place
-  number-after_FB : {number place : ℕ} → get_elem? s at ≡ some 0xFB → UnsignedFault 32 s (at + 1) number place → InstructionFault s at number place
-  FB-not-listed : {k next : ℕ} {w : List ℕ} → get_elem? s at ≡ some 0xFB → Between s (at + 1) w next → Unsigned 32 w k → ¬ Among k numbers_after_fb
+  number_after_FB : {number place : ℕ} → get_elem? s at ≡ some 0xFB → UnsignedFault 32 s (at + 1) number place → InstructionFault s at number place
+  FB_not_listed : {k next : ℕ} {w : List ℕ} → get_elem? s at ≡ some 0xFB → Between s (at + 1) w next → Unsigned 32 w k → ¬ Among k numbers_after_fb
       → InstructionFault s at not_listed (at + 1)
   in_immediates_after_FB : {k next number place : ℕ} {w : List ℕ} → get_elem? s at ≡ some 0xFB → Between s (at + 1) w next → Unsigned 32 w k
       → ImmediateFaultFB s next k number place → InstructionFault s at number place

@@ -3,7 +3,7 @@
 use Rattle.std.specs.Prelude.{ℕ, ◌+◌, ◌*◌, ◌≤◌, ◌≡◌, Bool, true, false, List, [], ◌∷◌, ◌++◌, length}
 use Rattle.scope.specs.Syntax.{Heap, Val}
 use Rattle.scope.specs.Numbers.{Whole, bits32, bits64}
-use Rattle.scope.specs.Instructions.{Cast, Op, unreachable, nop, return, drop_value, br, br-if, local_get, local-set, local_tee, i32_const, i64_const, f32_const, f64_const, numeric, ref_null, ref-is-null, ref-eq, ref-as-non-null, struct_new, struct-new-default, struct_get, struct_set, ref_test, ref_cast, br_on_cast, br_on_cast_fail, struct-new-desc, struct-new-default-desc, ref_get_desc, ref_cast_desc_eq, br_on_cast_desc_eq, br_on_cast_desc_eq_fail, Instr, block, loop, end, op}
+use Rattle.scope.specs.Instructions.{Cast, Op, unreachable, nop, return, drop_value, br, br_if, local_get, local_set, local_tee, i32_const, i64_const, f32_const, f64_const, numeric, ref_null, ref_is_null, ref_eq, ref_as_non_null, struct_new, struct_new_default, struct_get, struct_set, ref_test, ref_cast, br_on_cast, br_on_cast_fail, struct_new_desc, struct_new_default_desc, ref_get_desc, ref_cast_desc_eq, br_on_cast_desc_eq, br_on_cast_desc_eq_fail, Instr, block, loop, end, op}
 use Rattle.facts_sections.specs.Writing.{Unsigned, Signed, WritesHeap, WritesVal}
 
 -- "a float's bytes being one item": so many, the lowest first
@@ -34,7 +34,7 @@ pub data WritesCast : List ℕ → Cast → Type 0 where
       → WritesCast (b ∷ w ++ (u ++ v)) (record { label = l; source_null = source_null; source = source; target_null = target_null; target = target })
 
 pub data WritesTwo : List ℕ → ℕ → ℕ → Type 0 where
-  two-numbers : {w u : List ℕ} {x y : ℕ} → Unsigned 32 w x → Unsigned 32 u y → WritesTwo (w ++ u) x y
+  two_numbers : {w u : List ℕ} {x y : ℕ} → Unsigned 32 w x → Unsigned 32 u y → WritesTwo (w ++ u) x y
 
 -- what follows the first byte
 pub data Follows : ℕ → List ℕ → Instr → Type 0 where
@@ -43,15 +43,15 @@ pub data Follows : ℕ → List ℕ → Instr → Type 0 where
   is_end : Follows 0x0B [] end
   is_return : Follows 0x0F [] (op return)
   is_drop : Follows 0x1A [] (op drop_value)
-  is_ref_is_null : Follows 0xD1 [] (op ref-is-null)
-  is_ref_eq : Follows 0xD3 [] (op ref-eq)
-  is_ref_as_non_null : Follows 0xD4 [] (op ref-as-non-null)
+  is_ref_is_null : Follows 0xD1 [] (op ref_is_null)
+  is_ref_eq : Follows 0xD3 [] (op ref_eq)
+  is_ref_as_non_null : Follows 0xD4 [] (op ref_as_non_null)
   is_block : {w : List ℕ} {rs : List Val} → WritesBlockType w rs → Follows 0x02 w (block rs)
   is_loop : {w : List ℕ} {rs : List Val} → WritesBlockType w rs → Follows 0x03 w (loop rs)
   is_br : {w : List ℕ} {x : ℕ} → Unsigned 32 w x → Follows 0x0C w (op (br x))
-  is_br_if : {w : List ℕ} {x : ℕ} → Unsigned 32 w x → Follows 0x0D w (op (br-if x))
+  is_br_if : {w : List ℕ} {x : ℕ} → Unsigned 32 w x → Follows 0x0D w (op (br_if x))
   is_local_get : {w : List ℕ} {x : ℕ} → Unsigned 32 w x → Follows 0x20 w (op (local_get x))
-  is_local_set : {w : List ℕ} {x : ℕ} → Unsigned 32 w x → Follows 0x21 w (op (local-set x))
+  is_local_set : {w : List ℕ} {x : ℕ} → Unsigned 32 w x → Follows 0x21 w (op (local_set x))
   is_local_tee : {w : List ℕ} {x : ℕ} → Unsigned 32 w x → Follows 0x22 w (op (local_tee x))
   is_i32_const : {w : List ℕ} {n : Whole} → Signed 32 w n → Follows 0x41 w (op (i32_const (bits32 n)))
   is_i64_const : {w : List ℕ} {n : Whole} → Signed 64 w n → Follows 0x42 w (op (i64_const (bits64 n)))
@@ -64,9 +64,9 @@ pub data Follows : ℕ → List ℕ → Instr → Type 0 where
 -- what follows FB and its number
 pub data FollowsFB : ℕ → List ℕ → Instr → Type 0 where
   is_struct_new : {w : List ℕ} {x : ℕ} → Unsigned 32 w x → FollowsFB 0x00 w (op (struct_new x))
-  is_struct_new_default : {w : List ℕ} {x : ℕ} → Unsigned 32 w x → FollowsFB 0x01 w (op (struct-new-default x))
-  is_struct_new_desc : {w : List ℕ} {x : ℕ} → Unsigned 32 w x → FollowsFB 0x20 w (op (struct-new-desc x))
-  is_struct_new_default_desc : {w : List ℕ} {x : ℕ} → Unsigned 32 w x → FollowsFB 0x21 w (op (struct-new-default-desc x))
+  is_struct_new_default : {w : List ℕ} {x : ℕ} → Unsigned 32 w x → FollowsFB 0x01 w (op (struct_new_default x))
+  is_struct_new_desc : {w : List ℕ} {x : ℕ} → Unsigned 32 w x → FollowsFB 0x20 w (op (struct_new_desc x))
+  is_struct_new_default_desc : {w : List ℕ} {x : ℕ} → Unsigned 32 w x → FollowsFB 0x21 w (op (struct_new_default_desc x))
   is_ref_get_desc : {w : List ℕ} {x : ℕ} → Unsigned 32 w x → FollowsFB 0x22 w (op (ref_get_desc x))
   is_struct_get : {w : List ℕ} {x i : ℕ} → WritesTwo w x i → FollowsFB 0x02 w (op (struct_get x i))
   is_struct_set : {w : List ℕ} {x i : ℕ} → WritesTwo w x i → FollowsFB 0x05 w (op (struct_set x i))

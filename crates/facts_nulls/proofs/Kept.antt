@@ -8,7 +8,7 @@ use Rattle.scope.specs.Instructions.{Op}
 use Rattle.scope.specs.BodyRules.{Context, Scope, Plan, Ruled, allowed, fault, test, plan_of}
 use Rattle.facts_sections.specs.FirstFault.{FirstBroken, broken, kept_then}
 use Rattle.facts_bodies.proofs.Premises.{Ordered}
-use Rattle.facts_refusals.specs.Instructions.{Question, code_listed, heaps_reached, type_reached, label_there, local_there, is_struct, has_field, no_descriptor, has_descriptor, cast_described, field_mutable, supertype_shared, label_has_types, label_takes, all_defaults, local_set, number_of, asks, rule_of}
+use Rattle.facts_refusals.specs.Instructions.{Question, code_listed, heaps_reached, type_reached, label_there, local_there, is_struct, has_field, no_descriptor, has_descriptor, cast_described, field_mutable, supertype_shared, label_has_types, label_takes, all_defaults, local_is_set, number_of, asks, rule_of}
 use Rattle.facts_refusals.proofs.Judged.{fault_exactly}
 use Rattle.facts_refusals.proofs.Asked.{plan_asked}
 use Rattle.facts_nulls.specs.Before.{as20}
@@ -33,7 +33,7 @@ number_as (supertype_shared k) = refl
 number_as (label_has_types l) = refl
 number_as (label_takes l v) = refl
 number_as (all_defaults x) = refl
-number_as (local_set x) = refl
+number_as (local_is_set x) = refl
 
 asked_as : (c : Context) (here : Scope) (qs : List Question) {n : ℕ} → FirstBroken (map (rule_of c here) qs) n → as20 n ≡ n
 asked_as c here (q ∷ qs) (broken wrong) = number_as q

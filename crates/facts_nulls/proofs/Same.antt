@@ -23,7 +23,7 @@ use Rattle.scope.specs.Bodies.{Operand, unknown, fits, non_null_of, fit, operand
 use Rattle.scope.proofs.Impossible.{impossible}
 use Rattle.scope.proofs.Accepted.{accepted_passes}
 use Rattle.facts_bodies.proofs.Premises.{Ordered, passes_ordered}
-use Rattle.facts_refusals.specs.Numbers.{ByteFault, is_bytes-end, is_bad_number, is_not-listed, is_oversize, is_left_over, is_padded, RuleFault, is_out_of_reach, is_bad_supertype, is_long_chain, is_no_match, is_clause_not-on_struct, is_describes_not_earlier, is_clauses_disagree, is_bad_descriptor, is_bad_describes}
+use Rattle.facts_refusals.specs.Numbers.{ByteFault, is_bytes_end, is_bad_number, is_not_listed, is_oversize, is_left_over, is_padded, RuleFault, is_out_of_reach, is_bad_supertype, is_long_chain, is_no_match, is_clause_not_on_struct, is_describes_not_earlier, is_clauses_disagree, is_bad_descriptor, is_bad_describes}
 use Rattle.facts_refusals.specs.Sections.{SaysNo, of_library_bytes, of_library_rules, of_bytes, of_rules}
 use Rattle.facts_refusals.proofs.Reading.{Heeds, refuses, goes_on_lem, unsigned_heeds, val_heeds}
 use Rattle.facts_refusals.proofs.ReadingBodies.{instr_heeds}
@@ -104,9 +104,9 @@ read20 (got x next) = got x next
 read20 (refused n p) = refused (as20 n) p
 
 byte_as : {n : ℕ} → ByteFault n → as20 n ≡ n
-byte_as is_bytes-end = refl
+byte_as is_bytes_end = refl
 byte_as is_bad_number = refl
-byte_as is_not-listed = refl
+byte_as is_not_listed = refl
 byte_as is_oversize = refl
 byte_as is_left_over = refl
 byte_as is_padded = refl
@@ -116,7 +116,7 @@ rule_as is_out_of_reach = refl
 rule_as is_bad_supertype = refl
 rule_as is_long_chain = refl
 rule_as is_no_match = refl
-rule_as is_clause_not-on_struct = refl
+rule_as is_clause_not_on_struct = refl
 rule_as is_describes_not_earlier = refl
 rule_as is_clauses_disagree = refl
 rule_as is_bad_descriptor = refl
@@ -124,36 +124,36 @@ rule_as is_bad_describes = refl
 
 -- refused with another number than 31, or a place up to `hi` to go on from
 data Plain {A : Type 0} (hi : ℕ) : Read A → Type 0 where
-  plain-no : {n p : ℕ} → as20 n ≡ n → Plain hi (refused n p)
-  plain-on : {x : A} {next : ℕ} → next ≤ hi → Plain hi (got x next)
+  plain_no : {n p : ℕ} → as20 n ≡ n → Plain hi (refused n p)
+  plain_on : {x : A} {next : ℕ} → next ≤ hi → Plain hi (got x next)
 
 heeds_plain : {A : Type 0} {hi : ℕ} {r : Read A} → Heeds hi r → Plain hi r
-heeds_plain (refuses bad inside) = plain-no (byte_as bad)
-heeds_plain (goes_on_lem inside) = plain-on inside
+heeds_plain (refuses bad inside) = plain_no (byte_as bad)
+heeds_plain (goes_on_lem inside) = plain_on inside
 
 plain_then : {A B : Type 0} {hi : ℕ} {r : Read B} {f : B → ℕ → Read A} → Plain hi r → ((x : B) (next : ℕ) → next ≤ hi → Plain hi (f x next)) → Plain hi (then r f)
-plain_then (plain-no e) k = plain-no e
-plain_then (plain-on {x} {next} h) k = k x next h
+plain_then (plain_no e) k = plain_no e
+plain_then (plain_on {x} {next} h) k = k x next h
 
 plain-cond : {A : Type 0} {hi : ℕ} (b : Bool) {p q : Read A} → Plain hi p → Plain hi q → Plain hi (cond b p q)
 plain-cond true p q = p
 plain-cond false p q = q
 
 then_read : {A B : Type 0} {hi : ℕ} {r : Read B} (f g : B → ℕ → Read A) → Plain hi r → ((x : B) (next : ℕ) → next ≤ hi → read20 (f x next) ≡ g x next) → read20 (then r f) ≡ then r g
-then_read f g (plain-no e) k = rw e
-then_read f g (plain-on {x} {next} h) k = k x next h
+then_read f g (plain_no e) k = rw e
+then_read f g (plain_on {x} {next} h) k = k x next h
 
 locals-plain : (types n before : ℕ) (s : List ℕ) (at : ℕ) → at ≤ length s → Plain (length s) (locals_at types n before s at)
 unfolding locals_at
-locals-plain types zero before s at h = plain-on h
+locals-plain types zero before s at h = plain_on h
 locals-plain types (suc n) before s at h =
     plain_then (heeds_plain ((unsigned_heeds 32).heeds s at h)) (λ k type h'.
     plain_then (heeds_plain (val_heeds.heeds s type h')) (λ v next h''.
     plain-cond (every (λ x. ltb x types) (val_names v))
     (plain-cond (leb (before + k) most_locals)
-    (plain_then (locals-plain types n (before + k) s next h'') (λ vs stop h'''. plain-on h'''))
-    (plain-no {n = oversize} {p = at} refl))
-    (plain-no {n = out_of_reach} {p = at} refl)))
+    (plain_then (locals-plain types n (before + k) s next h'') (λ vs stop h'''. plain_on h'''))
+    (plain_no {n = oversize} {p = at} refl))
+    (plain_no {n = out_of_reach} {p = at} refl)))
 
 -- one instruction after the other
 

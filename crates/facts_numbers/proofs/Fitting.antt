@@ -19,7 +19,7 @@ use Rattle.scope.specs.Instructions.{find}
 use Rattle.scope.specs.Arithmetic.{as_bits, asks, compares, Deed, deeds, deed_of}
 use Rattle.scope.proofs.Impossible.{impossible}
 use Rattle.facts_codes.specs.Proper.{width_of}
-use Rattle.facts_numbers.specs.Fitting.{Fits, fits_one, fits-two, ResultsFit}
+use Rattle.facts_numbers.specs.Fitting.{Fits, fits_one, fits_two, ResultsFit}
 
 -- tests and integers
 
@@ -31,7 +31,7 @@ test_fits : (f : ℕ → Bool) → Fits 32 (asks f)
 test_fits f = fits_one (λ a. bit_fits (f a))
 
 compare_fits : (f : ℕ → ℕ → Bool) → Fits 32 (compares f)
-compare_fits f = fits-two (λ a b. bit_fits (f a b))
+compare_fits f = fits_two (λ a b. bit_fits (f a b))
 
 add_32 : (a b : ℕ) → int_add 32 a b < 2 ^ 32
 unfolding int_add
@@ -212,20 +212,20 @@ all_fit =
     (line_fits 0x64 32 refl (compare_fits (float_greater double))
     (line_fits 0x65 32 refl (compare_fits (float_at_most double))
     (line_fits 0x66 32 refl (compare_fits (float_at_least double))
-    (line_fits 0x6A 32 refl (fits-two add_32)
-    (line_fits 0x6B 32 refl (fits-two sub_32)
-    (line_fits 0x7C 64 refl (fits-two add_64)
-    (line_fits 0x7D 64 refl (fits-two sub_64)
+    (line_fits 0x6A 32 refl (fits_two add_32)
+    (line_fits 0x6B 32 refl (fits_two sub_32)
+    (line_fits 0x7C 64 refl (fits_two add_64)
+    (line_fits 0x7D 64 refl (fits_two sub_64)
     (line_fits 0x8C 32 refl (fits_one neg_single)
-    (line_fits 0x92 32 refl (fits-two add-single)
-    (line_fits 0x93 32 refl (fits-two sub-single)
-    (line_fits 0x94 32 refl (fits-two mul-single)
-    (line_fits 0x95 32 refl (fits-two div-single)
+    (line_fits 0x92 32 refl (fits_two add-single)
+    (line_fits 0x93 32 refl (fits_two sub-single)
+    (line_fits 0x94 32 refl (fits_two mul-single)
+    (line_fits 0x95 32 refl (fits_two div-single)
     (line_fits 0x9A 64 refl (fits_one neg_double)
-    (line_fits 0xA0 64 refl (fits-two add-double)
-    (line_fits 0xA1 64 refl (fits-two sub-double)
-    (line_fits 0xA2 64 refl (fits-two mul-double)
-    (line_fits 0xA3 64 refl (fits-two div-double)
+    (line_fits 0xA0 64 refl (fits_two add-double)
+    (line_fits 0xA1 64 refl (fits_two sub-double)
+    (line_fits 0xA2 64 refl (fits_two mul-double)
+    (line_fits 0xA3 64 refl (fits_two div-double)
     none_left_lem)))))))))))))))))))))))))))))))))))))))))))))))
 
 some_is_one : {A : Type 0} {x y : A} → some x ≡ some y → x ≡ y

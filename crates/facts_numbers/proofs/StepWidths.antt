@@ -15,14 +15,14 @@ use Rattle.scope.specs.Syntax.{Heap, Number, i32, i64, f32, f64, Val, num, ref, 
 use Rattle.scope.specs.Order.{same_number}
 use Rattle.scope.specs.Numeric.{Numeric, numeric_of}
 use Rattle.scope.specs.Arithmetic.{Deed, deed_of}
-use Rattle.scope.specs.Instructions.{Op, unreachable, nop, return, drop_value, br, br-if, local_get, local-set, local_tee, i32_const, i64_const, f32_const, f64_const, numeric, ref_null, ref-is-null, ref-eq, ref-as-non-null, struct_new, struct-new-default, struct_get, struct_set, ref_test, ref_cast, br_on_cast, br_on_cast_fail, struct-new-desc, struct-new-default-desc, ref_get_desc, ref_cast_desc_eq, br_on_cast_desc_eq, br_on_cast_desc_eq_fail, Instr, block, loop, end, op}
+use Rattle.scope.specs.Instructions.{Op, unreachable, nop, return, drop_value, br, br_if, local_get, local_set, local_tee, i32_const, i64_const, f32_const, f64_const, numeric, ref_null, ref_is_null, ref_eq, ref_as_non_null, struct_new, struct_new_default, struct_get, struct_set, ref_test, ref_cast, br_on_cast, br_on_cast_fail, struct_new_desc, struct_new_default_desc, ref_get_desc, ref_cast_desc_eq, br_on_cast_desc_eq, br_on_cast_desc_eq_fail, Instr, block, loop, end, op}
 use Rattle.scope.specs.BodyRules.{fields_of, holds_of}
 use Rattle.scope.specs.Bodies.{Code}
 use Rattle.scope.specs.Machine.{Value, number, null, object, Object, Store, object_of, Block, Machine, Program, Outcome, goes, ends, traps, stuck, with_operands, with_control, on_i32, on_number, on_reference, on_object, on_taken, truth, split_top, has_room, make, make_given, default_of, defaults_of, make_default, on_descriptor, cast_passes, descriptor_cast_passes, same_reference, on_set, ends_left, past_ends, finish, calculate, do_numeric, jump, do_end, do_op, do_instr, step_on, step}
 use Rattle.scope.proofs.Impossible.{impossible}
 use Rattle.facts_codes.specs.Proper.{AreBytes, width_of, ProperOp, Proper}
-use Rattle.facts_numbers.specs.Fitting.{Fits, fits_one, fits-two}
-use Rattle.facts_numbers.specs.Widths.{Every, of_none, of_first, Within, number-within, null_within, object_within, LocalWithin, no_value, its_value_lem, ObjectWithin, its_fields, ProperCode, BlockWithin, block_within, loop-within, MachineWithin}
+use Rattle.facts_numbers.specs.Fitting.{Fits, fits_one, fits_two}
+use Rattle.facts_numbers.specs.Widths.{Every, of_none, of_first, Within, number_within, null_within, object_within, LocalWithin, no_value, its_value_lem, ObjectWithin, its_fields, ProperCode, BlockWithin, block_within, loop_within, MachineWithin}
 use Rattle.facts_numbers.proofs.Fitting.{results_fit}
 
 -- lists
@@ -74,14 +74,14 @@ past_proper (suc n) (of_first {x = i} p ps) = past_proper (ends_left i.1 n) ps
 -- values
 
 bit_within : (t : Bool) → Within (truth t)
-bit_within true = number-within {k = i32} {n = 1} (omega arith)
-bit_within false = number-within {k = i32} {n = 0} (omega arith)
+bit_within true = number_within {k = i32} {n = 1} (omega arith)
+bit_within false = number_within {k = i32} {n = 0} (omega arith)
 
 zero-within : (k : Number) → Within (number k 0)
-zero-within i32 = number-within {k = i32} {n = 0} (omega arith)
-zero-within i64 = number-within {k = i64} {n = 0} (omega arith)
-zero-within f32 = number-within {k = f32} {n = 0} (omega arith)
-zero-within f64 = number-within {k = f64} {n = 0} (omega arith)
+zero-within i32 = number_within {k = i32} {n = 0} (omega arith)
+zero-within i64 = number_within {k = i64} {n = 0} (omega arith)
+zero-within f32 = number_within {k = f32} {n = 0} (omega arith)
+zero-within f64 = number_within {k = f64} {n = 0} (omega arith)
 
 pub default_within : (v : Val) → LocalWithin (default_of v)
 default_within (num k) = its_value_lem (zero-within k)
@@ -173,10 +173,10 @@ module _ {s : List ℕ} (p : Program) (m : Machine) (w : MachineWithin s m) wher
   jumps l {vs = vs} zero (of_first (block_within {n = n} below) bs) ps =
       on-given (split_top n vs) failing (λ split e.
       going (record { heap = w.heap; locals = w.locals; operands = both (split_within n ps e).0 below; blocks = bs; code = past_proper (suc l) w.code }))
-  jumps l zero (of_first (loop-within below again) bs) ps =
-      going (record { heap = w.heap; locals = w.locals; operands = of_none; blocks = of_first (loop-within below again) bs; code = again })
+  jumps l zero (of_first (loop_within below again) bs) ps =
+      going (record { heap = w.heap; locals = w.locals; operands = of_none; blocks = of_first (loop_within below again) bs; code = again })
   jumps l (suc k) (of_first (block_within below) bs) ps = jumps l k bs ps
-  jumps l (suc k) (of_first (loop-within below again) bs) ps = jumps l k bs ps
+  jumps l (suc k) (of_first (loop_within below again) bs) ps = jumps l k bs ps
 
   branches : (l : ℕ) {vs : List Value} → Every Within vs → Keeps s (jump p m l m.blocks vs l)
   branches l ps = jumps l l w.blocks ps
@@ -206,11 +206,11 @@ module _ {s : List ℕ} (p : Program) (m : Machine) (w : MachineWithin s m) wher
 
   calculates : (kinds : Numeric) {deed : Deed} {vs : List Value} → Fits (width_of kinds.result) deed → Every Within vs → Keeps s (calculate m kinds vs deed)
   calculates kinds (fits_one fits) ps =
-      on-taken ps (λ v below q qs. on-number kinds.kind v (λ a. leaves (of_first (number-within {k = kinds.result} (fits a)) qs)))
-  calculates kinds (fits-two fits) ps =
+      on-taken ps (λ v below q qs. on-number kinds.kind v (λ a. leaves (of_first (number_within {k = kinds.result} (fits a)) qs)))
+  calculates kinds (fits_two fits) ps =
       on-taken ps (λ u others q qs.
       on-taken qs (λ v below r rs.
-      on-number kinds.kind u (λ b. on-number kinds.kind v (λ a. leaves (of_first (number-within {k = kinds.result} (fits a b)) rs)))))
+      on-number kinds.kind u (λ b. on-number kinds.kind v (λ a. leaves (of_first (number_within {k = kinds.result} (fits a b)) rs)))))
 
   numerically : (code : ℕ) {vs : List Value} → Every Within vs → Keeps s (do_numeric m vs code)
   unfolding do_numeric
@@ -225,23 +225,23 @@ module _ {s : List ℕ} (p : Program) (m : Machine) (w : MachineWithin s m) wher
   op_keeps bytes ps return proper = finishes ps
   op_keeps bytes ps drop_value proper = on-taken ps (λ v below q qs. leaves qs)
   op_keeps bytes ps (br l) proper = branches l ps
-  op_keeps bytes ps (br-if l) proper = on-taken ps (λ v below q qs. on_i32_lem v (λ n. on-cond (eqb n 0) (leaves qs) (branches l qs)))
+  op_keeps bytes ps (br_if l) proper = on-taken ps (λ v below q qs. on_i32_lem v (λ n. on-cond (eqb n 0) (leaves qs) (branches l qs)))
   op_keeps bytes ps (local_get x) proper =
       on-given (get_elem? m.locals x) failing (λ it e. on-given it failing (λ v f. leaves (of_first (held (subst LocalWithin f (at_place x w.locals e))) ps)))
-  op_keeps bytes ps (local-set x) proper = on-taken ps (λ v below q qs. sets x q qs)
+  op_keeps bytes ps (local_set x) proper = on-taken ps (λ v below q qs. sets x q qs)
   op_keeps bytes ps (local_tee x) proper = on-taken ps (λ v below q qs. sets x q w.operands)
-  op_keeps bytes ps (i32_const n) proper = leaves (of_first (number-within {k = i32} proper) ps)
-  op_keeps bytes ps (i64_const n) proper = leaves (of_first (number-within {k = i64} proper) ps)
-  op_keeps bytes ps (f32_const n) proper = leaves (of_first (number-within {k = f32} (proper bytes)) ps)
-  op_keeps bytes ps (f64_const n) proper = leaves (of_first (number-within {k = f64} (proper bytes)) ps)
+  op_keeps bytes ps (i32_const n) proper = leaves (of_first (number_within {k = i32} proper) ps)
+  op_keeps bytes ps (i64_const n) proper = leaves (of_first (number_within {k = i64} proper) ps)
+  op_keeps bytes ps (f32_const n) proper = leaves (of_first (number_within {k = f32} (proper bytes)) ps)
+  op_keeps bytes ps (f64_const n) proper = leaves (of_first (number_within {k = f64} (proper bytes)) ps)
   op_keeps bytes ps (numeric code) proper = numerically code ps
   op_keeps bytes ps (ref_null h) proper = leaves (of_first null_within ps)
-  op_keeps bytes ps ref-is-null proper = on-taken ps (λ v below q qs. on_reference_lem v (λ r. leaves (of_first (bit_within (is_none r)) qs)))
-  op_keeps bytes ps ref-eq proper =
+  op_keeps bytes ps ref_is_null proper = on-taken ps (λ v below q qs. on_reference_lem v (λ r. leaves (of_first (bit_within (is_none r)) qs)))
+  op_keeps bytes ps ref_eq proper =
       on-taken ps (λ v others q qs. on-taken qs (λ u below r rs. on_reference_lem v (λ x. on_reference_lem u (λ y. leaves (of_first (bit_within (same_reference x y)) rs)))))
-  op_keeps bytes ps ref-as-non-null proper = on-taken ps (λ v below q qs. on_reference_lem v (λ r. on-given r trapping (λ o e. leaves (of_first object_within qs))))
+  op_keeps bytes ps ref_as_non_null proper = on-taken ps (λ v below q qs. on_reference_lem v (λ r. on-given r trapping (λ o e. leaves (of_first object_within qs))))
   op_keeps bytes ps (struct_new x) proper = makes_given x none ps
-  op_keeps bytes ps (struct-new-default x) proper = makes_default x none ps
+  op_keeps bytes ps (struct_new_default x) proper = makes_default x none ps
   op_keeps bytes ps (struct_get x i) proper =
       on-taken ps (λ v below q qs.
       on_object_lem trap_null v w.heap (λ o it within. on-given (get_elem? it.fields i) failing (λ u e. leaves (of_first (at_place i (fields_of_lem within) e) qs))))
@@ -263,8 +263,8 @@ module _ {s : List ℕ} (p : Program) (m : Machine) (w : MachineWithin s m) wher
       on-taken ps (λ v below q qs. on_passes p.types m.heap k.target_null k.target v (λ b. on-cond b (branches k.label ps) (going w)))
   op_keeps bytes ps (br_on_cast_fail k) proper =
       on-taken ps (λ v below q qs. on_passes p.types m.heap k.target_null k.target v (λ b. on-cond b (going w) (branches k.label ps)))
-  op_keeps bytes ps (struct-new-desc x) proper = on_descriptor_lem ps (λ d below qs. makes_given x (some d) qs)
-  op_keeps bytes ps (struct-new-default-desc x) proper = on_descriptor_lem ps (λ d below qs. makes_default x (some d) qs)
+  op_keeps bytes ps (struct_new_desc x) proper = on_descriptor_lem ps (λ d below qs. makes_given x (some d) qs)
+  op_keeps bytes ps (struct_new_default_desc x) proper = on_descriptor_lem ps (λ d below qs. makes_default x (some d) qs)
   op_keeps bytes ps (ref_get_desc x) proper =
       on-taken ps (λ v below q qs. on_object_lem trap_null v w.heap (λ o it within. on-given it.descriptor failing (λ d e. leaves (of_first object_within qs))))
   op_keeps bytes ps (ref_cast_desc_eq n h) proper =
@@ -279,14 +279,14 @@ module _ {s : List ℕ} (p : Program) (m : Machine) (w : MachineWithin s m) wher
   closes : {bs : List Block} → Every (BlockWithin s) bs → Keeps s (do_end p m bs)
   closes of_none = finishes w.operands
   closes (of_first (block_within below) bs) = going (record { heap = w.heap; locals = w.locals; operands = both w.operands below; blocks = bs; code = w.code })
-  closes (of_first (loop-within below again) bs) = going (record { heap = w.heap; locals = w.locals; operands = both w.operands below; blocks = bs; code = w.code })
+  closes (of_first (loop_within below again) bs) = going (record { heap = w.heap; locals = w.locals; operands = both w.operands below; blocks = bs; code = w.code })
 
   instr_keeps : AreBytes s → (at : ℕ) (i : Instr) → Proper s i → Keeps s (do_instr p m at i)
   unfolding do_instr
   instr_keeps bytes at (block rs) proper =
       going (record { heap = w.heap; locals = w.locals; operands = of_none; blocks = of_first (block_within w.operands) w.blocks; code = w.code })
   instr_keeps bytes at (loop rs) proper =
-      going (record { heap = w.heap; locals = w.locals; operands = of_none; blocks = of_first (loop-within w.operands w.code) w.blocks; code = w.code })
+      going (record { heap = w.heap; locals = w.locals; operands = of_none; blocks = of_first (loop_within w.operands w.code) w.blocks; code = w.code })
   instr_keeps bytes at end proper = closes w.blocks
   instr_keeps bytes at (op o) proper = op_keeps bytes w.operands o proper
 

@@ -9,7 +9,7 @@ use Rattle.facts_codes.specs.Proper.{width_of}
 -- the results are of so many bits
 pub data Fits (n : ℕ) : Deed → Type 0 where
   fits_one : {f : ℕ → ℕ} → ((a : ℕ) → f a < 2 ^ n) → Fits n (of_one f)
-  fits-two : {f : ℕ → ℕ → ℕ} → ((a b : ℕ) → f a b < 2 ^ n) → Fits n (of_two f)
+  fits_two : {f : ℕ → ℕ → ℕ} → ((a b : ℕ) → f a b < 2 ^ n) → Fits n (of_two f)
 
 pub record ResultsFit : Type 0 where
   pub results : (code : ℕ) {deed : Deed} {kinds : Numeric} → deed_of code ≡ some deed → numeric_of code ≡ some kinds → Fits (width_of kinds.result) deed

@@ -16,7 +16,7 @@ pub data Every {A : Type 0} (P : A → Type 0) : List A → Type 0 where
   of_first : {x : A} {xs : List A} → P x → Every P xs → Every P (x ∷ xs)
 
 pub data Within : Value → Type 0 where
-  number-within : {k : Number} {n : ℕ} → n < 2 ^ width_of k → Within (number k n)
+  number_within : {k : Number} {n : ℕ} → n < 2 ^ width_of k → Within (number k n)
   null_within : Within null
   object_within : {o : ℕ} → Within (object o)
 
@@ -33,7 +33,7 @@ ProperCode s code = Every (λ i. Proper s i.1) code
 
 pub data BlockWithin (s : List ℕ) : Block → Type 0 where
   block_within : {at n : ℕ} {below : List Value} → Every Within below → BlockWithin s (open_block at n below)
-  loop-within : {at : ℕ} {below : List Value} {again : Code} → Every Within below → ProperCode s again → BlockWithin s (open_loop at below again)
+  loop_within : {at : ℕ} {below : List Value} {again : Code} → Every Within below → ProperCode s again → BlockWithin s (open_loop at below again)
 
 pub record MachineWithin (s : List ℕ) (m : Machine) : Type 0 where
   pub heap : Every ObjectWithin m.heap

@@ -12,12 +12,12 @@ use Rattle.scope.specs.Syntax.{Heap, Val, nullable, Field, Form, struct, Types}
 use Rattle.scope.specs.TypeRules.{heap_names}
 use Rattle.scope.specs.Order.{val_below}
 use Rattle.scope.specs.Numeric.{numeric_of}
-use Rattle.scope.specs.Instructions.{Cast, Op, unreachable, nop, return, drop_value, br, br-if, local_get, local-set, local_tee, i32_const, i64_const, f32_const, f64_const, numeric, ref_null, ref-is-null, ref-eq, ref-as-non-null, struct_new, struct-new-default, struct_get, struct_set, ref_test, ref_cast, br_on_cast, br_on_cast_fail, struct-new-desc, struct-new-default-desc, ref_get_desc, ref_cast_desc_eq, br_on_cast_desc_eq, br_on_cast_desc_eq_fail}
+use Rattle.scope.specs.Instructions.{Cast, Op, unreachable, nop, return, drop_value, br, br_if, local_get, local_set, local_tee, i32_const, i64_const, f32_const, f64_const, numeric, ref_null, ref_is_null, ref_eq, ref_as_non_null, struct_new, struct_new_default, struct_get, struct_set, ref_test, ref_cast, br_on_cast, br_on_cast_fail, struct_new_desc, struct_new_default_desc, ref_get_desc, ref_cast_desc_eq, br_on_cast_desc_eq, br_on_cast_desc_eq_fail}
 use Rattle.scope.specs.BodyRules.{Context, Scope, Wanted, value, Ruled, fields_of, holds_of, has_default, descriptor_for, last_of, target_of, rest_of, reached, labelled, local_of, struct_of, field_of, undescribed, described, cast_descriptor, changeable, branches, defaulted, already_set, cast_reached, plan_of}
 use Rattle.scope.proofs.Truths.{none_is_not-some}
 use Rattle.scope.proofs.Order.{tested_value_order}
 use Rattle.facts_codes.specs.Numeric.{typed_of}
-use Rattle.facts_codes.specs.Proper.{CodeListed, code-listed}
+use Rattle.facts_codes.specs.Proper.{CodeListed, code_listed}
 use Rattle.facts_codes.proofs.Numeric.{listed-typed}
 use Rattle.facts_codes.proofs.Proper.{listed_at}
 use Rattle.facts_sections.specs.FirstFault.{Rule}
@@ -25,7 +25,7 @@ use Rattle.facts_types.specs.TypeRelations.{IsStruct, a_struct}
 use Rattle.facts_bodies.specs.Premises.{Each, of_none, of_first, HeapReached, Default}
 use Rattle.facts_bodies.proofs.Premises.{same_some, all_below, every_append, append-every, tested-number-reached, number-reached-tested, tested-heap-reached, heap-reached-tested, tested_defaults, defaults_tested, tested-set, set_tested, has_fields, has_none, tested_cast_takes, cast_takes-tested, found_last, last_found, Ordered}
 use Rattle.facts_bodies.proofs.Hierarchies.{tested_shares, shares_tested}
-use Rattle.facts_refusals.specs.Instructions.{heaps_reached, type_reached, label_there, local_there, is_struct, has_field, no_descriptor, has_descriptor, cast_described, field_mutable, supertype_shared, label_has_types, label_takes, all_defaults, local_set, Present, present, HasField, has_field_lem, Named, named, CastDescribed, cast_described_lem, FieldMutable, field_mutable_lem, LabelHasTypes, label_has_types_lem, LabelTakes, label_takes_lem, AllDefaults, all_defaults_lem, rule_of, asked_rules}
+use Rattle.facts_refusals.specs.Instructions.{heaps_reached, type_reached, label_there, local_there, is_struct, has_field, no_descriptor, has_descriptor, cast_described, field_mutable, supertype_shared, label_has_types, label_takes, all_defaults, local_is_set, Present, present, HasField, has_field_lem, Named, named, CastDescribed, cast_described_lem, FieldMutable, field_mutable_lem, LabelHasTypes, label_has_types_lem, LabelTakes, label_takes_lem, AllDefaults, all_defaults_lem, rule_of, asked_rules}
 use Rattle.facts_refusals.proofs.Judged.{Judges, nothing_asked, judges_test, judges_need}
 
 -- what is there is not missing
@@ -61,7 +61,7 @@ cast_not_missing : {ts : Types} {h : Heap} → CastDescribed ts h → descriptor
 cast_not_missing {ts} (cast_described_lem t) q = both_ways (cast_takes-tested ts t) q
 
 listed-not_missing : (b : ℕ) → CodeListed b → numeric_of b ≡ none → ⊥
-listed-not_missing b (code-listed among) q = none_is_not-some (ap typed_of (sym q) ∙ listed-typed among)
+listed-not_missing b (code_listed among) q = none_is_not-some (ap typed_of (sym q) ∙ listed-typed among)
 
 mutable_said : {f : Form} {fs : List Field} {i : ℕ} {g : Field} → f ≡ struct fs → get_elem? fs i ≡ some g → g.mutable ≡ true → FieldMutable i f
 mutable_said e p m = rw e (field_mutable_lem p m)
@@ -130,7 +130,7 @@ module _ (c : Context) (here : Scope) (ordered : Ordered c.types) where
   local_asked : {A : Type 0} (x : ℕ) {rules : List Rule} {f : Val → Ruled A} → ((v : Val) → Judges (f v) rules) → Judges (local_of c x f) (rule_of c here (local_there x) ∷ rules)
   local_asked x later = judges_need _ (λ v e. present e) present_not_missing (λ v e. later v)
 
-  set-asked : {A : Type 0} (x : ℕ) {rules : List Rule} {more : Ruled A} → Judges more rules → Judges (already_set here x more) (rule_of c here (local_set x) ∷ rules)
+  set-asked : {A : Type 0} (x : ℕ) {rules : List Rule} {more : Ruled A} → Judges more rules → Judges (already_set here x more) (rule_of c here (local_is_set x) ∷ rules)
   set-asked x later = judges_test _ (tested-set here.is_set x) (set_tested here.is_set x) (λ e. later)
 
   struct_asked : {A : Type 0} (x : ℕ) {rules : List Rule} {f : List Field → Ruled A}
@@ -182,9 +182,9 @@ module _ (c : Context) (here : Scope) (ordered : Ordered c.types) where
   plan_asked return = nothing_asked
   plan_asked drop_value = nothing_asked
   plan_asked (br l) = label_asked l (λ vs e. nothing_asked)
-  plan_asked (br-if l) = label_asked l (λ vs e. nothing_asked)
+  plan_asked (br_if l) = label_asked l (λ vs e. nothing_asked)
   plan_asked (local_get x) = local_asked x (λ v. set-asked x nothing_asked)
-  plan_asked (local-set x) = local_asked x (λ v. nothing_asked)
+  plan_asked (local_set x) = local_asked x (λ v. nothing_asked)
   plan_asked (local_tee x) = local_asked x (λ v. nothing_asked)
   plan_asked (i32_const n) = nothing_asked
   plan_asked (i64_const n) = nothing_asked
@@ -192,19 +192,19 @@ module _ (c : Context) (here : Scope) (ordered : Ordered c.types) where
   plan_asked (f64_const n) = nothing_asked
   plan_asked (numeric b) = judges_need _ (λ kinds e. listed_at b e) (listed-not_missing b) (λ kinds e. nothing_asked)
   plan_asked (ref_null h) = heap-asked h nothing_asked
-  plan_asked ref-is-null = nothing_asked
-  plan_asked ref-eq = nothing_asked
-  plan_asked ref-as-non-null = nothing_asked
+  plan_asked ref_is_null = nothing_asked
+  plan_asked ref_eq = nothing_asked
+  plan_asked ref_as_non_null = nothing_asked
   plan_asked (struct_new x) = number-asked x (struct_asked x (λ fs form. none-asked x nothing_asked))
-  plan_asked (struct-new-default x) = number-asked x (struct_asked x (λ fs form. none-asked x (defaults_asked x form nothing_asked)))
+  plan_asked (struct_new_default x) = number-asked x (struct_asked x (λ fs form. none-asked x (defaults_asked x form nothing_asked)))
   plan_asked (struct_get x i) = number-asked x (field_asked x i (λ fs g form there. nothing_asked))
   plan_asked (struct_set x i) = number-asked x (field_asked x i (λ fs g form there. mutable_asked x i form there nothing_asked))
   plan_asked (ref_test n h) = heap-asked h nothing_asked
   plan_asked (ref_cast n h) = heap-asked h nothing_asked
   plan_asked (br_on_cast k) = cast_asked k (λ vs label. branch-asked k (target_of k) (rest_of k) [] label)
   plan_asked (br_on_cast_fail k) = cast_asked k (λ vs label. branch-asked k (rest_of k) (target_of k) [] label)
-  plan_asked (struct-new-desc x) = number-asked x (struct_asked x (λ fs form. descriptor_asked x (λ y. nothing_asked)))
-  plan_asked (struct-new-default-desc x) = number-asked x (struct_asked x (λ fs form. descriptor_asked x (λ y. defaults_asked x form nothing_asked)))
+  plan_asked (struct_new_desc x) = number-asked x (struct_asked x (λ fs form. descriptor_asked x (λ y. nothing_asked)))
+  plan_asked (struct_new_default_desc x) = number-asked x (struct_asked x (λ fs form. descriptor_asked x (λ y. defaults_asked x form nothing_asked)))
   plan_asked (ref_get_desc x) = number-asked x (descriptor_asked x (λ y. nothing_asked))
   plan_asked (ref_cast_desc_eq n h) = heap-asked h (cast_descriptor_asked h (λ d. nothing_asked))
   plan_asked (br_on_cast_desc_eq k) =

@@ -31,7 +31,7 @@ use Rattle.facts_bodies.specs.Typing.{InstrsAt, FunctionType, TypedBody}
 use Rattle.facts_bodies.proofs.Premises.{Ordered, passes_ordered, all_below, tested_value_reached, value_reached-tested}
 use Rattle.facts_bodies.proofs.Bytes.{got_locals, locals_got, got_walked, typed_got}
 use Rattle.facts_bodies.proofs.Verdict.{found_function, function_found}
-use Rattle.facts_refusals.specs.Bodies.{FirstFaulty, count_bytes, type-bytes, type_unreached, too_many, FaultyEntry, this_entry, later_entry, Begins, LocalsStand, BodySaysNo, by_section, by_size, by_type, by_count, by_locals, by_instruction, by_rest}
+use Rattle.facts_refusals.specs.Bodies.{FirstFaulty, count_bytes, type_bytes, type_unreached, too_many, FaultyEntry, this_entry, later_entry, Begins, LocalsStand, BodySaysNo, by_section, by_size, by_type, by_count, by_locals, by_instruction, by_rest}
 use Rattle.facts_refusals.proofs.Faulty.{refused_one, as_refused, got_is_not_refused, refused_faulty, faulty_refused}
 
 -- locals
@@ -62,7 +62,7 @@ module _ (count : ℕ) (s : List ℕ) where
           → then r (λ v next. cond (all_below count (val_names v)) (cond (leb (before + k) most_locals) (then (locals_at count n (before + k) s next) (λ vs stop. got (replicate k v ++ vs) stop)) (refused oversize from)) (refused out_of_reach from)) ≡ refused number place
           → ((next : ℕ) → locals_at count n (before + k) s next ≡ refused number place → FaultyEntry count s n next (before + k) number place)
           → FaultyEntry count s (suc n) from before number place
-      typed k type a (refused m p) b f more = this_entry (type-bytes a (b ∙ as_refused f))
+      typed k type a (refused m p) b f more = this_entry (type_bytes a (b ∙ as_refused f))
       typed k type a (got v next) b f more = reached (all_below count (val_names v)) refl f
         where
           reached : (t : Bool) → all_below count (val_names v) ≡ t
@@ -98,7 +98,7 @@ module _ (count : ℕ) (s : List ℕ) where
   entry_refused : {n before from number place : ℕ} → FaultyEntry count s n from before number place → locals_at count n before s from ≡ refused number place
   unfolding locals_at
   entry_refused (this_entry (count_bytes a)) = rw a
-  entry_refused (this_entry (type-bytes a b)) = rw (a, b)
+  entry_refused (this_entry (type_bytes a b)) = rw (a, b)
   entry_refused (this_entry (type_unreached a b no-reach)) = rw (a, b, not-reached no-reach)
   entry_refused (this_entry (too_many a b reach many)) = rw (a, b, value_reached-tested count reach, lt-leb _ _ many)
   entry_refused (later_entry a b reach few more) = rw (a, b, value_reached-tested count reach, le-leb _ _ few, entry_refused more)

@@ -13,7 +13,7 @@ use Rattle.scope.specs.declared.Place.{Place}
 use Rattle.scope.specs.Judging.{plain}
 use Rattle.scope.specs.Syntax.{Val, Definition}
 use Rattle.scope.specs.Sections.{val_at, empty_library}
-use Rattle.scope.specs.Instructions.{Op, Instr, block, loop, end, op, unreachable, nop, return, drop_value, br, br-if, local_get, local-set, local_tee, i32_const, i64_const, f32_const, f64_const, numeric, ref_null, ref-is-null, ref-eq, ref-as-non-null, struct_new, struct-new-default, struct_get, struct_set, ref_test, ref_cast, br_on_cast, br_on_cast_fail, struct-new-desc, struct-new-default-desc, ref_get_desc, ref_cast_desc_eq, br_on_cast_desc_eq, br_on_cast_desc_eq_fail}
+use Rattle.scope.specs.Instructions.{Op, Instr, block, loop, end, op, unreachable, nop, return, drop_value, br, br_if, local_get, local_set, local_tee, i32_const, i64_const, f32_const, f64_const, numeric, ref_null, ref_is_null, ref_eq, ref_as_non_null, struct_new, struct_new_default, struct_get, struct_set, ref_test, ref_cast, br_on_cast, br_on_cast_fail, struct_new_desc, struct_new_default_desc, ref_get_desc, ref_cast_desc_eq, br_on_cast_desc_eq, br_on_cast_desc_eq_fail}
 use Rattle.scope.specs.BodyRules.{Context, Scope}
 use Rattle.scope.specs.Bodies.{State, scope_of, Function}
 use Rattle.scope.proofs.Computes.{computes}
@@ -26,9 +26,9 @@ use Rattle.facts_codes.specs.Proper.{CodeListed, ProperOp, Proper}
 use Rattle.facts_codes.proofs.Proper.{instr_proper}
 use Rattle.facts_bodies.specs.Premises.{Each, of_none, of_first}
 use Rattle.facts_bodies.specs.Typing.{Entry, EntriesAt, no_entry, next_entry, InstrsAt, no_instr, next_instr}
-use Rattle.facts_refusals.specs.Numbers.{is_left_over, InstructionFault, type-out_of_reach, is_absent, is_bad_struct, is_field_fixed, is_bad_branch, is_no_default, is_not-set, is_only_null, is_bad_operand, is_values-left, is_too_many, entry_out_of_reach, entry_too_many}
-use Rattle.facts_refusals.specs.Instructions.{Question, code_listed, heaps_reached, type_reached, label_there, local_there, is_struct, has_field, no_descriptor, has_descriptor, cast_described, field_mutable, supertype_shared, label_has_types, label_takes, all_defaults, local_set, number_of, rule_of, asks, rising}
-use Rattle.facts_refusals.specs.Bodies.{conditions, FaultAt, in_bytes, in_instruction, EntryFault, count_bytes, type-bytes, type_unreached, too_many, FaultyEntry, this_entry, later_entry, LocalsStand, BodySaysNo, by_section, by_size, by_type, by_count, by_locals, by_instruction, by_rest, BodyPlace, of_section, of_whole_size, of_type-number, of_bytes, of_entry, of_instruction, BodyRefusals}
+use Rattle.facts_refusals.specs.Numbers.{is_left_over, InstructionFault, type_out_of_reach, is_absent, is_bad_struct, is_field_fixed, is_bad_branch, is_no_default, is_not_set, is_only_null, is_bad_operand, is_values_left, is_too_many, entry_out_of_reach, entry_too_many}
+use Rattle.facts_refusals.specs.Instructions.{Question, code_listed, heaps_reached, type_reached, label_there, local_there, is_struct, has_field, no_descriptor, has_descriptor, cast_described, field_mutable, supertype_shared, label_has_types, label_takes, all_defaults, local_is_set, number_of, rule_of, asks, rising}
+use Rattle.facts_refusals.specs.Bodies.{conditions, FaultAt, in_bytes, in_instruction, EntryFault, count_bytes, type_bytes, type_unreached, too_many, FaultyEntry, this_entry, later_entry, LocalsStand, BodySaysNo, by_section, by_size, by_type, by_count, by_locals, by_instruction, by_rest, BodyPlace, of_section, of_whole_size, of_type_number, of_bytes, of_entry, of_instruction, BodyRefusals}
 use Rattle.facts_refusals.proofs.Reading.{Heeds, unsigned_heeds, val_heeds}
 use Rattle.facts_refusals.proofs.ReadingBodies.{instr_heeds}
 use Rattle.facts_refusals.proofs.Sections.{heeded, says_no_lem}
@@ -54,12 +54,12 @@ Answered c here (supertype_shared k) = Unit {0}
 Answered c here (label_has_types l) = Unit {0}
 Answered c here (label_takes l v) = Unit {0}
 Answered c here (all_defaults x) = Unit {0}
-Answered c here (local_set x) = Unit {0}
+Answered c here (local_is_set x) = Unit {0}
 
 question_number : (c : Context) (here : Scope) (q : Question) → Answered c here q → ¬ (rule_of c here q).says → InstructionFault (number_of q)
 question_number c here (code_listed b) a wrong = absurd (wrong a)
-question_number c here (heaps_reached hs) a wrong = type-out_of_reach
-question_number c here (type_reached x) a wrong = type-out_of_reach
+question_number c here (heaps_reached hs) a wrong = type_out_of_reach
+question_number c here (type_reached x) a wrong = type_out_of_reach
 question_number c here (label_there l) a wrong = is_absent
 question_number c here (local_there x) a wrong = is_absent
 question_number c here (is_struct x) a wrong = is_bad_struct
@@ -72,7 +72,7 @@ question_number c here (supertype_shared k) a wrong = is_bad_branch
 question_number c here (label_has_types l) a wrong = is_bad_branch
 question_number c here (label_takes l v) a wrong = is_bad_branch
 question_number c here (all_defaults x) a wrong = is_no_default
-question_number c here (local_set x) a wrong = is_not-set
+question_number c here (local_is_set x) a wrong = is_not_set
 
 asked-number : (c : Context) (here : Scope) (qs : List Question) {later : List rules.Rule} {n : ℕ} → Each (Answered c here) qs
     → ((m : ℕ) → FirstBroken later m → InstructionFault m) → FirstBroken (map (rule_of c here) qs ++ later) n → InstructionFault n
@@ -86,9 +86,9 @@ answered s c here nop proper = of_none
 answered s c here return proper = of_none
 answered s c here drop_value proper = of_none
 answered s c here (br l) proper = of_first tt of_none
-answered s c here (br-if l) proper = of_first tt of_none
+answered s c here (br_if l) proper = of_first tt of_none
 answered s c here (local_get x) proper = of_first tt (of_first tt of_none)
-answered s c here (local-set x) proper = of_first tt of_none
+answered s c here (local_set x) proper = of_first tt of_none
 answered s c here (local_tee x) proper = of_first tt of_none
 answered s c here (i32_const n) proper = of_none
 answered s c here (i64_const n) proper = of_none
@@ -96,19 +96,19 @@ answered s c here (f32_const n) proper = of_none
 answered s c here (f64_const n) proper = of_none
 answered s c here (numeric b) proper = of_first proper of_none
 answered s c here (ref_null h) proper = of_first tt of_none
-answered s c here ref-is-null proper = of_none
-answered s c here ref-eq proper = of_none
-answered s c here ref-as-non-null proper = of_none
+answered s c here ref_is_null proper = of_none
+answered s c here ref_eq proper = of_none
+answered s c here ref_as_non_null proper = of_none
 answered s c here (struct_new x) proper = of_first tt (of_first tt (of_first tt of_none))
-answered s c here (struct-new-default x) proper = of_first tt (of_first tt (of_first tt (of_first tt of_none)))
+answered s c here (struct_new_default x) proper = of_first tt (of_first tt (of_first tt (of_first tt of_none)))
 answered s c here (struct_get x i) proper = of_first tt (of_first tt (of_first tt of_none))
 answered s c here (struct_set x i) proper = of_first tt (of_first tt (of_first tt (of_first tt of_none)))
 answered s c here (ref_test n h) proper = of_first tt of_none
 answered s c here (ref_cast n h) proper = of_first tt of_none
 answered s c here (br_on_cast k) proper = of_first tt (of_first tt (of_first tt (of_first tt (of_first tt of_none))))
 answered s c here (br_on_cast_fail k) proper = of_first tt (of_first tt (of_first tt (of_first tt (of_first tt of_none))))
-answered s c here (struct-new-desc x) proper = of_first tt (of_first tt (of_first tt of_none))
-answered s c here (struct-new-default-desc x) proper = of_first tt (of_first tt (of_first tt (of_first tt of_none)))
+answered s c here (struct_new_desc x) proper = of_first tt (of_first tt (of_first tt of_none))
+answered s c here (struct_new_default_desc x) proper = of_first tt (of_first tt (of_first tt (of_first tt of_none)))
 answered s c here (ref_get_desc x) proper = of_first tt (of_first tt of_none)
 answered s c here (ref_cast_desc_eq n h) proper = of_first tt (of_first tt of_none)
 answered s c here (br_on_cast_desc_eq k) proper = of_first tt (of_first tt (of_first tt (of_first tt (of_first tt (of_first tt of_none)))))
@@ -121,13 +121,13 @@ last_number (kept_then n (kept_then p (broken wrong))) = is_too_many
 last_number {N = N} {P = P} {Q = Q} (kept_then n (kept_then p (kept_then _ x16))) = elim x16 [ ]
 
 condition_number : (s : List ℕ) (c : Context) (st : State) (i : Instr) {n : ℕ} → Proper s i → FirstBroken (conditions c st i) n → InstructionFault n
-condition_number s c st (block rs) proper (broken wrong) = type-out_of_reach
+condition_number s c st (block rs) proper (broken wrong) = type_out_of_reach
 condition_number s c st (block rs) proper (kept_then p (broken wrong)) = is_too_many
-condition_number s c st (loop rs) proper (broken wrong) = type-out_of_reach
+condition_number s c st (loop rs) proper (broken wrong) = type_out_of_reach
 condition_number s c st (loop rs) proper (kept_then p (broken wrong)) = is_too_many
 condition_number s c st end proper (broken wrong) = is_only_null
 condition_number s c st end proper (kept_then n (broken wrong)) = is_bad_operand
-condition_number s c st end proper (kept_then n (kept_then p (broken wrong))) = is_values-left
+condition_number s c st end proper (kept_then n (kept_then p (broken wrong))) = is_values_left
 condition_number s c st end proper (kept_then n (kept_then p (kept_then q (broken wrong)))) = is_too_many
 condition_number s c st (op o) proper b = asked-number c (scope_of c st) (asks o) (answered s c (scope_of c st) o proper) (λ m. last_number) b
 condition_number s c st (block rs) {n = n} proper (kept_then p (kept_then _ x14)) = elim x14 [ ]
@@ -140,9 +140,9 @@ in_order_lem nop = refl
 in_order_lem return = refl
 in_order_lem drop_value = refl
 in_order_lem (br l) = refl
-in_order_lem (br-if l) = refl
+in_order_lem (br_if l) = refl
 in_order_lem (local_get x) = refl
-in_order_lem (local-set x) = refl
+in_order_lem (local_set x) = refl
 in_order_lem (local_tee x) = refl
 in_order_lem (i32_const n) = refl
 in_order_lem (i64_const n) = refl
@@ -150,19 +150,19 @@ in_order_lem (f32_const n) = refl
 in_order_lem (f64_const n) = refl
 in_order_lem (numeric b) = refl
 in_order_lem (ref_null h) = refl
-in_order_lem ref-is-null = refl
-in_order_lem ref-eq = refl
-in_order_lem ref-as-non-null = refl
+in_order_lem ref_is_null = refl
+in_order_lem ref_eq = refl
+in_order_lem ref_as_non_null = refl
 in_order_lem (struct_new x) = refl
-in_order_lem (struct-new-default x) = refl
+in_order_lem (struct_new_default x) = refl
 in_order_lem (struct_get x i) = refl
 in_order_lem (struct_set x i) = refl
 in_order_lem (ref_test n h) = refl
 in_order_lem (ref_cast n h) = refl
 in_order_lem (br_on_cast k) = refl
 in_order_lem (br_on_cast_fail k) = refl
-in_order_lem (struct-new-desc x) = refl
-in_order_lem (struct-new-default-desc x) = refl
+in_order_lem (struct_new_desc x) = refl
+in_order_lem (struct_new_default_desc x) = refl
 in_order_lem (ref_get_desc x) = refl
 in_order_lem (ref_cast_desc_eq n h) = refl
 in_order_lem (br_on_cast_desc_eq k) = refl
@@ -183,7 +183,7 @@ module _ (library section s : List ℕ) (x : ℕ) where
 
   entry_place : {count at before number place : ℕ} → at ≤ length s → EntryFault count s at before number place → BodyPlace library section s x number (plain place)
   entry_place {at = at} h (count_bytes a) = bytes_place ((unsigned_heeds 32).heeds s at h) a
-  entry_place {at = at} h (type-bytes {type = type} a b) = bytes_place (val_heeds.heeds s type (number-end at a)) b
+  entry_place {at = at} h (type_bytes {type = type} a b) = bytes_place (val_heeds.heeds s type (number-end at a)) b
   entry_place h (type_unreached a b unreached) = of_entry entry_out_of_reach h
   entry_place h (too_many a b reach many) = of_entry entry_too_many h
 
@@ -209,7 +209,7 @@ module _ (library section s : List ℕ) (x : ℕ) where
   said_place : {number : ℕ} {place : Place} → BodySaysNo library section s x number place → BodyPlace library section s x number place
   said_place (by_section {number = n} {place = p} no') = of_section (says_no_lem library section n p ((refused_exactly library section n p).1 no'))
   said_place (by_size judged large) = of_whole_size
-  said_place (by_type judged small no-type) = of_type-number
+  said_place (by_type judged small no-type) = of_type_number
   said_place (by_count begins e) = bytes_place ((unsigned_heeds 32).heeds s 0 (omega arith)) e
   said_place (by_locals begins counted faulty) = entries_place (number-end 0 counted) faulty
   said_place (by_instruction begins stand faulty) = fault_place (instrs_end (stand_end stand) faulty.reads) faulty.faulty

@@ -17,7 +17,7 @@ use Rattle.scope.specs.Abstract.{abstract_of}
 use Rattle.scope.specs.Syntax.{ref}
 use Rattle.scope.specs.Sections.{type_number, heap_at, number_of, val_at, flag_at, field_at, few_at, supers_at, head_at, Head, clause_at, describes_code, descriptor_code, form_at, definition_at, group_at, groups_at, ended, read_after}
 use Rattle.scope.proofs.Forward.{byte_inside, float_inside, BitsEnd, cuts, longs, stand, bits_end}
-use Rattle.facts_refusals.specs.Numbers.{ByteFault, is_bytes-end, is_bad_number, is_not-listed, is_oversize, is_left_over, is_padded}
+use Rattle.facts_refusals.specs.Numbers.{ByteFault, is_bytes_end, is_bad_number, is_not_listed, is_oversize, is_left_over, is_padded}
 
 -- a byte fault at a place up to `hi`, or a place up to `hi` to go on from
 pub data Heeds {A : Type 0} (hi : ℕ) : Read A → Type 0 where
@@ -46,13 +46,13 @@ pub heeds_byte : {A : Type 0} (s : List ℕ) (at : ℕ) (f : ℕ → Read A) →
 heeds_byte s at f h k = go (get_elem? s at) refl
   where
     go : (o : Option ℕ) → get_elem? s at ≡ o → Heeds (length s) (given o (refused bytes_end at) f)
-    go none e = refuses is_bytes-end h
+    go none e = refuses is_bytes_end h
     go (some b) e = k b (byte_inside s at e)
 
 -- numbers: one fact for every width
 
 range_heeds : {A : Type 0} {lo hi : ℕ} (width at : ℕ) {r : Bits} (value : ℕ → ℕ → A) (holds : ℕ → A → Bool) → at ≤ hi → BitsEnd lo hi r → Heeds hi (in_range width at r value holds)
-range_heeds width at value holds h cuts = refuses is_bytes-end h
+range_heeds width at value holds h cuts = refuses is_bytes_end h
 range_heeds width at value holds h longs = refuses is_bad_number h
 range_heeds width at value holds h (stand {v} {k} a b) =
     heeds_cond (holds width (value v k)) (heeds_cond (ltb 1 k && holds (7 * (k - 1)) (value v k)) (refuses is_padded h) (goes_on_lem b)) (refuses is_bad_number h)
@@ -71,7 +71,7 @@ unfolding float_bytes
 float_heeds n = record { heeds = λ s at h. go s at h (little_endian (suc n) s at) refl }
   where
     go : (s : List ℕ) (at : ℕ) → at ≤ length s → (o : Option ℕ) → little_endian (suc n) s at ≡ o → Heeds (length s) (given o (refused bytes_end at) (λ v. got v (at + suc n)))
-    go s at h none e = refuses is_bytes-end h
+    go s at h none e = refuses is_bytes_end h
     go s at h (some v) e = goes_on_lem (float_inside n s at e)
 
 -- lists: the entry beyond is refused where it begins
@@ -87,7 +87,7 @@ entries_heed t (suc room) (suc n) s at h =
 
 type-number_heeds : {hi : ℕ} (at : ℕ) (w : Whole) {next : ℕ} → at ≤ hi → next ≤ hi → Heeds hi (type_number at w next)
 type-number_heeds at (plus x) h a = goes_on_lem a
-type-number_heeds at (minus x) h a = refuses is_not-listed h
+type-number_heeds at (minus x) h a = refuses is_not_listed h
 
 pub heap_heeds : Heedful heap_at
 unfolding heap_at
@@ -111,7 +111,7 @@ val_heeds =
           heeds_given (number_of b)
           (heeds_cond (eqb b 0x63) (reference _)
           (heeds_cond (eqb b 0x64) (reference _)
-          (heeds_given (abstract_of b) (refuses is_not-listed h) (λ a. goes_on_lem (omega arith)))))
+          (heeds_given (abstract_of b) (refuses is_not_listed h) (λ a. goes_on_lem (omega arith)))))
           (λ n. goes_on_lem (omega arith)));
     }
 
@@ -120,7 +120,7 @@ flag_heeds =
     record {
       heeds = λ s at h.
           heeds_byte s at _ h (λ b inside.
-          heeds_cond (eqb b 0x00) (goes_on_lem (omega arith)) (heeds_cond (eqb b 0x01) (goes_on_lem (omega arith)) (refuses is_not-listed h)));
+          heeds_cond (eqb b 0x00) (goes_on_lem (omega arith)) (heeds_cond (eqb b 0x01) (goes_on_lem (omega arith)) (refuses is_not_listed h)));
     }
 
 pub field_heeds : Heedful field_at
@@ -175,7 +175,7 @@ form_heeds =
           (heeds_cond (eqb b 0x60)
           (heeds_then ((few_heeds val_heeds).heeds s (at + 1) (omega arith)) (λ ps next a.
           heeds_then ((few_heeds val_heeds).heeds s next a) (λ rs end c. goes_on_lem c)))
-          (refuses is_not-listed h)));
+          (refuses is_not_listed h)));
     }
 
 definition_heeds : (reach : ℕ) → Heedful (definition_at reach)

@@ -12,7 +12,7 @@ use Rattle.scope.specs.Numbers.{u32}
 use Rattle.scope.specs.Syntax.{Val}
 use Rattle.scope.specs.Numeric.{numeric_of}
 use Rattle.scope.specs.Instructions.{Op, numeric, Instr, bare, having, having_two, block_type_at, cast_at, opening, closing, first_bytes, after_fb, find, instr_at}
-use Rattle.facts_refusals.specs.Numbers.{is_not-listed}
+use Rattle.facts_refusals.specs.Numbers.{is_not_listed}
 use Rattle.facts_refusals.proofs.Reading.{heeds_byte, unsigned_heeds, signed_heeds, float_heeds, heap_heeds, val_heeds, refuses, goes_on_lem, heeds_then, heeds_cond, heeds_given, Heeds, Heedful}
 
 -- the readers of an instruction
@@ -36,7 +36,7 @@ cast_heeds =
           (heeds_then ((unsigned_heeds 32).heeds s (at + 1) (omega arith)) (λ l next a.
           heeds_then (heap_heeds.heeds s next a) (λ k after b.
           heeds_then (heap_heeds.heeds s after b) (λ m stop c. goes_on_lem c))))
-          (refuses is_not-listed h));
+          (refuses is_not_listed h));
     }
 
 -- every row of a table heeds
@@ -63,59 +63,59 @@ having-two_heeds make =
 
 data Rows : List (ℕ × Reader Instr) → Type 0 where
   none_left_lem : Rows []
-  row-and : {code : ℕ} {r : Reader Instr} {more : List (ℕ × Reader Instr)} → Heedful r → Rows more → Rows ((code, r) ∷ more)
+  row_and : {code : ℕ} {r : Reader Instr} {more : List (ℕ × Reader Instr)} → Heedful r → Rows more → Rows ((code, r) ∷ more)
 
 numbers : Heedful u32
 numbers = unsigned_heeds 32
 
 first_rows : Rows first_bytes
 first_rows =
-    row-and (bare_heeds _)
-    (row-and (bare_heeds _)
-    (row-and (opening_heeds _)
-    (row-and (opening_heeds _)
-    (row-and closing_heeds
-    (row-and (having_heeds numbers _)
-    (row-and (having_heeds numbers _)
-    (row-and (bare_heeds _)
-    (row-and (bare_heeds _)
-    (row-and (having_heeds numbers _)
-    (row-and (having_heeds numbers _)
-    (row-and (having_heeds numbers _)
-    (row-and (having_heeds (signed_heeds 32) _)
-    (row-and (having_heeds (signed_heeds 64) _)
-    (row-and (having_heeds (float_heeds 3) _)
-    (row-and (having_heeds (float_heeds 7) _)
-    (row-and (having_heeds heap_heeds _)
-    (row-and (bare_heeds _)
-    (row-and (bare_heeds _)
-    (row-and (bare_heeds _)
+    row_and (bare_heeds _)
+    (row_and (bare_heeds _)
+    (row_and (opening_heeds _)
+    (row_and (opening_heeds _)
+    (row_and closing_heeds
+    (row_and (having_heeds numbers _)
+    (row_and (having_heeds numbers _)
+    (row_and (bare_heeds _)
+    (row_and (bare_heeds _)
+    (row_and (having_heeds numbers _)
+    (row_and (having_heeds numbers _)
+    (row_and (having_heeds numbers _)
+    (row_and (having_heeds (signed_heeds 32) _)
+    (row_and (having_heeds (signed_heeds 64) _)
+    (row_and (having_heeds (float_heeds 3) _)
+    (row_and (having_heeds (float_heeds 7) _)
+    (row_and (having_heeds heap_heeds _)
+    (row_and (bare_heeds _)
+    (row_and (bare_heeds _)
+    (row_and (bare_heeds _)
     none_left_lem)))))))))))))))))))
 
 later_rows : Rows after_fb
 later_rows =
-    row-and (having_heeds numbers _)
-    (row-and (having_heeds numbers _)
-    (row-and (having-two_heeds _)
-    (row-and (having-two_heeds _)
-    (row-and (having_heeds heap_heeds _)
-    (row-and (having_heeds heap_heeds _)
-    (row-and (having_heeds heap_heeds _)
-    (row-and (having_heeds heap_heeds _)
-    (row-and (having_heeds cast_heeds _)
-    (row-and (having_heeds cast_heeds _)
-    (row-and (having_heeds numbers _)
-    (row-and (having_heeds numbers _)
-    (row-and (having_heeds numbers _)
-    (row-and (having_heeds heap_heeds _)
-    (row-and (having_heeds heap_heeds _)
-    (row-and (having_heeds cast_heeds _)
-    (row-and (having_heeds cast_heeds _)
+    row_and (having_heeds numbers _)
+    (row_and (having_heeds numbers _)
+    (row_and (having-two_heeds _)
+    (row_and (having-two_heeds _)
+    (row_and (having_heeds heap_heeds _)
+    (row_and (having_heeds heap_heeds _)
+    (row_and (having_heeds heap_heeds _)
+    (row_and (having_heeds heap_heeds _)
+    (row_and (having_heeds cast_heeds _)
+    (row_and (having_heeds cast_heeds _)
+    (row_and (having_heeds numbers _)
+    (row_and (having_heeds numbers _)
+    (row_and (having_heeds numbers _)
+    (row_and (having_heeds heap_heeds _)
+    (row_and (having_heeds heap_heeds _)
+    (row_and (having_heeds cast_heeds _)
+    (row_and (having_heeds cast_heeds _)
     none_left_lem))))))))))))))))
 
 found_heeds : (b : ℕ) {rows : List (ℕ × Reader Instr)} → Rows rows → {other : Read Instr} (s : List ℕ) (at : ℕ) → at ≤ length s → Heeds (length s) other → Heeds (length s) (given (find b rows) other (λ r. r s at))
 found_heeds b none_left_lem s at h o = o
-found_heeds b (row-and {code} {r} {more} k rest) {other} s at h o = go (eqb b code) (found_heeds b rest s at h o)
+found_heeds b (row_and {code} {r} {more} k rest) {other} s at h o = go (eqb b code) (found_heeds b rest s at h o)
   where
     go : (t : Bool) → Heeds (length s) (given (find b more) other (λ q. q s at)) → Heeds (length s) (given (cond t (some r) (find b more)) other (λ q. q s at))
     go true later = k.heeds s at h
@@ -128,6 +128,6 @@ instr_heeds =
       heeds = λ s at h.
           heeds_byte s at _ h (λ b inside.
           heeds_cond (eqb b 0xFB)
-          (heeds_then (numbers.heeds s (at + 1) (omega arith)) (λ n next a. found_heeds n later_rows s next a (refuses is_not-listed (omega arith))))
-          (found_heeds b first_rows s (at + 1) (omega arith) (heeds_given (numeric_of b) (refuses is_not-listed h) (λ kinds. (bare_heeds (numeric b)).heeds s (at + 1) (omega arith)))));
+          (heeds_then (numbers.heeds s (at + 1) (omega arith)) (λ n next a. found_heeds n later_rows s next a (refuses is_not_listed (omega arith))))
+          (found_heeds b first_rows s (at + 1) (omega arith) (heeds_given (numeric_of b) (refuses is_not_listed h) (λ kinds. (bare_heeds (numeric b)).heeds s (at + 1) (omega arith)))));
     }

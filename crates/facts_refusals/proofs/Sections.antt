@@ -19,7 +19,7 @@ use Rattle.facts_sections.specs.FirstFault.{FirstBroken, broken, kept_then, link
 use Rattle.facts_sections.proofs.SectionReading.{section_found, section_read}
 use Rattle.facts_sections.proofs.FaultOrder.{first_fault_said, refused_exactly}
 use Rattle.facts_sections.proofs.Libraries.{never_there}
-use Rattle.facts_refusals.specs.Numbers.{ByteFault, RuleFault, is_out_of_reach, is_bad_supertype, is_long_chain, is_no_match, is_clause_not-on_struct, is_describes_not_earlier, is_clauses_disagree, is_bad_descriptor, is_bad_describes}
+use Rattle.facts_refusals.specs.Numbers.{ByteFault, RuleFault, is_out_of_reach, is_bad_supertype, is_long_chain, is_no_match, is_clause_not_on_struct, is_describes_not_earlier, is_clauses_disagree, is_bad_descriptor, is_bad_describes}
 use Rattle.facts_refusals.specs.Sections.{Unwritten, BytesRefused, SaysNo, of_library_bytes, of_library_rules, of_bytes, of_rules, SectionRefusals}
 use Rattle.facts_refusals.proofs.Reading.{Heeds, refuses, goes_on_lem, section_heeds}
 
@@ -52,18 +52,18 @@ link_number ts x (kept_then reach (broken no_super)) = is_bad_supertype
 link_number ts x (kept_then reach (kept_then super (broken no-chain))) = is_long_chain
 link_number ts x {n = n} (kept_then reach (kept_then super (kept_then _ x17))) = elim x17 [ ]
 
-type-number : (ts : Types) (x : ℕ) {n : ℕ} → FirstBroken (type_rules ts x) n → RuleFault n
-type-number ts x (broken a) = is_no_match
-type-number ts x (kept_then p (broken a)) = is_clause_not-on_struct
-type-number ts x (kept_then p (kept_then q (broken a))) = is_describes_not_earlier
-type-number ts x (kept_then p (kept_then q (kept_then r (broken a)))) = is_clauses_disagree
-type-number ts x (kept_then p (kept_then q (kept_then r (kept_then t (broken a))))) = is_bad_descriptor
-type-number ts x (kept_then p (kept_then q (kept_then r (kept_then t (kept_then u (broken a)))))) = is_bad_describes
-type-number ts x {n = n} (kept_then p (kept_then q (kept_then r (kept_then t (kept_then u (kept_then _ x29)))))) = elim x29 [ ]
+is_type_number : (ts : Types) (x : ℕ) {n : ℕ} → FirstBroken (type_rules ts x) n → RuleFault n
+is_type_number ts x (broken a) = is_no_match
+is_type_number ts x (kept_then p (broken a)) = is_clause_not_on_struct
+is_type_number ts x (kept_then p (kept_then q (broken a))) = is_describes_not_earlier
+is_type_number ts x (kept_then p (kept_then q (kept_then r (broken a)))) = is_clauses_disagree
+is_type_number ts x (kept_then p (kept_then q (kept_then r (kept_then t (broken a))))) = is_bad_descriptor
+is_type_number ts x (kept_then p (kept_then q (kept_then r (kept_then t (kept_then u (broken a)))))) = is_bad_describes
+is_type_number ts x {n = n} (kept_then p (kept_then q (kept_then r (kept_then t (kept_then u (kept_then _ x29)))))) = elim x29 [ ]
 
 fault_number : {ts : Types} {n number place : ℕ} → FirstFault ts n number place → RuleFault number × (place < n)
 fault_number {ts = ts} {place = place} (in_links first) = (link_number ts place first.here, first.inside)
-fault_number {ts = ts} {place = place} (in_rules links first) = (type-number ts place first.here, first.inside)
+fault_number {ts = ts} {place = place} (in_rules links first) = (is_type_number ts place first.here, first.inside)
 
 why_library : {library addon : List ℕ} {number : ℕ} {place : Place} → LibraryRefused library number place → SaysNo library addon number place
 why_library {library} {number = number} (library_bytes {p = p} f) =

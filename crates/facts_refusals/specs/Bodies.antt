@@ -129,7 +129,7 @@ pub record FirstFaulty (c : Context) (start : State) (s : List ℕ) (first numbe
 -- two at its first byte.
 pub data EntryFault (count : ℕ) (s : List ℕ) (at before : ℕ) : ℕ → ℕ → Type 0 where
   count_bytes : {number place : ℕ} → u32 s at ≡ refused number place → EntryFault count s at before number place
-  type-bytes : {number place many type : ℕ} → u32 s at ≡ got many type → val_at s type ≡ refused number place → EntryFault count s at before number place
+  type_bytes : {number place many type : ℕ} → u32 s at ≡ got many type → val_at s type ≡ refused number place → EntryFault count s at before number place
   type_unreached : {many type next : ℕ} {v : Val} → u32 s at ≡ got many type → val_at s type ≡ got v next
       → ¬ ValReached count v → EntryFault count s at before out_of_reach at
   too_many : {many type next : ℕ} {v : Val} → u32 s at ≡ got many type → val_at s type ≡ got v next
@@ -192,7 +192,7 @@ pub record Ordered (ts : Types) : Type 0 where
 pub data BodyPlace (library section s : List ℕ) (x : ℕ) : ℕ → Place → Type 1 where
   of_section : {number : ℕ} {place : Place} → SaysNo library section number place → BodyPlace library section s x number place
   of_whole_size : BodyPlace library section s x oversize (plain 0)
-  of_type-number : BodyPlace library section s x not_a_function (plain 0)
+  of_type_number : BodyPlace library section s x not_a_function (plain 0)
   of_bytes : {number place : ℕ} → ByteFault number → place ≤ length s → BodyPlace library section s x number (plain place)
   of_entry : {number place : ℕ} → EntryNumber number → place ≤ length s → BodyPlace library section s x number (plain place)
   of_instruction : {number place next : ℕ} {i : Instr} → InstructionFault number → instr_at s place ≡ got i next → BodyPlace library section s x number (plain place)

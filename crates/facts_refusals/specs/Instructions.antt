@@ -8,7 +8,7 @@ use Rattle.scope.specs.Lists.{every}
 use Rattle.scope.specs.Refusals.{not_listed, out_of_reach, absent, bad_struct, field_fixed, bad_branch, no_default, not_set}
 use Rattle.scope.specs.Syntax.{Heap, Val, Field, Form, struct, Types}
 use Rattle.scope.specs.Order.{ValOrder}
-use Rattle.scope.specs.Instructions.{Cast, Op, unreachable, nop, return, drop_value, br, br-if, local_get, local-set, local_tee, i32_const, i64_const, f32_const, f64_const, numeric, ref_null, ref-is-null, ref-eq, ref-as-non-null, struct_new, struct-new-default, struct_get, struct_set, ref_test, ref_cast, br_on_cast, br_on_cast_fail, struct-new-desc, struct-new-default-desc, ref_get_desc, ref_cast_desc_eq, br_on_cast_desc_eq, br_on_cast_desc_eq_fail}
+use Rattle.scope.specs.Instructions.{Cast, Op, unreachable, nop, return, drop_value, br, br_if, local_get, local_set, local_tee, i32_const, i64_const, f32_const, f64_const, numeric, ref_null, ref_is_null, ref_eq, ref_as_non_null, struct_new, struct_new_default, struct_get, struct_set, ref_test, ref_cast, br_on_cast, br_on_cast_fail, struct_new_desc, struct_new_default_desc, ref_get_desc, ref_cast_desc_eq, br_on_cast_desc_eq, br_on_cast_desc_eq_fail}
 use Rattle.scope.specs.BodyRules.{Context, Scope, holds_of, rest_of}
 use Rattle.facts_sections.specs.FirstFault.{Rule}
 use Rattle.facts_types.specs.TypeRelations.{IsStruct}
@@ -39,7 +39,7 @@ pub data Question : Type 0 where
   -- 29: no default
   all_defaults : ℕ → Question
   -- 22: local not set
-  local_set : ℕ → Question
+  local_is_set : ℕ → Question
 
 abbrev pub number_of : Question → ℕ
 number_of (code_listed b) = not_listed
@@ -57,7 +57,7 @@ number_of (supertype_shared k) = bad_branch
 number_of (label_has_types l) = bad_branch
 number_of (label_takes l v) = bad_branch
 number_of (all_defaults x) = no_default
-number_of (local_set x) = not_set
+number_of (local_is_set x) = not_set
 
 -- what a yes means
 
@@ -102,7 +102,7 @@ Means c here (supertype_shared k) = ShareSupertype c.count c.types (cast_source 
 Means c here (label_has_types l) = LabelHasTypes here.labels l
 Means c here (label_takes l v) = LabelTakes c.types here.labels l v
 Means c here (all_defaults x) = AllDefaults (c.types x).form
-Means c here (local_set x) = get_elem? here.is_set x ≡ some true
+Means c here (local_is_set x) = get_elem? here.is_set x ≡ some true
 
 abbrev pub rule_of : Context → Scope → Question → Rule
 rule_of c here q = record { says = Means c here q; number = number_of q }
@@ -126,9 +126,9 @@ asks nop = []
 asks return = []
 asks drop_value = []
 asks (br l) = label_there l ∷ []
-asks (br-if l) = label_there l ∷ []
-asks (local_get x) = local_there x ∷ local_set x ∷ []
-asks (local-set x) = local_there x ∷ []
+asks (br_if l) = label_there l ∷ []
+asks (local_get x) = local_there x ∷ local_is_set x ∷ []
+asks (local_set x) = local_there x ∷ []
 asks (local_tee x) = local_there x ∷ []
 asks (i32_const n) = []
 asks (i64_const n) = []
@@ -136,19 +136,19 @@ asks (f32_const n) = []
 asks (f64_const n) = []
 asks (numeric b) = code_listed b ∷ []
 asks (ref_null h) = heaps_reached (h ∷ []) ∷ []
-asks ref-is-null = []
-asks ref-eq = []
-asks ref-as-non-null = []
+asks ref_is_null = []
+asks ref_eq = []
+asks ref_as_non_null = []
 asks (struct_new x) = type_reached x ∷ is_struct x ∷ no_descriptor x ∷ []
-asks (struct-new-default x) = type_reached x ∷ is_struct x ∷ no_descriptor x ∷ all_defaults x ∷ []
+asks (struct_new_default x) = type_reached x ∷ is_struct x ∷ no_descriptor x ∷ all_defaults x ∷ []
 asks (struct_get x i) = type_reached x ∷ is_struct x ∷ has_field x i ∷ []
 asks (struct_set x i) = type_reached x ∷ is_struct x ∷ has_field x i ∷ field_mutable x i ∷ []
 asks (ref_test n h) = heaps_reached (h ∷ []) ∷ []
 asks (ref_cast n h) = heaps_reached (h ∷ []) ∷ []
 asks (br_on_cast k) = cast_asks k [] (cast_target k)
 asks (br_on_cast_fail k) = cast_asks k [] (rest_of k)
-asks (struct-new-desc x) = type_reached x ∷ is_struct x ∷ has_descriptor x ∷ []
-asks (struct-new-default-desc x) = type_reached x ∷ is_struct x ∷ has_descriptor x ∷ all_defaults x ∷ []
+asks (struct_new_desc x) = type_reached x ∷ is_struct x ∷ has_descriptor x ∷ []
+asks (struct_new_default_desc x) = type_reached x ∷ is_struct x ∷ has_descriptor x ∷ all_defaults x ∷ []
 asks (ref_get_desc x) = type_reached x ∷ has_descriptor x ∷ []
 asks (ref_cast_desc_eq n h) = heaps_reached (h ∷ []) ∷ cast_described h ∷ []
 asks (br_on_cast_desc_eq k) = cast_asks k (cast_described k.target ∷ []) (cast_target k)

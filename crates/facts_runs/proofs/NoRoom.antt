@@ -14,7 +14,7 @@ use Rattle.scope.specs.Refusals.{trap_no_room}
 use Rattle.scope.specs.Reading.{given}
 use Rattle.scope.specs.Syntax.{Val, Field, Form, struct, func}
 use Rattle.scope.specs.BodyRules.{fields_of, holds_of}
-use Rattle.scope.specs.Instructions.{Op, unreachable, nop, return, drop_value, br, br-if, local_get, local-set, local_tee, i32_const, i64_const, f32_const, f64_const, numeric, ref_null, ref-is-null, ref-eq, ref-as-non-null, struct_new, struct-new-default, struct_get, struct_set, ref_test, ref_cast, br_on_cast, br_on_cast_fail, struct-new-desc, struct-new-default-desc, ref_get_desc, ref_cast_desc_eq, br_on_cast_desc_eq, br_on_cast_desc_eq_fail}
+use Rattle.scope.specs.Instructions.{Op, unreachable, nop, return, drop_value, br, br_if, local_get, local_set, local_tee, i32_const, i64_const, f32_const, f64_const, numeric, ref_null, ref_is_null, ref_eq, ref_as_non_null, struct_new, struct_new_default, struct_get, struct_set, ref_test, ref_cast, br_on_cast, br_on_cast_fail, struct_new_desc, struct_new_default_desc, ref_get_desc, ref_cast_desc_eq, br_on_cast_desc_eq, br_on_cast_desc_eq_fail}
 use Rattle.scope.specs.Machine.{Value, number, null, object, Object, Store, Machine, Program, Outcome, goes, traps, stuck, with_operands, with_heap, split_top, cells_of, has_room, make, make_given, defaults_of, default_of, make_default, on_descriptor, do_op}
 use Rattle.scope.proofs.Truths.{none_is_not-some, from_both}
 use Rattle.facts_runs.specs.Counting.{makes_object}
@@ -150,13 +150,13 @@ default_45 p m x d vs e = go (p.types x).form refl e
 
 -- 45 to its condition
 
-desc_45 : (p : Program) (m : Machine) (x : ℕ) (vs : List Value) → on_descriptor vs (λ d below. make_given p m x (some d) below) ≡ traps trap_no_room → TrapsNoRoom p m.heap vs (struct-new-desc x)
+desc_45 : (p : Program) (m : Machine) (x : ℕ) (vs : List Value) → on_descriptor vs (λ d below. make_given p m x (some d) below) ≡ traps trap_no_room → TrapsNoRoom p m.heap vs (struct_new_desc x)
 desc_45 p m x [] e = absurd (other_not_45 is_stuck e)
 desc_45 p m x (number k n ∷ vs) e = absurd (other_not_45 is_stuck e)
 desc_45 p m x (null ∷ vs) e = absurd (other_not_45 (other_trap each_not_45.null_descriptor) e)
 desc_45 p m x (object d ∷ vs) e = let g = given_45 p m x (some d) vs e in record { fields = length g.fs; comes = of_new_desc g.form g.there; no_room = g.full }
 
-desc_default_45 : (p : Program) (m : Machine) (x : ℕ) (vs : List Value) → on_descriptor vs (λ d below. make_default p m x (some d) below) ≡ traps trap_no_room → TrapsNoRoom p m.heap vs (struct-new-default-desc x)
+desc_default_45 : (p : Program) (m : Machine) (x : ℕ) (vs : List Value) → on_descriptor vs (λ d below. make_default p m x (some d) below) ≡ traps trap_no_room → TrapsNoRoom p m.heap vs (struct_new_default_desc x)
 desc_default_45 p m x [] e = absurd (other_not_45 is_stuck e)
 desc_default_45 p m x (number k n ∷ vs) e = absurd (other_not_45 is_stuck e)
 desc_default_45 p m x (null ∷ vs) e = absurd (other_not_45 (other_trap each_not_45.null_descriptor) e)
@@ -170,9 +170,9 @@ says_45 p m vs nop e = absurd (not_45 p m vs nop refl e)
 says_45 p m vs return e = absurd (not_45 p m vs return refl e)
 says_45 p m vs drop_value e = absurd (not_45 p m vs drop_value refl e)
 says_45 p m vs (br l) e = absurd (not_45 p m vs (br l) refl e)
-says_45 p m vs (br-if l) e = absurd (not_45 p m vs (br-if l) refl e)
+says_45 p m vs (br_if l) e = absurd (not_45 p m vs (br_if l) refl e)
 says_45 p m vs (local_get x) e = absurd (not_45 p m vs (local_get x) refl e)
-says_45 p m vs (local-set x) e = absurd (not_45 p m vs (local-set x) refl e)
+says_45 p m vs (local_set x) e = absurd (not_45 p m vs (local_set x) refl e)
 says_45 p m vs (local_tee x) e = absurd (not_45 p m vs (local_tee x) refl e)
 says_45 p m vs (i32_const n) e = absurd (not_45 p m vs (i32_const n) refl e)
 says_45 p m vs (i64_const n) e = absurd (not_45 p m vs (i64_const n) refl e)
@@ -180,19 +180,19 @@ says_45 p m vs (f32_const n) e = absurd (not_45 p m vs (f32_const n) refl e)
 says_45 p m vs (f64_const n) e = absurd (not_45 p m vs (f64_const n) refl e)
 says_45 p m vs (numeric b) e = absurd (not_45 p m vs (numeric b) refl e)
 says_45 p m vs (ref_null h) e = absurd (not_45 p m vs (ref_null h) refl e)
-says_45 p m vs ref-is-null e = absurd (not_45 p m vs ref-is-null refl e)
-says_45 p m vs ref-eq e = absurd (not_45 p m vs ref-eq refl e)
-says_45 p m vs ref-as-non-null e = absurd (not_45 p m vs ref-as-non-null refl e)
+says_45 p m vs ref_is_null e = absurd (not_45 p m vs ref_is_null refl e)
+says_45 p m vs ref_eq e = absurd (not_45 p m vs ref_eq refl e)
+says_45 p m vs ref_as_non_null e = absurd (not_45 p m vs ref_as_non_null refl e)
 says_45 p m vs (struct_new x) e = let g = given_45 p m x none vs e in record { fields = length g.fs; comes = of_new g.form g.there; no_room = g.full }
-says_45 p m vs (struct-new-default x) e = let g = default_45 p m x none vs e in record { fields = length g.fs; comes = of_default g.form g.there; no_room = g.full }
+says_45 p m vs (struct_new_default x) e = let g = default_45 p m x none vs e in record { fields = length g.fs; comes = of_default g.form g.there; no_room = g.full }
 says_45 p m vs (struct_get x i) e = absurd (not_45 p m vs (struct_get x i) refl e)
 says_45 p m vs (struct_set x i) e = absurd (not_45 p m vs (struct_set x i) refl e)
 says_45 p m vs (ref_test n h) e = absurd (not_45 p m vs (ref_test n h) refl e)
 says_45 p m vs (ref_cast n h) e = absurd (not_45 p m vs (ref_cast n h) refl e)
 says_45 p m vs (br_on_cast k) e = absurd (not_45 p m vs (br_on_cast k) refl e)
 says_45 p m vs (br_on_cast_fail k) e = absurd (not_45 p m vs (br_on_cast_fail k) refl e)
-says_45 p m vs (struct-new-desc x) e = desc_45 p m x vs e
-says_45 p m vs (struct-new-default-desc x) e = desc_default_45 p m x vs e
+says_45 p m vs (struct_new_desc x) e = desc_45 p m x vs e
+says_45 p m vs (struct_new_default_desc x) e = desc_default_45 p m x vs e
 says_45 p m vs (ref_get_desc x) e = absurd (not_45 p m vs (ref_get_desc x) refl e)
 says_45 p m vs (ref_cast_desc_eq n h) e = absurd (not_45 p m vs (ref_cast_desc_eq n h) refl e)
 says_45 p m vs (br_on_cast_desc_eq k) e = absurd (not_45 p m vs (br_on_cast_desc_eq k) refl e)

@@ -16,7 +16,7 @@ use Rattle.scope.specs.Syntax.{Heap, exact, Types, Number, i32, i64, f32, f64}
 use Rattle.scope.specs.Order.{same_number, heap_below}
 use Rattle.scope.specs.Numeric.{Numeric, numeric_of}
 use Rattle.scope.specs.Arithmetic.{Deed, of_one, of_two, deed_of}
-use Rattle.scope.specs.Instructions.{Op, unreachable, nop, return, drop_value, br, br-if, local_get, local-set, local_tee, i32_const, i64_const, f32_const, f64_const, numeric, ref_null, ref-is-null, ref-eq, ref-as-non-null, struct_new, struct-new-default, struct_get, struct_set, ref_test, ref_cast, br_on_cast, br_on_cast_fail, struct-new-desc, struct-new-default-desc, ref_get_desc, ref_cast_desc_eq, br_on_cast_desc_eq, br_on_cast_desc_eq_fail, Instr, block, loop, end, op}
+use Rattle.scope.specs.Instructions.{Op, unreachable, nop, return, drop_value, br, br_if, local_get, local_set, local_tee, i32_const, i64_const, f32_const, f64_const, numeric, ref_null, ref_is_null, ref_eq, ref_as_non_null, struct_new, struct_new_default, struct_get, struct_set, ref_test, ref_cast, br_on_cast, br_on_cast_fail, struct_new_desc, struct_new_default_desc, ref_get_desc, ref_cast_desc_eq, br_on_cast_desc_eq, br_on_cast_desc_eq_fail, Instr, block, loop, end, op}
 use Rattle.scope.specs.BodyRules.{fields_of, holds_of}
 use Rattle.scope.specs.Bodies.{Code}
 use Rattle.scope.specs.Machine.{Value, number, null, object, Object, Store, object_of, with_new, Block, open_block, open_loop, Machine, Program, Outcome, goes, ends, traps, stuck, truth, with_control, on_i32, on_number, on_reference, on_object, on_taken, split_top, calculate, do_numeric, make, has_room, defaults_of, make_given, make_default, on_descriptor, cast_passes, is_very, descriptor_cast_passes, finish, jump, branch, do_end, do_op, do_instr, step_on, step}
@@ -164,9 +164,9 @@ module _ (p : Program) (m : Machine) where
   op_does vs return = finishes vs
   op_does vs drop_value = on-taken vs (λ v below. kept)
   op_does vs (br l) = branches l vs
-  op_does vs (br-if l) = on-taken vs (λ v below. on_i32_lem v (λ n. on-cond (eqb n 0) kept (branches l below)))
+  op_does vs (br_if l) = on-taken vs (λ v below. on_i32_lem v (λ n. on-cond (eqb n 0) kept (branches l below)))
   op_does vs (local_get x) = on-given (get_elem? m.locals x) failing (λ held. on-given held failing (λ v. kept))
-  op_does vs (local-set x) = on-taken vs (λ v below. on-given (get_elem? m.locals x) failing (λ old. kept))
+  op_does vs (local_set x) = on-taken vs (λ v below. on-given (get_elem? m.locals x) failing (λ old. kept))
   op_does vs (local_tee x) = on-taken vs (λ v below. on-given (get_elem? m.locals x) failing (λ old. kept))
   op_does vs (i32_const n) = kept
   op_does vs (i64_const n) = kept
@@ -174,13 +174,13 @@ module _ (p : Program) (m : Machine) where
   op_does vs (f64_const n) = kept
   op_does vs (numeric b) = numerically b vs
   op_does vs (ref_null h) = kept
-  op_does vs ref-is-null = on-taken vs (λ v below. on_reference_lem v (λ r. kept))
-  op_does vs ref-eq =
+  op_does vs ref_is_null = on-taken vs (λ v below. on_reference_lem v (λ r. kept))
+  op_does vs ref_eq =
       on-taken vs (λ v others. on-taken others (λ w below. on_reference_lem v (λ r. on_reference_lem w (λ q. kept))))
-  op_does vs ref-as-non-null =
+  op_does vs ref_as_non_null =
       on-taken vs (λ v below. on_reference_lem v (λ r. on-given r trapping (λ o. kept)))
   op_does vs (struct_new x) = makes_given x none vs
-  op_does vs (struct-new-default x) = makes_default x none vs
+  op_does vs (struct_new_default x) = makes_default x none vs
   op_does vs (struct_get x i) =
       on-taken vs (λ v below. on_object_lem m.heap trap_null v (λ o it. on-given (get_elem? it.fields i) failing (λ held. kept)))
   op_does vs (struct_set x i) =
@@ -194,8 +194,8 @@ module _ (p : Program) (m : Machine) where
       on-taken vs (λ v below. on_passes p.types m.heap k.target_null k.target v (λ b. on-cond b (branches k.label vs) kept))
   op_does vs (br_on_cast_fail k) =
       on-taken vs (λ v below. on_passes p.types m.heap k.target_null k.target v (λ b. on-cond b kept (branches k.label vs)))
-  op_does vs (struct-new-desc x) = on_descriptor_lem vs (λ d below. makes_given x (some d) below)
-  op_does vs (struct-new-default-desc x) = on_descriptor_lem vs (λ d below. makes_default x (some d) below)
+  op_does vs (struct_new_desc x) = on_descriptor_lem vs (λ d below. makes_given x (some d) below)
+  op_does vs (struct_new_default_desc x) = on_descriptor_lem vs (λ d below. makes_default x (some d) below)
   op_does vs (ref_get_desc x) =
       on-taken vs (λ v below. on_object_lem m.heap trap_null v (λ o it. on-given it.descriptor failing (λ d. kept)))
   op_does vs (ref_cast_desc_eq n h) =

@@ -15,7 +15,7 @@ use Rattle.scope.specs.BodyRules.{fields_of, holds_of}
 use Rattle.scope.specs.Order.{same_number}
 use Rattle.scope.specs.Numeric.{Numeric, numeric_of}
 use Rattle.scope.specs.Arithmetic.{Deed, of_one, of_two, deed_of}
-use Rattle.scope.specs.Instructions.{Op, unreachable, nop, return, drop_value, br, br-if, local_get, local-set, local_tee, i32_const, i64_const, f32_const, f64_const, numeric, ref_null, ref-is-null, ref-eq, ref-as-non-null, struct_new, struct-new-default, struct_get, struct_set, ref_test, ref_cast, br_on_cast, br_on_cast_fail, struct-new-desc, struct-new-default-desc, ref_get_desc, ref_cast_desc_eq, br_on_cast_desc_eq, br_on_cast_desc_eq_fail}
+use Rattle.scope.specs.Instructions.{Op, unreachable, nop, return, drop_value, br, br_if, local_get, local_set, local_tee, i32_const, i64_const, f32_const, f64_const, numeric, ref_null, ref_is_null, ref_eq, ref_as_non_null, struct_new, struct_new_default, struct_get, struct_set, ref_test, ref_cast, br_on_cast, br_on_cast_fail, struct_new_desc, struct_new_default_desc, ref_get_desc, ref_cast_desc_eq, br_on_cast_desc_eq, br_on_cast_desc_eq_fail}
 use Rattle.scope.specs.Machine.{Value, number, null, object, Object, Store, Block, open_block, open_loop, Machine, Program, Outcome, goes, ends, traps, stuck, with_operands, on_i32, on_number, on_reference, on_object, on_taken, truth, calculate, do_numeric, split_top, has_room, make, make_given, defaults_of, make_default, on_descriptor, cast_passes, descriptor_cast_passes, on_set, finish, jump, do_op}
 use Rattle.scope.proofs.Impossible.{contradiction}
 use Rattle.facts_runs.specs.Counting.{makes_object}
@@ -146,9 +146,9 @@ module _ {P : ℕ → Type 0} (each : Each P) where
   other_op p m vs return room last = other_finish p m vs
   other_op p m vs drop_value room last = other_taken vs (λ v below. goes_on_lem)
   other_op p m vs (br l) room last = other_jump p m l m.blocks vs l
-  other_op p m vs (br-if l) room last = other_taken vs (λ v below. other_i32 v (λ n. other_cond (eqb n 0) (goes_on_lem {m = with_operands m below}) (other_jump p m l m.blocks below l)))
+  other_op p m vs (br_if l) room last = other_taken vs (λ v below. other_i32 v (λ n. other_cond (eqb n 0) (goes_on_lem {m = with_operands m below}) (other_jump p m l m.blocks below l)))
   other_op p m vs (local_get x) room last = other_given (get_elem? m.locals x) (λ held. other_given held (λ v. goes_on_lem))
-  other_op p m vs (local-set x) room last = other_taken vs (λ v below. other_set m x v (λ after. goes_on_lem {m = with_operands after below}))
+  other_op p m vs (local_set x) room last = other_taken vs (λ v below. other_set m x v (λ after. goes_on_lem {m = with_operands after below}))
   other_op p m vs (local_tee x) room last = other_taken vs (λ v below. other_set m x v (λ after. goes_on_lem {m = after}))
   other_op p m vs (i32_const n) room last = goes_on_lem
   other_op p m vs (i64_const n) room last = goes_on_lem
@@ -156,19 +156,19 @@ module _ {P : ℕ → Type 0} (each : Each P) where
   other_op p m vs (f64_const n) room last = goes_on_lem
   other_op p m vs (numeric b) room last = other_numeric m vs b (last b refl)
   other_op p m vs (ref_null h) room last = goes_on_lem
-  other_op p m vs ref-is-null room last = other_taken vs (λ v below. other_reference v (λ r. goes_on_lem))
-  other_op p m vs ref-eq room last = other_taken vs (λ v others. other_taken others (λ w below. other_reference v (λ r. other_reference w (λ q. goes_on_lem))))
-  other_op p m vs ref-as-non-null room last = other_taken vs (λ v below. other_reference v (λ r. other_null r (λ o. goes_on_lem)))
+  other_op p m vs ref_is_null room last = other_taken vs (λ v below. other_reference v (λ r. goes_on_lem))
+  other_op p m vs ref_eq room last = other_taken vs (λ v others. other_taken others (λ w below. other_reference v (λ r. other_reference w (λ q. goes_on_lem))))
+  other_op p m vs ref_as_non_null room last = other_taken vs (λ v below. other_reference v (λ r. other_null r (λ o. goes_on_lem)))
   other_op p m vs (struct_new x) room last = other_given_fields p m x none vs (room refl)
-  other_op p m vs (struct-new-default x) room last = other_default_fields p m x none vs (room refl)
+  other_op p m vs (struct_new_default x) room last = other_default_fields p m x none vs (room refl)
   other_op p m vs (struct_get x i) room last = other_taken vs (λ v below. other_object m.heap v (λ o it. other_given (get_elem? it.fields i) (λ held. goes_on_lem)))
   other_op p m vs (struct_set x i) room last = other_taken vs (λ new others. other_taken others (λ v below. other_object m.heap v (λ o it. other_given (get_elem? it.fields i) (λ old. goes_on_lem))))
   other_op p m vs (ref_test n h) room last = other_taken vs (λ v below. other_passes p.types m.heap n h v (λ b. goes_on_lem {m = with_operands m (truth b ∷ below)}))
   other_op p m vs (ref_cast n h) room last = other_taken vs (λ v below. other_passes p.types m.heap n h v (λ b. other_cond b (goes_on_lem {m = with_operands m (v ∷ below)}) (other_trap each.cast)))
   other_op p m vs (br_on_cast k) room last = other_taken vs (λ v below. other_passes p.types m.heap k.target_null k.target v (λ b. other_cond b (other_jump p m k.label m.blocks vs k.label) (goes_on_lem {m = m})))
   other_op p m vs (br_on_cast_fail k) room last = other_taken vs (λ v below. other_passes p.types m.heap k.target_null k.target v (λ b. other_cond b (goes_on_lem {m = m}) (other_jump p m k.label m.blocks vs k.label)))
-  other_op p m vs (struct-new-desc x) room last = other_descriptor vs (λ d below. other_given_fields p m x (some d) below (room refl))
-  other_op p m vs (struct-new-default-desc x) room last = other_descriptor vs (λ d below. other_default_fields p m x (some d) below (room refl))
+  other_op p m vs (struct_new_desc x) room last = other_descriptor vs (λ d below. other_given_fields p m x (some d) below (room refl))
+  other_op p m vs (struct_new_default_desc x) room last = other_descriptor vs (λ d below. other_default_fields p m x (some d) below (room refl))
   other_op p m vs (ref_get_desc x) room last = other_taken vs (λ v below. other_object m.heap v (λ o it. other_given it.descriptor (λ d. goes_on_lem)))
   other_op p m vs (ref_cast_desc_eq n h) room last = other_descriptor vs (λ d others. other_taken others (λ v below. other_passes_descriptor m.heap n d v (λ b. other_cond b (goes_on_lem {m = with_operands m others}) (other_trap each.cast))))
   other_op p m vs (br_on_cast_desc_eq k) room last = other_descriptor vs (λ d others. other_taken others (λ v below. other_passes_descriptor m.heap k.target_null d v (λ b. other_cond b (other_jump p m k.label m.blocks others k.label) (goes_on_lem {m = with_operands m others}))))

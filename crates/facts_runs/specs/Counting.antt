@@ -2,7 +2,7 @@
 -- whether code has a `loop`.
 use Rattle.std.specs.Prelude.{ℕ, zero, suc, Bool, true, false, not, cond, ◌&&◌, List, [], ◌∷◌}
 use Rattle.scope.specs.Lists.{some_of}
-use Rattle.scope.specs.Instructions.{Op, unreachable, nop, return, drop_value, br, br-if, local_get, local-set, local_tee, i32_const, i64_const, f32_const, f64_const, numeric, ref_null, ref-is-null, ref-eq, ref-as-non-null, struct_new, struct-new-default, struct_get, struct_set, ref_test, ref_cast, br_on_cast, br_on_cast_fail, struct-new-desc, struct-new-default-desc, ref_get_desc, ref_cast_desc_eq, br_on_cast_desc_eq, br_on_cast_desc_eq_fail, Instr, block, loop, end, op}
+use Rattle.scope.specs.Instructions.{Op, unreachable, nop, return, drop_value, br, br_if, local_get, local_set, local_tee, i32_const, i64_const, f32_const, f64_const, numeric, ref_null, ref_is_null, ref_eq, ref_as_non_null, struct_new, struct_new_default, struct_get, struct_set, ref_test, ref_cast, br_on_cast, br_on_cast_fail, struct_new_desc, struct_new_default_desc, ref_get_desc, ref_cast_desc_eq, br_on_cast_desc_eq, br_on_cast_desc_eq_fail, Instr, block, loop, end, op}
 use Rattle.scope.specs.Judging.{Judged, accepted, rejected}
 use Rattle.scope.specs.Bodies.{Code}
 use Rattle.scope.specs.Machine.{Machine, Program, OutcomeOf, Outcome, goes, ends, traps, stuck, step}
@@ -59,9 +59,9 @@ makes_object nop = false
 makes_object return = false
 makes_object drop_value = false
 makes_object (br l) = false
-makes_object (br-if l) = false
+makes_object (br_if l) = false
 makes_object (local_get x) = false
-makes_object (local-set x) = false
+makes_object (local_set x) = false
 makes_object (local_tee x) = false
 makes_object (i32_const n) = false
 makes_object (i64_const n) = false
@@ -69,19 +69,19 @@ makes_object (f32_const n) = false
 makes_object (f64_const n) = false
 makes_object (numeric b) = false
 makes_object (ref_null h) = false
-makes_object ref-is-null = false
-makes_object ref-eq = false
-makes_object ref-as-non-null = false
+makes_object ref_is_null = false
+makes_object ref_eq = false
+makes_object ref_as_non_null = false
 makes_object (struct_new x) = true
-makes_object (struct-new-default x) = true
+makes_object (struct_new_default x) = true
 makes_object (struct_get x i) = false
 makes_object (struct_set x i) = false
 makes_object (ref_test n h) = false
 makes_object (ref_cast n h) = false
 makes_object (br_on_cast k) = false
 makes_object (br_on_cast_fail k) = false
-makes_object (struct-new-desc x) = true
-makes_object (struct-new-default-desc x) = true
+makes_object (struct_new_desc x) = true
+makes_object (struct_new_default_desc x) = true
 makes_object (ref_get_desc x) = false
 makes_object (ref_cast_desc_eq n h) = false
 makes_object (br_on_cast_desc_eq k) = false

@@ -7,7 +7,7 @@ use Rattle.scope.specs.Sizes.{most_objects, most_cells}
 use Rattle.scope.specs.Refusals.{trap_no_room}
 use Rattle.scope.specs.Syntax.{Field, struct}
 use Rattle.scope.specs.BodyRules.{holds_of}
-use Rattle.scope.specs.Instructions.{Op, struct_new, struct-new-default, struct-new-desc, struct-new-default-desc}
+use Rattle.scope.specs.Instructions.{Op, struct_new, struct_new_default, struct_new_desc, struct_new_default_desc}
 use Rattle.scope.specs.Machine.{Value, object, Object, Store, Machine, Program, traps, split_top, defaults_of, do_op}
 
 -- the objects' cells, one for each field
@@ -25,11 +25,11 @@ pub data ComesToRoom (p : Program) : List Value → Op → ℕ → Type 0 where
   of_new : {x : ℕ} {fs : List Field} {vs : List Value} {split : List Value × List Value}
       → (p.types x).form ≡ struct fs → split_top (length fs) vs ≡ some split → ComesToRoom p vs (struct_new x) (length fs)
   of_default : {x : ℕ} {fs : List Field} {vs values : List Value}
-      → (p.types x).form ≡ struct fs → defaults_of (holds_of fs) ≡ some values → ComesToRoom p vs (struct-new-default x) (length fs)
+      → (p.types x).form ≡ struct fs → defaults_of (holds_of fs) ≡ some values → ComesToRoom p vs (struct_new_default x) (length fs)
   of_new_desc : {x d : ℕ} {fs : List Field} {vs : List Value} {split : List Value × List Value}
-      → (p.types x).form ≡ struct fs → split_top (length fs) vs ≡ some split → ComesToRoom p (object d ∷ vs) (struct-new-desc x) (length fs)
+      → (p.types x).form ≡ struct fs → split_top (length fs) vs ≡ some split → ComesToRoom p (object d ∷ vs) (struct_new_desc x) (length fs)
   of_default_desc : {x d : ℕ} {fs : List Field} {vs values : List Value}
-      → (p.types x).form ≡ struct fs → defaults_of (holds_of fs) ≡ some values → ComesToRoom p (object d ∷ vs) (struct-new-default-desc x) (length fs)
+      → (p.types x).form ≡ struct fs → defaults_of (holds_of fs) ≡ some values → ComesToRoom p (object d ∷ vs) (struct_new_default_desc x) (length fs)
 
 pub record TrapsNoRoom (p : Program) (heap : Store) (vs : List Value) (o : Op) : Type 0 where
   pub fields : ℕ

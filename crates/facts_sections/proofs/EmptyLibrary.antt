@@ -26,9 +26,9 @@ use Rattle.facts_sections.specs.EmptyLibrary.{types_alone, judge_alone, ask_alon
 use Rattle.facts_sections.proofs.SectionReading.{section_read}
 use Rattle.facts_sections.proofs.Limits.{limits}
 
-no-types : judge_library empty_library ≡ accepted []
+no_types : judge_library empty_library ≡ accepted []
 unfolding computes
-no-types = refl
+no_types = refl
 
 -- what goes on with the types goes on with the same types
 carried : {A : Type 0} (v : Judged (List Definition)) (f : Joined → Judged A) → and_then (and_then v (λ ds. accepted (own_types ds))) f ≡ and_then v (λ ds. f (own_types ds))
@@ -44,7 +44,7 @@ taken (rejected n p) f = refl
 module _ (most : ℕ) (s : List ℕ) (alike : read_under most 0 s ≡ read_after 0 s) where
   same_sections : judge_joined empty_library s ≡ and_then (judge_alone most s) (λ ds. accepted (own_types ds))
   unfolding judge_joined judge_alone
-  same_sections = rw (no-types, alike) (go (read_after 0 s))
+  same_sections = rw (no_types, alike) (go (read_after 0 s))
     where
       rules : (gs : List Group) (v : Judged ℕ) → and_then {B = Joined} v (λ all. accepted (record { before = 0; types = joined gs })) ≡ and_then (and_then v (λ all. accepted (joined gs))) (λ ds. accepted (own_types ds))
       rules gs (accepted m) = refl

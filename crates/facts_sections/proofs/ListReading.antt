@@ -12,7 +12,7 @@ use Rattle.scope.specs.Reading.{got, Reader, then, entries}
 use Rattle.scope.specs.Numbers.{u32}
 use Rattle.scope.specs.Sections.{few_at, supers_at}
 use Rattle.facts_sections.specs.WithinSizes.{Each}
-use Rattle.facts_sections.specs.Writing.{Unsigned, Anywhere, Entries, no_entry, an_entry, Counted, count_and-entries, Listed, listed}
+use Rattle.facts_sections.specs.Writing.{Unsigned, Anywhere, Entries, no_entry, an_entry, Counted, count_and_entries, Listed, listed}
 use Rattle.facts_sections.specs.Between.{Between, nothing}
 use Rattle.facts_sections.proofs.Between.{join, split_at, behind}
 use Rattle.facts_sections.proofs.Readers.{Found, Reads, AnySize, refused_is_not_got, then_got, found_got}
@@ -97,12 +97,12 @@ module _ {A : Type 0} (W : ℕ → ℕ → List ℕ → A → Type 0) {Small : A
       record {
         bytes = number.bytes ++ rest.bytes;
         lies = join number.lies rest.lies;
-        writes = count_and-entries count listed;
+        writes = count_and_entries count listed;
         small = record { each = rest.small.each; fits = rw same (rw same at rest.small.fits) };
       }
 
   counted_read : {s w : List ℕ} {at next : ℕ} {xs : List A} → Between s at w next → Roomy Small room xs → CountedBy W at w xs → counted one room s at ≡ got xs next
-  counted_read stretch roomy (count_and-entries {w = w} {xs = xs} number rest) =
+  counted_read stretch roomy (count_and_entries {w = w} {xs = xs} number rest) =
       let (first, second) = split_at w stretch in
       rw ((unsigned_reads 32).complete first number tt, entries_read (reads (length xs)) (room (length xs)) second rest roomy.each roomy.fits)
 
@@ -123,7 +123,7 @@ module _ {A : Type 0} {W : List ℕ → A → Type 0} where
   moved-entries to (an_entry {w = w} x xs) = an_entry x (moved-entries (to + length w) xs)
 
   moved : {at : ℕ} (to : ℕ) {w : List ℕ} {xs : List A} → Counted (Anywhere W) at w xs → Counted (Anywhere W) to w xs
-  moved to (count_and-entries {w = w} number rest) = count_and-entries number (moved-entries (to + length w) rest)
+  moved to (count_and_entries {w = w} number rest) = count_and_entries number (moved-entries (to + length w) rest)
 
   listed_at : (at : ℕ) {w : List ℕ} {xs : List A} → Listed W w xs → Counted (Anywhere W) at w xs
   listed_at at (listed list) = moved at list

@@ -13,7 +13,7 @@ use lib.Dec.{ltb, leb, lit<}
 use lib.Pow.{pow-add, pow_mono}
 use borrow.Author.Tests.{ltb-true, ltb-false, leb-true, leb-false, lt-ltb, le-ltb, le-leb}
 use Rattle.scope.specs.Numbers.{Whole, plus, minus, signed_of, within_unsigned, within_signed}
-use Rattle.facts_sections.specs.Writing.{Sevens, last_seven, seven_more, Twos, not_negative, negative, Shortest, none_shorter, NaturalRange, a_natural, WholeRange, from_zero-on, below-zero}
+use Rattle.facts_sections.specs.Writing.{Sevens, last_seven, seven_more, Twos, not_negative, negative, Shortest, none_shorter, NaturalRange, a_natural, WholeRange, from_zero_on, below-zero}
 
 pub record Kind {A : Type 0} (value : ℕ → ℕ → A) (holds : ℕ → A → Bool) (W : List ℕ → A → Type 0) (Range : ℕ → A → Type 0) : Type 0 where
   -- the bits of bytes mean a number, and a number's writing has such bits
@@ -170,9 +170,9 @@ whole_kind =
     }
   where
     ranged : (width : ℕ) (x : Whole) → within_signed width x ≡ true → WholeRange width x
-    ranged width (plus v) e = from_zero-on (ltb-true v _ e)
+    ranged width (plus v) e = from_zero_on (ltb-true v _ e)
     ranged width (minus v) e = below-zero (leb-true v _ e)
 
     in_wholes : {width : ℕ} {x : Whole} → WholeRange width x → within_signed width x ≡ true
-    in_wholes {width} (from_zero-on {v = v} h) = lt-ltb v (2 ^ (width - 1)) h
+    in_wholes {width} (from_zero_on {v = v} h) = lt-ltb v (2 ^ (width - 1)) h
     in_wholes {width} (below-zero {v = v} h) = le-leb v (2 ^ (width - 1)) h

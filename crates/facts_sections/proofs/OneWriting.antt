@@ -19,8 +19,8 @@ use Rattle.scope.specs.Lists.{every}
 use Rattle.scope.specs.Sections.{Head, read_after}
 use Rattle.scope.proofs.Computes.{computes}
 use Rattle.scope.proofs.Impossible.{impossible}
-use Rattle.facts_sections.specs.Writing.{Sevens, last_seven, seven_more, Twos, not_negative, negative, Shortest, none_shorter, a_numeral, Unsigned, Signed, WritesHeap, exact_type, abstract_code_lem, type-number, WritesVal, i32_type, i64_type, f32_type, f64_type, nullable_reference, reference, abstract_alone, WritesFlag, fixed-flag, mutable_flag, WritesField, a_field, Entries, no_entry, an_entry, Counted, count_and-entries, Anywhere, Listed, listed, WritesHead, open_with_supertypes, final_with_supertypes, neither, WritesClause, a_clause, no_clause, WritesForm, a_struct_form, a_func_form, WritesDefinition, a_definition, WritesGroup, several, alone, WritesGroups, no_group, a_group, WritesSection, a_section}
-use Rattle.facts_sections.specs.OneWriting.{All, none_left_lem, also, Bytes, OneWay, a_number, not_null, nullable-number, nullable_exact, OneWayForm, a_struct, a_function, OneWayGroups, OneWriting, read_unplaced, TwoWritings, several_writings, same_places, one_way, one_way_groups, HowFar}
+use Rattle.facts_sections.specs.Writing.{Sevens, last_seven, seven_more, Twos, not_negative, negative, Shortest, none_shorter, a_numeral, Unsigned, Signed, WritesHeap, exact_type, abstract_code_lem, is_type_number, WritesVal, i32_type, i64_type, f32_type, f64_type, nullable_reference, reference, abstract_alone, WritesFlag, fixed_flag, mutable_flag, WritesField, a_field, Entries, no_entry, an_entry, Counted, count_and_entries, Anywhere, Listed, listed, WritesHead, open_with_supertypes, final_with_supertypes, neither, WritesClause, a_clause, no_clause, WritesForm, a_struct_form, a_func_form, WritesDefinition, a_definition, WritesGroup, several, alone, WritesGroups, no_group, a_group, WritesSection, a_section}
+use Rattle.facts_sections.specs.OneWriting.{All, none_left_lem, also, Bytes, OneWay, a_number, not_null, nullable_number, nullable_exact, OneWayForm, a_struct, a_function, OneWayGroups, OneWriting, read_unplaced, TwoWritings, several_writings, same_places, one_way, one_way_groups, HowFar}
 use Rattle.facts_sections.proofs.NumberKinds.{both_true, sevens_below, sevens_some}
 use Rattle.facts_sections.proofs.SectionReading.{section_found}
 
@@ -69,7 +69,7 @@ whole-one width ws us (a_numeral p short range least) (a_numeral q brief within 
 heap_one : {w u : List ℕ} {h : Heap} → Bytes w → Bytes u → WritesHeap w h → WritesHeap u h → w ≡ u
 heap_one (also b ws) (also c us) (exact_type n) (exact_type m) = ap (λ (w : List ℕ). 0x62 ∷ w) (natural_one 32 ws us n m)
 heap_one ws us abstract_code_lem abstract_code_lem = refl
-heap_one ws us (type-number n) (type-number m) = whole-one 33 ws us n m
+heap_one ws us (is_type_number n) (is_type_number m) = whole-one 33 ws us n m
 heap_one (also b ws) none_left_lem (exact_type {w = w} n) x24 = elim x24 [ ]
 
 val_one : {w u : List ℕ} {v : Val} → OneWay v → Bytes w → Bytes u → WritesVal w v → WritesVal u v → w ≡ u
@@ -78,12 +78,12 @@ val_one a_number ws us i64_type i64_type = refl
 val_one a_number ws us f32_type f32_type = refl
 val_one a_number ws us f64_type f64_type = refl
 val_one not_null (also b ws) (also c us) (reference h) (reference k) = ap (λ (w : List ℕ). 0x64 ∷ w) (heap_one ws us h k)
-val_one nullable-number (also b ws) (also c us) (nullable_reference h) (nullable_reference k) = ap (λ (w : List ℕ). 0x63 ∷ w) (heap_one ws us h k)
+val_one nullable_number (also b ws) (also c us) (nullable_reference h) (nullable_reference k) = ap (λ (w : List ℕ). 0x63 ∷ w) (heap_one ws us h k)
 val_one nullable_exact (also b ws) (also c us) (nullable_reference h) (nullable_reference k) = ap (λ (w : List ℕ). 0x63 ∷ w) (heap_one ws us h k)
 val_one {u = u} (not_null {h = h}) none_left_lem us x11 _ = elim x11 [ ]
 val_one (not_null {h = h}) (also {xs = xs} b ws) none_left_lem _ x18 = elim x18 [ ]
-val_one {u = u} nullable-number none_left_lem us x14 _ = elim x14 [ ]
-val_one nullable-number (also {xs = xs} b ws) none_left_lem _ x22 = elim x22 [ ]
+val_one {u = u} nullable_number none_left_lem us x14 _ = elim x14 [ ]
+val_one nullable_number (also {xs = xs} b ws) none_left_lem _ x22 = elim x22 [ ]
 val_one {u = u} nullable_exact none_left_lem us x15 _ = elim x15 [ ]
 val_one nullable_exact (also {xs = xs} b ws) none_left_lem _ x23 = elim x23 [ ]
 
@@ -96,7 +96,7 @@ either_back (inl e) = rw e abstract_alone
 either_back (inr e) = rw e (nullable_reference abstract_code_lem)
 
 flag_one : {w u : List ℕ} {m : Bool} → WritesFlag w m → WritesFlag u m → w ≡ u
-flag_one fixed-flag fixed-flag = refl
+flag_one fixed_flag fixed_flag = refl
 flag_one mutable_flag mutable_flag = refl
 
 field_one : {w u : List ℕ} {f : Field} → OneWay f.holds → Bytes w → Bytes u → WritesField w f → WritesField u f → w ≡ u
@@ -118,7 +118,7 @@ module _ {A : Type 0} {W : ℕ → List ℕ → A → Type 0} {P : A → Type 0}
       ap₂ (λ (a b : List ℕ). a ++ b) (once.one p first begins x y) (entries-one {at = at + length w} {from = from + length u} ps rest more xs ys)
 
   counted-one : {at from : ℕ} {w u : List ℕ} {xs : List A} → All P xs → Bytes w → Bytes u → Counted W at w xs → Counted W from u xs → w ≡ u
-  counted-one ps ws us (count_and-entries {w = w} n xs) (count_and-entries {w = u} m ys) =
+  counted-one ps ws us (count_and_entries {w = w} n xs) (count_and_entries {w = u} m ys) =
       let (first, rest) = all_apart w ws in
       let (begins, more) = all_apart u us in
       ap₂ (λ (a b : List ℕ). a ++ b) (natural_one 32 first begins n m) (entries-one ps rest more xs ys)
@@ -208,7 +208,7 @@ begins_at_lem (a_definition head describes descriptor form) = refl
 
 -- a definition alone begins where its group does, and one of several later
 alone_begins : {reach far at : ℕ} {w u : List ℕ} {d : Definition} → WritesDefinition reach at w d → Counted (WritesDefinition far) (at + 1) u (d ∷ []) → ⊥
-alone_begins {d = d} first (count_and-entries n (an_entry other none)) =
+alone_begins {d = d} first (count_and_entries n (an_entry other none)) =
     let here = begins_at_lem first in let there = begins_at_lem other in omega arith
 
 group_one : {first at : ℕ} {w u : List ℕ} {g : Group} → All (λ d. OneWayForm d.form) g → Bytes w → Bytes u → WritesGroup first at w g → WritesGroup first at u g → w ≡ u
@@ -262,5 +262,5 @@ how_far =
     record {
       unplaced_same = several_same;
       placed_same = places_same;
-      met = (one_way_written, λ u us writes. section-one (also (also (a_struct (also a_number (also nullable-number (also not_null none_left_lem)))) none_left_lem) none_left_lem) us (bytes_below one_way refl) writes one_way_written);
+      met = (one_way_written, λ u us writes. section-one (also (also (a_struct (also a_number (also nullable_number (also not_null none_left_lem)))) none_left_lem) none_left_lem) us (bytes_below one_way refl) writes one_way_written);
     }

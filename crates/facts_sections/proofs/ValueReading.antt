@@ -19,7 +19,7 @@ use Rattle.scope.specs.Syntax.{Heap, exact, Number, Val, num, ref, Field}
 use Rattle.scope.specs.Sections.{type_number, heap_at, number_of, val_at, flag_at, field_at}
 use Rattle.scope.proofs.Truths.{none_is_not-some}
 use Rattle.scope.proofs.TenRows.{each, code-names}
-use Rattle.facts_sections.specs.Writing.{last_seven, seven_more, not_negative, a_numeral, Signed, WritesHeap, exact_type, abstract_code_lem, type-number, WritesVal, i32_type, i64_type, f32_type, f64_type, nullable_reference, reference, abstract_alone, WritesFlag, fixed-flag, mutable_flag, WritesField, a_field, Anywhere}
+use Rattle.facts_sections.specs.Writing.{last_seven, seven_more, not_negative, a_numeral, Signed, WritesHeap, exact_type, abstract_code_lem, is_type_number, WritesVal, i32_type, i64_type, f32_type, f64_type, nullable_reference, reference, abstract_alone, WritesFlag, fixed_flag, mutable_flag, WritesField, a_field, Anywhere}
 use Rattle.facts_sections.specs.Between.{Between, nothing, byte}
 use Rattle.facts_sections.proofs.Between.{join, split_at}
 use Rattle.facts_sections.proofs.Readers.{Found, Reads, AnySize, refused_is_not_got, then_got, byte_got, by_cond, by_given, found_got, this_byte, coded}
@@ -77,7 +77,7 @@ type-number-first (a_numeral (not_negative (seven_more high more) positive) shor
 
 numbered : {s : List ℕ} {at : ℕ} (w : Whole) {end next : ℕ} {h : Heap} → Found (Anywhere (Signed 33)) AnySize s at w end → type_number at w end ≡ got h next → Found (Anywhere WritesHeap) AnySize s at h next
 numbered (minus x) n e = absurd (refused_is_not_got e)
-numbered (plus x) n e = found_got e (record { bytes = n.bytes; lies = n.lies; writes = type-number n.writes; small = tt })
+numbered (plus x) n e = found_got e (record { bytes = n.bytes; lies = n.lies; writes = is_type_number n.writes; small = tt })
 
 heap_found : (s : List ℕ) (at : ℕ) {h : Heap} {next : ℕ} → heap_at s at ≡ got h next → Found (Anywhere WritesHeap) AnySize s at h next
 unfolding heap_at
@@ -96,7 +96,7 @@ heap_read : {s w : List ℕ} {at next : ℕ} {h : Heap} → Between s at w next 
 unfolding heap_at
 heap_read (byte there rest) (exact_type n) = rw (there, (unsigned_reads 32).complete rest n tt)
 heap_read (byte there nothing) (abstract_code_lem {a = a}) = rw (there, (code-kept a).not_exact_lem, code-names a)
-heap_read stretch (type-number n) =
+heap_read stretch (is_type_number n) =
     let (b, there, far) = type-number-first n stretch in
     let (not_exact_lem, not-abstract) = far_from_codes b far in
     rw (there, not_exact_lem, not-abstract, (signed_reads 33).complete stretch n tt)
@@ -163,7 +163,7 @@ flag_found : (s : List ℕ) (at : ℕ) {m : Bool} {next : ℕ} → flag_at s at 
 flag_found s at e =
     let (b, there, f) = byte_got s at _ e in
     by_cond (eqb b 0x00)
-    (λ same g. found_got g (record { bytes = 0x00 ∷ []; lies = this_byte there (eqb-true b 0x00 same) nothing; writes = fixed-flag; small = tt }))
+    (λ same g. found_got g (record { bytes = 0x00 ∷ []; lies = this_byte there (eqb-true b 0x00 same) nothing; writes = fixed_flag; small = tt }))
     (λ other g.
     by_cond (eqb b 0x01)
     (λ same k. found_got k (record { bytes = 0x01 ∷ []; lies = this_byte there (eqb-true b 0x01 same) nothing; writes = mutable_flag; small = tt }))
@@ -172,7 +172,7 @@ flag_found s at e =
     f
 
 flag_read : {s w : List ℕ} {at next : ℕ} {m : Bool} → Between s at w next → WritesFlag w m → flag_at s at ≡ got m next
-flag_read (byte there nothing) fixed-flag = rw there
+flag_read (byte there nothing) fixed_flag = rw there
 flag_read (byte there nothing) mutable_flag = rw there
 flag_read {s = s} {at = at} {m = m} nothing x5 = elim x5 [ ]
 flag_read {s = s} {at = at} {next = next} {m = m} (byte {b = b} there (byte {w = w} _ _)) x22 = elim x22 [ ]

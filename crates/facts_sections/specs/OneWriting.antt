@@ -23,7 +23,7 @@ Bytes = All (λ b. b < 256)
 pub data OneWay : Val → Type 0 where
   a_number : {n : Number} → OneWay (num n)
   not_null : {h : Heap} → OneWay (ref false h)
-  nullable-number : {x : ℕ} → OneWay (ref true (defined x))
+  nullable_number : {x : ℕ} → OneWay (ref true (defined x))
   nullable_exact : {x : ℕ} → OneWay (ref true (exact x))
 
 pub data OneWayForm : Form → Type 0 where

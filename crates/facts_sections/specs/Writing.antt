@@ -30,7 +30,7 @@ pub data NaturalRange (width : ℕ) : ℕ → Type 0 where
   a_natural : {v : ℕ} → v < 2 ^ width → NaturalRange width v
 
 pub data WholeRange (width : ℕ) : Whole → Type 0 where
-  from_zero-on : {v : ℕ} → v < 2 ^ (width - 1) → WholeRange width (plus v)
+  from_zero_on : {v : ℕ} → v < 2 ^ (width - 1) → WholeRange width (plus v)
   below-zero : {v : ℕ} → v ≤ 2 ^ (width - 1) → WholeRange width (minus v)
 
 -- a number of so many bits: at most the greatest length, in the range of the width, and no byte more than it needs
@@ -48,7 +48,7 @@ Signed = Numeral Twos WholeRange
 pub data WritesHeap : List ℕ → Heap → Type 0 where
   exact_type : {w : List ℕ} {x : ℕ} → Unsigned 32 w x → WritesHeap (0x62 ∷ w) (exact x)
   abstract_code_lem : {a : Abstract} → WritesHeap ((row a).code ∷ []) (abstract a)
-  type-number : {w : List ℕ} {x : ℕ} → Signed 33 w (plus x) → WritesHeap w (defined x)
+  is_type_number : {w : List ℕ} {x : ℕ} → Signed 33 w (plus x) → WritesHeap w (defined x)
 
 -- "7F i32, 7E i64, 7D f32, 7C f64, 63 heap (nullable), 64 heap; an abstract code alone is its nullable reference."
 pub data WritesVal : List ℕ → Val → Type 0 where
@@ -62,7 +62,7 @@ pub data WritesVal : List ℕ → Val → Type 0 where
 
 -- "Field: value type, then 00 fixed or 01 mutable."
 pub data WritesFlag : List ℕ → Bool → Type 0 where
-  fixed-flag : WritesFlag (0x00 ∷ []) false
+  fixed_flag : WritesFlag (0x00 ∷ []) false
   mutable_flag : WritesFlag (0x01 ∷ []) true
 
 pub data WritesField : List ℕ → Field → Type 0 where
@@ -75,7 +75,7 @@ pub data Entries {A : Type 0} (W : ℕ → List ℕ → A → Type 0) : ℕ → 
   an_entry : {at : ℕ} {w u : List ℕ} {x : A} {xs : List A} → W at w x → Entries W (at + length w) u xs → Entries W at (w ++ u) (x ∷ xs)
 
 pub data Counted {A : Type 0} (W : ℕ → List ℕ → A → Type 0) : ℕ → List ℕ → List A → Type 0 where
-  count_and-entries : {at : ℕ} {w u : List ℕ} {xs : List A} → Unsigned 32 w (length xs) → Entries W (at + length w) u xs → Counted W at (w ++ u) xs
+  count_and_entries : {at : ℕ} {w u : List ℕ} {xs : List A} → Unsigned 32 w (length xs) → Entries W (at + length w) u xs → Counted W at (w ++ u) xs
 
 -- what is written the same wherever it stands
 abbrev pub Anywhere : {A : Type 0} → (List ℕ → A → Type 0) → ℕ → List ℕ → A → Type 0

@@ -19,8 +19,8 @@ use Rattle.scope.proofs.Forward.{never_back}
 use Rattle.scope.proofs.ForwardBodies.{instr_takes}
 use Rattle.scope.proofs.Soundness.{Reaches, at_first, one_more}
 use Rattle.facts_steps.specs.Places.{state}
-use Rattle.facts_steps.specs.Branches.{Labelled, innermost, further_out, PastEnds, none_open, closes, opens_block, opens-loop, passes, no_end, Finishes, finishes, Branches, out_of_block, to_loop, out_of_function}
-use Rattle.facts_steps.specs.Rules.{Does, does_nop, does_return, does_br, does_br_if_zero, does_br_if, does_drop, does_local_get, does_local_set, does_local_tee, does_i32_const, does_i64_const, does_f32_const, does_f64_const, does_one, does_two, does_ref_null, does_null_is_null, does_object_is_null, does_eq_nulls, does_eq-one_object, does_eq-two_objects, does_eq_null_first, does_eq_null_second, does_as_non_null, does_make, does_struct_get, does_struct_set, does_get_desc, does_test-yes, does_test-no, does_cast, does_cast_desc_eq, does_on_cast, does_not-on_cast, does_on_fail, does_not-on_fail, does_on_desc_eq, does_not-on_desc_eq, does_on_desc_eq_fail, does_not-on_desc_eq_fail, does_trap, Steps, steps_block, steps_loop, steps_block_end, steps_loop-end, steps_function-end, steps_op}
+use Rattle.facts_steps.specs.Branches.{Labelled, innermost, further_out, PastEnds, none_open, closes, opens_block, opens_loop, passes, no_end, Finishes, finishes, Branches, out_of_block, to_loop, out_of_function}
+use Rattle.facts_steps.specs.Rules.{Does, does_nop, does_return, does_br, does_br_if_zero, does_br_if, does_drop, does_local_get, does_local_set, does_local_tee, does_i32_const, does_i64_const, does_f32_const, does_f64_const, does_one, does_two, does_ref_null, does_null_is_null, does_object_is_null, does_eq_nulls, does_eq_one_object, does_eq_two_objects, does_eq_null_first, does_eq_null_second, does_as_non_null, does_make, does_struct_get, does_struct_set, does_get_desc, does_test_yes, does_test_no, does_cast, does_cast_desc_eq, does_on_cast, does_not_on_cast, does_on_fail, does_not_on_fail, does_on_desc_eq, does_not_on_desc_eq, does_on_desc_eq_fail, does_not_on_desc_eq_fail, does_trap, Steps, steps_block, steps_loop, steps_block_end, steps_loop_end, steps_function_end, steps_op}
 use Rattle.facts_steps.specs.Laws.{StepOf}
 use Rattle.facts_steps.proofs.Laws.{step_laws}
 use Rattle.facts_calls.specs.Meant.{Placed, none_placed, next_placed}
@@ -44,7 +44,7 @@ past_tail : {n : ℕ} {code rest all : Code} → PastEnds n code rest → Tail c
 past_tail none_open t = t
 past_tail (closes more) t = past_tail more (rest_of t)
 past_tail (opens_block more) t = past_tail more (rest_of t)
-past_tail (opens-loop more) t = past_tail more (rest_of t)
+past_tail (opens_loop more) t = past_tail more (rest_of t)
 past_tail (passes more) t = past_tail more (rest_of t)
 past_tail no_end t = t
 
@@ -54,8 +54,8 @@ data OpenedIn (all : Code) : Block → Type 0 where
   by_loop : {at : ℕ} {rs : List Val} {below : List Value} {again : Code} → Tail ((at, loop rs) ∷ again) all → OpenedIn all (open_loop at below again)
 
 data AllOpenedIn (all : Code) : List Block → Type 0 where
-  none-opened : AllOpenedIn all []
-  one-opened : {b : Block} {bs : List Block} → OpenedIn all b → AllOpenedIn all bs → AllOpenedIn all (b ∷ bs)
+  none_opened : AllOpenedIn all []
+  one_opened : {b : Block} {bs : List Block} → OpenedIn all b → AllOpenedIn all bs → AllOpenedIn all (b ∷ bs)
 
 record Inside (all : Code) (m : Machine) : Type 0 where
   ahead : Tail m.code all
@@ -65,21 +65,21 @@ record Inside (all : Code) (m : Machine) : Type 0 where
 
 data Keeps (all : Code) : Outcome → Type 0 where
   on_going : {m : Machine} → Inside all m → Keeps all (goes m)
-  on-ending : {m : Machine} → Keeps all (ends m)
+  on_ending : {m : Machine} → Keeps all (ends m)
   on_trap : {n : ℕ} → Keeps all (traps n)
 
 finish-kept : {all : Code} {p : Program} {heap : Store} {locals : List (Option Value)} {vs : List Value} {r : Outcome} → Finishes p heap locals vs r → Keeps all r
-finish-kept (finishes s) = on-ending
+finish-kept (finishes s) = on_ending
 
 outer_opened : {all : Code} {b : Block} {bs outer : List Block} {l : ℕ} → AllOpenedIn all bs → Labelled l bs b outer → AllOpenedIn all (b ∷ outer)
 outer_opened f innermost = f
-outer_opened (one-opened o f) (further_out w) = outer_opened f w
+outer_opened (one_opened o f) (further_out w) = outer_opened f w
 
 its_outer : {all : Code} {b : Block} {bs : List Block} → AllOpenedIn all (b ∷ bs) → AllOpenedIn all bs
-its_outer (one-opened o f) = f
+its_outer (one_opened o f) = f
 
 its_own : {all : Code} {b : Block} {bs : List Block} → AllOpenedIn all (b ∷ bs) → OpenedIn all b
-its_own (one-opened o f) = o
+its_own (one_opened o f) = o
 
 loop-code : {all : Code} {at : ℕ} {below : List Value} {again : Code} → OpenedIn all (open_loop at below again) → Tail again all
 loop-code (by_loop t) = rest_of t
@@ -111,8 +111,8 @@ op_kept a f does_ref_null = on_going (record { ahead = a; opened = f })
 op_kept a f does_null_is_null = on_going (record { ahead = a; opened = f })
 op_kept a f does_object_is_null = on_going (record { ahead = a; opened = f })
 op_kept a f does_eq_nulls = on_going (record { ahead = a; opened = f })
-op_kept a f does_eq-one_object = on_going (record { ahead = a; opened = f })
-op_kept a f (does_eq-two_objects x) = on_going (record { ahead = a; opened = f })
+op_kept a f does_eq_one_object = on_going (record { ahead = a; opened = f })
+op_kept a f (does_eq_two_objects x) = on_going (record { ahead = a; opened = f })
 op_kept a f does_eq_null_first = on_going (record { ahead = a; opened = f })
 op_kept a f does_eq_null_second = on_going (record { ahead = a; opened = f })
 op_kept a f does_as_non_null = on_going (record { ahead = a; opened = f })
@@ -120,29 +120,29 @@ op_kept a f (does_make x y) = on_going (record { ahead = a; opened = f })
 op_kept a f (does_struct_get x y) = on_going (record { ahead = a; opened = f })
 op_kept a f (does_struct_set x y z) = on_going (record { ahead = a; opened = f })
 op_kept a f (does_get_desc x y) = on_going (record { ahead = a; opened = f })
-op_kept a f (does_test-yes x) = on_going (record { ahead = a; opened = f })
-op_kept a f (does_test-no x) = on_going (record { ahead = a; opened = f })
+op_kept a f (does_test_yes x) = on_going (record { ahead = a; opened = f })
+op_kept a f (does_test_no x) = on_going (record { ahead = a; opened = f })
 op_kept a f (does_cast x) = on_going (record { ahead = a; opened = f })
 op_kept a f (does_cast_desc_eq x) = on_going (record { ahead = a; opened = f })
 op_kept a f (does_on_cast x b) = branch_kept a f b
-op_kept a f (does_not-on_cast x) = on_going (record { ahead = a; opened = f })
+op_kept a f (does_not_on_cast x) = on_going (record { ahead = a; opened = f })
 op_kept a f (does_on_fail x b) = branch_kept a f b
-op_kept a f (does_not-on_fail x) = on_going (record { ahead = a; opened = f })
+op_kept a f (does_not_on_fail x) = on_going (record { ahead = a; opened = f })
 op_kept a f (does_on_desc_eq x b) = branch_kept a f b
-op_kept a f (does_not-on_desc_eq x) = on_going (record { ahead = a; opened = f })
+op_kept a f (does_not_on_desc_eq x) = on_going (record { ahead = a; opened = f })
 op_kept a f (does_on_desc_eq_fail x b) = branch_kept a f b
-op_kept a f (does_not-on_desc_eq_fail x) = on_going (record { ahead = a; opened = f })
+op_kept a f (does_not_on_desc_eq_fail x) = on_going (record { ahead = a; opened = f })
 op_kept a f (does_trap t) = on_trap
 
 step_kept : {all : Code} (p : Program) (m : Machine) {r : Outcome} → Inside all m → StepOf p m r → Keeps all r
 step_kept {all} p m inside s = go inside.ahead inside.opened s
   where
     go : {blocks : List Block} {code : Code} {r : Outcome} → Tail code all → AllOpenedIn all blocks → Steps p m.heap m.locals m.operands blocks code r → Keeps all r
-    go a f steps_block = on_going (record { ahead = rest_of a; opened = one-opened (by_block a refl) f })
-    go a f steps_loop = on_going (record { ahead = rest_of a; opened = one-opened (by_loop a) f })
+    go a f steps_block = on_going (record { ahead = rest_of a; opened = one_opened (by_block a refl) f })
+    go a f steps_loop = on_going (record { ahead = rest_of a; opened = one_opened (by_loop a) f })
     go a f steps_block_end = on_going (record { ahead = rest_of a; opened = its_outer f })
-    go a f steps_loop-end = on_going (record { ahead = rest_of a; opened = its_outer f })
-    go a f (steps_function-end t) = finish-kept t
+    go a f steps_loop_end = on_going (record { ahead = rest_of a; opened = its_outer f })
+    go a f (steps_function_end t) = finish-kept t
     go a f (steps_op d) = op_kept (rest_of a) f d
 
 same_goes : {m n : Machine} → ◌≡◌ {A = Outcome} (goes m) (goes n) → m ≡ n
@@ -150,11 +150,11 @@ same_goes e = cc
 
 kept-inside : {all : Code} {m : Machine} {r : Outcome} → Keeps all r → r ≡ goes m → Inside all m
 kept-inside {all} (on_going {m = n} i) e = subst (Inside all) (same_goes e) i
-kept-inside on-ending e = absurd (contradiction cc)
+kept-inside on_ending e = absurd (contradiction cc)
 kept-inside on_trap e = absurd (contradiction cc)
 
 reached-inside : (b : Body) {n : ℕ} {m : Machine} → Reaches (program_of b) (start_of b) n m → Inside b.code m
-reached-inside b at_first = record { ahead = whole; opened = none-opened }
+reached-inside b at_first = record { ahead = whole; opened = none_opened }
 reached-inside b (one_more {k = k} {later = m} r e) =
     kept-inside (step_kept (program_of b) k (reached-inside b r) ((step_laws.goes_on_lem (program_of b) k m).0 e)) refl
 
@@ -225,10 +225,10 @@ module _ (s : List ℕ) {from : ℕ} {all : Code} (rising : Rising (length s) fr
       rw (p, l, r)
 
   blocks-one : {bs cs : List Block} → AllOpenedIn all bs → AllOpenedIn all cs → map opened_as bs ≡ map opened_as cs → bs ≡ cs
-  blocks-one none-opened none-opened e = refl
-  blocks-one none-opened (one-opened o f) e = absurd (contradiction cc)
-  blocks-one (one-opened o f) none-opened e = absurd (contradiction cc)
-  blocks-one (one-opened {b = b} {bs = bs} o f) (one-opened {b = c} {bs = cs} q g) e =
+  blocks-one none_opened none_opened e = refl
+  blocks-one none_opened (one_opened o f) e = absurd (contradiction cc)
+  blocks-one (one_opened o f) none_opened e = absurd (contradiction cc)
+  blocks-one (one_opened {b = b} {bs = bs} o f) (one_opened {b = c} {bs = cs} q g) e =
       let first : opened_as b ≡ opened_as c = cc in
       let others : map opened_as bs ≡ map opened_as cs = cc in
       let one = one-opening o q first in

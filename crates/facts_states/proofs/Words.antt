@@ -15,7 +15,7 @@ use Rattle.scope.specs.Machine.{Value, number, null, object, Object, Store, Bloc
 use Rattle.scope.specs.Running.{place_of}
 use Rattle.scope.specs.Memory.{or_zero, value_words, local_words, objects_from, below_of, all_operands, block_kind, block_place, height_of, block_words, cell_values, state_words}
 use Rattle.facts_steps.specs.Places.{Stands, stands_first, stands_later}
-use Rattle.facts_states.specs.StateLayout.{ValueWord, kind_i32, kind_i64, kind_f32, kind_f64, kind_null, kind_object, bits_number, bits_null, bits_object, LocalWord, holds-none_kind, holds-none_bits, holds, ObjectIs, first_object, later_object, ObjectWord, its_type, no_descriptor_lem, its_descriptor_lem, its_first_cell, its_cells, CellIs, field_of, FromBottom, Below, below_none, below_block, below-loop, OperandIs, of_innermost, below_a_block, below_a_loop, BlockIs, this_block, outer_block, BlockWord, kind_block, kind_loop, place_of_block, place_of_loop, height_of_lem, PlaceIs, next_instruction, no_instruction, ObjectsWord, of_object_lem, CellsWord, of_cell, LocalsWord, of_local, OperandsWord, of_operand, BlocksWord, of_block_lem, FieldsCount, no_fields, more_fields, CountsWord, the_place, count_objects, count_cells, count_locals, count_operands, count_blocks}
+use Rattle.facts_states.specs.StateLayout.{ValueWord, kind_i32, kind_i64, kind_f32, kind_f64, kind_null, kind_object, bits_number, bits_null, bits_object, LocalWord, holds_none_kind, holds_none_bits, holds, ObjectIs, first_object, later_object, ObjectWord, its_type, no_descriptor_lem, its_descriptor_lem, its_first_cell, its_cells, CellIs, field_of, FromBottom, Below, below_none, below_block, below_loop, OperandIs, of_innermost, below_a_block, below_a_loop, BlockIs, this_block, outer_block, BlockWord, kind_block, kind_loop, place_of_block, place_of_loop, height_of_lem, PlaceIs, next_instruction, no_instruction, ObjectsWord, of_object_lem, CellsWord, of_cell, LocalsWord, of_local, OperandsWord, of_operand, BlocksWord, of_block_lem, FieldsCount, no_fields, more_fields, CountsWord, the_place, count_objects, count_cells, count_locals, count_operands, count_blocks}
 use Rattle.facts_states.specs.Laws.{WordsAre}
 use Rattle.facts_states.proofs.Standing.{nowhere, at_place, InSecond, in_append, in_first, in_second, reverse-said, reverse_stands, InUpper, from_either, from_lower, from_upper, TwoWords, Entry, two_said, two_stands}
 
@@ -76,16 +76,16 @@ local_is none = refl
 local_is (some v) = value_is v
 
 pub local_kind : (o : Option Value) → LocalWord o 0 (kind_held o)
-local_kind none = holds-none_kind
+local_kind none = holds_none_kind
 local_kind (some v) = holds (kind_said v)
 
 pub local_bits : (o : Option Value) → LocalWord o 1 (bits_held o)
-local_bits none = holds-none_bits
+local_bits none = holds_none_bits
 local_bits (some v) = holds (bits_said v)
 
 pub only_local : {o : Option Value} {j w : ℕ} → LocalWord o j w → ((j ≡ 0) × (w ≡ kind_held o)) ⊎ ((j ≡ 1) × (w ≡ bits_held o))
-only_local holds-none_kind = inl (refl, refl)
-only_local holds-none_bits = inr (refl, refl)
+only_local holds_none_kind = inl (refl, refl)
+only_local holds_none_bits = inr (refl, refl)
 only_local (holds v) = only_value v
 
 abbrev pub held : TwoWords local_words LocalWord
@@ -179,12 +179,12 @@ below_long (open_block at n below ∷ bs) =
     subst (Below (open_block at n below ∷ bs)) e (below_block (below_long bs))
 below_long (open_loop at below again ∷ bs) =
     let e : length (joined (map below_of bs)) + length below ≡ length (below ++ joined (map below_of bs)) = let f = length-append below (joined (map below_of bs)) in omega arith in
-    subst (Below (open_loop at below again ∷ bs)) e (below-loop (below_long bs))
+    subst (Below (open_loop at below again ∷ bs)) e (below_loop (below_long bs))
 
 only_below : {bs : List Block} {h : ℕ} → Below bs h → length (joined (map below_of bs)) ≡ h
 only_below below_none = refl
 only_below (below_block {below = below} {outer = outer} b) = let e = only_below b in let f = length-append below (joined (map below_of outer)) in omega arith
-only_below (below-loop {below = below} {outer = outer} b) = let e = only_below b in let f = length-append below (joined (map below_of outer)) in omega arith
+only_below (below_loop {below = below} {outer = outer} b) = let e = only_below b in let f = length-append below (joined (map below_of outer)) in omega arith
 
 none_there_lem : {j : ℕ} {v : Value} → FromBottom [] j v → ⊥
 none_there_lem = elim [ ]
@@ -213,7 +213,7 @@ operand_stands {vs = vs} (below_a_loop o) = from_lower vs (operand_stands o)
 height_is : {bs : List Block} {h : ℕ} → Below bs h → height_of bs ≡ h
 height_is below_none = refl
 height_is (below_block b) = let e = height_is b in omega arith
-height_is (below-loop b) = let e = height_is b in omega arith
+height_is (below_loop b) = let e = height_is b in omega arith
 
 height_said : (bs : List Block) → Below bs (height_of bs)
 height_said [] = below_none
@@ -222,7 +222,7 @@ height_said (open_block at n below ∷ bs) =
     subst (Below (open_block at n below ∷ bs)) e (below_block (height_said bs))
 height_said (open_loop at below again ∷ bs) =
     let e : height_of bs + length below ≡ length below + height_of bs = omega arith in
-    subst (Below (open_loop at below again ∷ bs)) e (below-loop (height_said bs))
+    subst (Below (open_loop at below again ∷ bs)) e (below_loop (height_said bs))
 
 pub three_each : (bs : List Block) → length (block_words bs) ≡ 3 * length bs
 unfolding block_words

@@ -23,8 +23,8 @@ pub data ValueWord : Value → ℕ → ℕ → Type 0 where
 
 -- "0, 0 where it holds no value"
 pub data LocalWord : Option Value → ℕ → ℕ → Type 0 where
-  holds-none_kind : LocalWord none 0 0
-  holds-none_bits : LocalWord none 1 0
+  holds_none_kind : LocalWord none 0 0
+  holds_none_bits : LocalWord none 1 0
   holds : {v : Value} {j w : ℕ} → ValueWord v j w → LocalWord (some v) j w
 
 -- objects, by number; the first cell is the number of fields of all objects before
@@ -56,7 +56,7 @@ pub data FromBottom {A : Type 0} : List A → ℕ → A → Type 0 where
 pub data Below : List Block → ℕ → Type 0 where
   below_none : Below [] 0
   below_block : {at n h : ℕ} {below : List Value} {outer : List Block} → Below outer h → Below (open_block at n below ∷ outer) (h + length below)
-  below-loop : {at h : ℕ} {below : List Value} {again : Code} {outer : List Block} → Below outer h → Below (open_loop at below again ∷ outer) (h + length below)
+  below_loop : {at h : ℕ} {below : List Value} {again : Code} {outer : List Block} → Below outer h → Below (open_loop at below again ∷ outer) (h + length below)
 
 -- the operands of the innermost block, or those that a block keeps below it
 pub data OperandIs : List Block → List Value → ℕ → Value → Type 0 where

@@ -10,7 +10,7 @@ use Rattle.scope.specs.Instructions.{block, loop, end, op}
 use Rattle.scope.specs.Bodies.{Code}
 use Rattle.scope.specs.Machine.{Value, Store, Block, open_block, open_loop, Program, Outcome, goes, split_top, past_ends, finish, jump, branch}
 use Rattle.facts_steps.specs.Places.{state}
-use Rattle.facts_steps.specs.Branches.{Labelled, innermost, further_out, PastEnds, none_open, closes, opens_block, opens-loop, passes, no_end, Finishes, finishes, Branches, out_of_block, to_loop, out_of_function}
+use Rattle.facts_steps.specs.Branches.{Labelled, innermost, further_out, PastEnds, none_open, closes, opens_block, opens_loop, passes, no_end, Finishes, finishes, Branches, out_of_block, to_loop, out_of_function}
 use Rattle.facts_steps.proofs.Places.{split_found, found_split}
 use Rattle.facts_steps.proofs.Said.{Said, said, silent, also_said, on_some}
 
@@ -27,7 +27,7 @@ past_said zero [] = none_open
 past_said zero (i ∷ code) = none_open
 past_said (suc n) [] = no_end
 past_said (suc n) ((at, block rs) ∷ code) = opens_block (past_said (suc (suc n)) code)
-past_said (suc n) ((at, loop rs) ∷ code) = opens-loop (past_said (suc (suc n)) code)
+past_said (suc n) ((at, loop rs) ∷ code) = opens_loop (past_said (suc (suc n)) code)
 past_said (suc n) ((at, end) ∷ code) = closes (past_said n code)
 past_said (suc n) ((at, op o) ∷ code) = passes (past_said (suc n) code)
 
@@ -36,7 +36,7 @@ unfolding past_ends
 past_is (none_open {code = code}) = past_none code
 past_is (closes more) = past_is more
 past_is (opens_block more) = past_is more
-past_is (opens-loop more) = past_is more
+past_is (opens_loop more) = past_is more
 past_is (passes more) = past_is more
 past_is no_end = refl
 

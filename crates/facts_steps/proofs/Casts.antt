@@ -20,7 +20,7 @@ use Rattle.facts_types.specs.Chains.{Steps, stay, step}
 use Rattle.facts_types.specs.OwnForms.{KindOf, struct_kind, func_kind}
 use Rattle.facts_types.proofs.TenTypes.{below-order, order_below}
 use Rattle.facts_steps.specs.Places.{Stands}
-use Rattle.facts_steps.specs.Casts.{Belongs, as_itself, by_supertypes, by_kind, Passes, null_passes, object_passes, Fails, null_fails, object_fails, Described, null_described, object_described, NotDescribed, null_not-described, object_not-described}
+use Rattle.facts_steps.specs.Casts.{Belongs, as_itself, by_supertypes, by_kind, Passes, null_passes, object_passes, Fails, null_fails, object_fails, Described, null_described, object_described, NotDescribed, null_not_described, object_not_described}
 use Rattle.facts_steps.proofs.Places.{found_stands, stands_found}
 use Rattle.facts_steps.proofs.Said.{Said, said, silent, on_some}
 
@@ -118,13 +118,13 @@ module _ {R : Outcome → Type 0} where
       → (Described heap n d v → Said R (f true)) → (NotDescribed heap n d v → Said R (f false)) → Said R (descriptor_cast_passes heap n d v f)
   on_very heap n d (number k m) f yes' no' = silent
   on_very heap true d null f yes' no' = yes' (null_described refl)
-  on_very heap false d null f yes' no' = no' (null_not-described refl)
+  on_very heap false d null f yes' no' = no' (null_not_described refl)
   on_very heap n d (object o) f yes' no' =
       on_some (get_elem? heap o) (λ it there. go it (found_stands heap o there) (is_very it.descriptor d) refl)
     where
       go : (it : Object) → Stands o it heap → (t : Bool) → is_very it.descriptor d ≡ t → Said R (f t)
       go it there true e = yes' (object_described there (very_is it.descriptor d e))
-      go it there false e = no' (object_not-described there (not_very it.descriptor d e))
+      go it there false e = no' (object_not_described there (not_very it.descriptor d e))
 
 -- and back
 
@@ -143,5 +143,5 @@ module _ {heap : Store} {n : Bool} {d : ℕ} where
   described-yes f (object_described {it = it} there is) = rw (stands_found there, is_very_lem it.descriptor d is)
 
   pub not-described-no : {v : Value} (f : Bool → Outcome) → NotDescribed heap n d v → descriptor_cast_passes heap n d v f ≡ f false
-  not-described-no f (null_not-described e) = rw e
-  not-described-no f (object_not-described {it = it} there never) = rw (stands_found there, never_very it.descriptor d never)
+  not-described-no f (null_not_described e) = rw e
+  not-described-no f (object_not_described {it = it} there never) = rw (stands_found there, never_very it.descriptor d never)

@@ -3,7 +3,7 @@
 use Prim.Native.Nat.{ℕ}
 use mathlib.Core.Path.{◌≡◌, refl}
 use mathlib.Core.List.{List, [], ◌∷◌}
-use Rattle.scope.specs.Instructions.{drop_value, ref-eq, ref-as-non-null, op, end}
+use Rattle.scope.specs.Instructions.{drop_value, ref_eq, ref_as_non_null, op, end}
 use Rattle.scope.specs.Order.{up_table, climbs, heap_below}
 use Rattle.scope.specs.Integers.{int_sub}
 use Rattle.scope.specs.Numeric.{numeric_of}
@@ -12,7 +12,7 @@ use Rattle.scope.specs.Machine.{Value, null, object, open_block, Machine, Outcom
 use Rattle.scope.proofs.Impossible.{contradiction}
 use Rattle.facts_steps.specs.Places.{state}
 use Rattle.facts_steps.specs.Trapping.{NullUsed, by_as_non_null}
-use Rattle.facts_steps.specs.Rules.{Steps, does_eq-two_objects, steps_op, steps_block_end}
+use Rattle.facts_steps.specs.Rules.{Steps, does_eq_two_objects, steps_op, steps_block_end}
 use Rattle.facts_steps.specs.Laws.{StepOf}
 use Rattle.facts_steps.specs.Samples.{program, heap, locals, blocks, after, on, no, Sample, sample, machine, AllDo, none_left_lem, also_does, control, plain_ones, references, structs, casts, branching_casts}
 use Rattle.facts_steps.proofs.Laws.{step_laws, trap_laws}
@@ -43,10 +43,10 @@ branching-casts_do = also_does refl (also_does refl (also_does refl (also_does r
 
 -- ref.eq of two objects: the rule, and so the step
 abbrev two_objects : Machine
-two_objects = machine (sample (object 0 ∷ object 1 ∷ []) ref-eq (on (no ∷ [])))
+two_objects = machine (sample (object 0 ∷ object 1 ∷ []) ref_eq (on (no ∷ [])))
 
 pub two_objects_ruled : StepOf program two_objects (on (no ∷ []))
-two_objects_ruled = steps_op (does_eq-two_objects contradiction)
+two_objects_ruled = steps_op (does_eq_two_objects contradiction)
 
 pub two_objects_step : step program two_objects ≡ on (no ∷ [])
 two_objects_step = (step_laws.goes_on_lem program two_objects _).1 two_objects_ruled
@@ -61,14 +61,14 @@ end_ruled = (step_laws.goes_on_lem program at_end _).0 refl
 
 -- 42, both ways
 abbrev on_null : Machine
-on_null = machine (sample (null ∷ []) ref-as-non-null (traps 42))
+on_null = machine (sample (null ∷ []) ref_as_non_null (traps 42))
 
-pub null_traps : do_op program on_null on_null.operands ref-as-non-null ≡ traps 42
-null_traps = (trap_laws.forty_two program on_null ref-as-non-null).1 by_as_non_null
+pub null_traps : do_op program on_null on_null.operands ref_as_non_null ≡ traps 42
+null_traps = (trap_laws.forty_two program on_null ref_as_non_null).1 by_as_non_null
 
-pub null_used : NullUsed on_null.operands ref-as-non-null
+pub null_used : NullUsed on_null.operands ref_as_non_null
 unfolding do_op
-null_used = (trap_laws.forty_two program on_null ref-as-non-null).0 refl
+null_used = (trap_laws.forty_two program on_null ref_as_non_null).0 refl
 
 -- no operand for drop: no rule
 abbrev nothing_there : Machine

@@ -15,7 +15,7 @@ use Rattle.facts_runs.specs.OtherNumeric.{other_numeric}
 use Rattle.facts_runs.proofs.OtherNumeric.{not_listed}
 use Rattle.facts_steps.specs.Places.{state}
 use Rattle.facts_steps.specs.Trapping.{NullUsed, by_as_non_null, by_get, by_set, by_get_desc, NullDescriptor, by_new_desc, by_new_default_desc, by_cast_desc_eq, by_br_on_cast_desc_eq, by_br_on_cast_desc_eq_fail, by_cast, by_desc_eq, no_room_for, Traps, trap_41, trap_42, trap_43, trap_44, trap_45, trap_46}
-use Rattle.facts_steps.specs.Rules.{Does, does_nop, does_return, does_br, does_br_if_zero, does_br_if, does_drop, does_local_get, does_local_set, does_local_tee, does_i32_const, does_i64_const, does_f32_const, does_f64_const, does_one, does_two, does_ref_null, does_null_is_null, does_object_is_null, does_eq_nulls, does_eq-one_object, does_eq-two_objects, does_eq_null_first, does_eq_null_second, does_as_non_null, does_make, does_struct_get, does_struct_set, does_get_desc, does_test-yes, does_test-no, does_cast, does_cast_desc_eq, does_on_cast, does_not-on_cast, does_on_fail, does_not-on_fail, does_on_desc_eq, does_not-on_desc_eq, does_on_desc_eq_fail, does_not-on_desc_eq_fail, does_trap, Steps, steps_block, steps_loop, steps_block_end, steps_loop-end, steps_function-end, steps_op}
+use Rattle.facts_steps.specs.Rules.{Does, does_nop, does_return, does_br, does_br_if_zero, does_br_if, does_drop, does_local_get, does_local_set, does_local_tee, does_i32_const, does_i64_const, does_f32_const, does_f64_const, does_one, does_two, does_ref_null, does_null_is_null, does_object_is_null, does_eq_nulls, does_eq_one_object, does_eq_two_objects, does_eq_null_first, does_eq_null_second, does_as_non_null, does_make, does_struct_get, does_struct_set, does_get_desc, does_test_yes, does_test_no, does_cast, does_cast_desc_eq, does_on_cast, does_not_on_cast, does_on_fail, does_not_on_fail, does_on_desc_eq, does_not_on_desc_eq, does_on_desc_eq_fail, does_not_on_desc_eq_fail, does_trap, Steps, steps_block, steps_loop, steps_block_end, steps_loop_end, steps_function_end, steps_op}
 use Rattle.facts_steps.proofs.Places.{stands_found, changed_set, changed_before}
 use Rattle.facts_steps.proofs.Numbers.{one_line, two_line}
 use Rattle.facts_steps.proofs.Casts.{passes_yes, fails_no, described-yes, not-described-no}
@@ -72,8 +72,8 @@ module _ (p : Program) (heap : Store) (locals : List (Option Value)) (blocks : L
   op_is does_null_is_null = refl
   op_is does_object_is_null = refl
   op_is does_eq_nulls = refl
-  op_is (does_eq-one_object {o = o}) = rw (eq-eqb o o refl)
-  op_is (does_eq-two_objects {o = o} {q = q} apart) = rw (ne_eqb o q apart)
+  op_is (does_eq_one_object {o = o}) = rw (eq-eqb o o refl)
+  op_is (does_eq_two_objects {o = o} {q = q} apart) = rw (ne_eqb o q apart)
   op_is does_eq_null_first = refl
   op_is does_eq_null_second = refl
   op_is does_as_non_null = refl
@@ -81,29 +81,29 @@ module _ (p : Program) (heap : Store) (locals : List (Option Value)) (blocks : L
   op_is (does_struct_get s f) = rw (stands_found s, stands_found f)
   op_is (does_struct_set s c h) = rw (stands_found s, (changed_before c).there, changed_set c, changed_set h)
   op_is (does_get_desc s d) = rw (stands_found s, d)
-  op_is (does_test-yes {vs = vs} y) = passes_yes (λ b. goes (state heap locals (truth b ∷ vs) blocks code)) y
-  op_is (does_test-no {vs = vs} f) = fails_no (λ b. goes (state heap locals (truth b ∷ vs) blocks code)) f
+  op_is (does_test_yes {vs = vs} y) = passes_yes (λ b. goes (state heap locals (truth b ∷ vs) blocks code)) y
+  op_is (does_test_no {vs = vs} f) = fails_no (λ b. goes (state heap locals (truth b ∷ vs) blocks code)) f
   op_is (does_cast {v = v} {vs = vs} y) = passes_yes (λ b. cond b (goes (state heap locals (v ∷ vs) blocks code)) (traps trap_cast)) y
   op_is (does_cast_desc_eq {v = v} {vs = vs} y) = described-yes (λ b. cond b (goes (state heap locals (v ∷ vs) blocks code)) (traps trap_cast)) y
   op_is (does_on_cast {k = k} {v = v} {vs = vs} y b) =
       passes_yes (λ t. cond t (branch p (state heap locals (v ∷ vs) blocks code) k.label (v ∷ vs)) (goes (state heap locals (v ∷ vs) blocks code))) y
       ∙ branch_is p heap locals (v ∷ vs) blocks code k.label (v ∷ vs) b
-  op_is (does_not-on_cast {k = k} {v = v} {vs = vs} f) =
+  op_is (does_not_on_cast {k = k} {v = v} {vs = vs} f) =
       fails_no (λ t. cond t (branch p (state heap locals (v ∷ vs) blocks code) k.label (v ∷ vs)) (goes (state heap locals (v ∷ vs) blocks code))) f
   op_is (does_on_fail {k = k} {v = v} {vs = vs} f b) =
       fails_no (λ t. cond t (goes (state heap locals (v ∷ vs) blocks code)) (branch p (state heap locals (v ∷ vs) blocks code) k.label (v ∷ vs))) f
       ∙ branch_is p heap locals (v ∷ vs) blocks code k.label (v ∷ vs) b
-  op_is (does_not-on_fail {k = k} {v = v} {vs = vs} y) =
+  op_is (does_not_on_fail {k = k} {v = v} {vs = vs} y) =
       passes_yes (λ t. cond t (goes (state heap locals (v ∷ vs) blocks code)) (branch p (state heap locals (v ∷ vs) blocks code) k.label (v ∷ vs))) y
   op_is (does_on_desc_eq {k = k} {d = d} {v = v} {vs = vs} y b) =
       described-yes (λ t. cond t (branch p (state heap locals (object d ∷ v ∷ vs) blocks code) k.label (v ∷ vs)) (goes (state heap locals (v ∷ vs) blocks code))) y
       ∙ branch_is p heap locals (object d ∷ v ∷ vs) blocks code k.label (v ∷ vs) b
-  op_is (does_not-on_desc_eq {k = k} {d = d} {v = v} {vs = vs} f) =
+  op_is (does_not_on_desc_eq {k = k} {d = d} {v = v} {vs = vs} f) =
       not-described-no (λ t. cond t (branch p (state heap locals (object d ∷ v ∷ vs) blocks code) k.label (v ∷ vs)) (goes (state heap locals (v ∷ vs) blocks code))) f
   op_is (does_on_desc_eq_fail {k = k} {d = d} {v = v} {vs = vs} f b) =
       not-described-no (λ t. cond t (goes (state heap locals (v ∷ vs) blocks code)) (branch p (state heap locals (object d ∷ v ∷ vs) blocks code) k.label (v ∷ vs))) f
       ∙ branch_is p heap locals (object d ∷ v ∷ vs) blocks code k.label (v ∷ vs) b
-  op_is (does_not-on_desc_eq_fail {k = k} {d = d} {v = v} {vs = vs} y) =
+  op_is (does_not_on_desc_eq_fail {k = k} {d = d} {v = v} {vs = vs} y) =
       described-yes (λ t. cond t (goes (state heap locals (v ∷ vs) blocks code)) (branch p (state heap locals (object d ∷ v ∷ vs) blocks code) k.label (v ∷ vs))) y
   op_is (does_trap t) = trap_is t
 
@@ -117,6 +117,6 @@ step_is p m s = go s
     go steps_block = refl
     go steps_loop = refl
     go steps_block_end = refl
-    go steps_loop-end = refl
-    go (steps_function-end {code = code} f) = finish_is p m.heap m.locals m.operands [] code f
+    go steps_loop_end = refl
+    go (steps_function_end {code = code} f) = finish_is p m.heap m.locals m.operands [] code f
     go (steps_op {blocks = blocks} {code = code} d) = op_is p m.heap m.locals blocks code d

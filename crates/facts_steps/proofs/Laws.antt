@@ -9,7 +9,7 @@ use Rattle.scope.specs.Bodies.{Code}
 use Rattle.scope.specs.Machine.{Value, Block, Machine, Program, Outcome, goes, ends, traps, stuck, do_op, step}
 use Rattle.scope.proofs.Impossible.{contradiction}
 use Rattle.facts_steps.specs.Trapping.{Traps, trap_41, trap_42, trap_43, trap_44, trap_45, trap_46}
-use Rattle.facts_steps.specs.Rules.{Does, Steps, steps_block, steps_loop, steps_block_end, steps_loop-end, steps_function-end, steps_op}
+use Rattle.facts_steps.specs.Rules.{Does, Steps, steps_block, steps_loop, steps_block_end, steps_loop_end, steps_function_end, steps_op}
 use Rattle.facts_steps.specs.Laws.{StepOf, StepLaws, TrapLaws}
 use Rattle.facts_steps.proofs.Said.{Said, said, silent}
 use Rattle.facts_steps.proofs.Told.{op_told, step-told}
@@ -42,8 +42,8 @@ step_tells p m s = go s
     go steps_block = going
     go steps_loop = going
     go steps_block_end = going
-    go steps_loop-end = going
-    go (steps_function-end f) = finish_tells f
+    go steps_loop_end = going
+    go (steps_function_end f) = finish_tells f
     go (steps_op d) = also (op_tells d)
 
 stuck_where : (p : Program) (m : Machine) → ((r : Outcome) → ¬ StepOf p m r) → step p m ≡ stuck

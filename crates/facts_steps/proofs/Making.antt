@@ -17,7 +17,7 @@ use Rattle.scope.proofs.Truths.{none_is_not-some}
 use Rattle.facts_runs.specs.NoRoom.{NoRoom}
 use Rattle.facts_runs.proofs.NoRoom.{no_room_lem, room_none}
 use Rattle.facts_steps.specs.Places.{Splits, state}
-use Rattle.facts_steps.specs.Making.{StartsAt, number-zero, reference_null, Defaults, no_field, one_field, Makes, new, new_default, new_desc, new_default_desc}
+use Rattle.facts_steps.specs.Making.{StartsAt, number_zero, reference_null, Defaults, no_field, one_field, Makes, new, new_default, new_desc, new_default_desc}
 use Rattle.facts_steps.specs.Trapping.{no_room_for, trap_45}
 use Rattle.facts_steps.specs.Rules.{Does, does_make, does_trap}
 use Rattle.facts_steps.proofs.Places.{split_found, found_split}
@@ -42,12 +42,12 @@ found_start : (f : Field) {v : Value} → default_of f.holds ≡ some v → Star
 found_start f {v} e = go f.holds f.mutable e
   where
     go : (holds : Val) (mutable : Bool) → default_of holds ≡ some v → StartsAt (record { holds = holds; mutable = mutable }) v
-    go (num k) mutable e = let same : number k 0 ≡ v = cc in rw (← same) number-zero
+    go (num k) mutable e = let same : number k 0 ≡ v = cc in rw (← same) number_zero
     go (ref true h) mutable e = let same : null ≡ v = cc in rw (← same) reference_null
     go (ref false h) mutable e = absurd (none_is_not-some e)
 
 start_found : {f : Field} {v : Value} → StartsAt f v → default_of f.holds ≡ some v
-start_found number-zero = refl
+start_found number_zero = refl
 start_found reference_null = refl
 
 found_defaults : (fs : List Field) {vs : List Value} → defaults_of (holds_of fs) ≡ some vs → Defaults fs vs

@@ -20,62 +20,62 @@ kinds_of n k r = record { operands = n; kind = k; result = r }
 
 -- each line, with its instruction
 data Lines : List (ℕ × Deed) → Type 0 where
-  no-row : Lines []
-  one-row : {b : ℕ} {k r : Number} {f : ℕ → ℕ} {rows : List (ℕ × Deed)} → One b k r f → numeric_of b ≡ some (kinds_of 1 k r) → Lines rows → Lines ((b, of_one f) ∷ rows)
-  two-row : {b : ℕ} {k r : Number} {f : ℕ → ℕ → ℕ} {rows : List (ℕ × Deed)} → Two b k r f → numeric_of b ≡ some (kinds_of 2 k r) → Lines rows → Lines ((b, of_two f) ∷ rows)
+  no_row_lem : Lines []
+  one_row : {b : ℕ} {k r : Number} {f : ℕ → ℕ} {rows : List (ℕ × Deed)} → One b k r f → numeric_of b ≡ some (kinds_of 1 k r) → Lines rows → Lines ((b, of_one f) ∷ rows)
+  two_row : {b : ℕ} {k r : Number} {f : ℕ → ℕ → ℕ} {rows : List (ℕ × Deed)} → Two b k r f → numeric_of b ≡ some (kinds_of 2 k r) → Lines rows → Lines ((b, of_two f) ∷ rows)
 
 all_lines : Lines deeds
 unfolding numeric_of
 all_lines =
-    (one-row i32_eqz refl
-    (two-row i32_eq refl
-    (two-row i32_ne refl
-    (two-row i32_lt_s refl
-    (two-row i32_lt_u refl
-    (two-row i32_gt_s refl
-    (two-row i32_gt_u refl
-    (two-row i32_le_s refl
-    (two-row i32_le_u refl
-    (two-row i32_ge_s refl
-    (two-row i32_ge_u refl
-    (one-row i64_eqz refl
-    (two-row i64_eq refl
-    (two-row i64_ne refl
-    (two-row i64_lt_s refl
-    (two-row i64_lt_u refl
-    (two-row i64_gt_s refl
-    (two-row i64_gt_u refl
-    (two-row i64_le_s refl
-    (two-row i64_le_u refl
-    (two-row i64_ge_s refl
-    (two-row i64_ge_u refl
-    (two-row f32_eq refl
-    (two-row f32_ne refl
-    (two-row f32_lt refl
-    (two-row f32_gt refl
-    (two-row f32_le refl
-    (two-row f32_ge refl
-    (two-row f64_eq refl
-    (two-row f64_ne refl
-    (two-row f64_lt refl
-    (two-row f64_gt refl
-    (two-row f64_le refl
-    (two-row f64_ge refl
-    (two-row i32_add refl
-    (two-row i32_sub refl
-    (two-row i64_add refl
-    (two-row i64_sub refl
-    (one-row f32_neg refl
-    (two-row f32_add refl
-    (two-row f32_sub refl
-    (two-row f32_mul refl
-    (two-row f32_div refl
-    (one-row f64_neg refl
-    (two-row f64_add refl
-    (two-row f64_sub refl
-    (two-row f64_mul refl
-    (two-row f64_div refl
-    no-row))))))))))))))))))))))))))))))))))))))))))))))))
+    (one_row i32_eqz refl
+    (two_row i32_eq refl
+    (two_row i32_ne refl
+    (two_row i32_lt_s refl
+    (two_row i32_lt_u refl
+    (two_row i32_gt_s refl
+    (two_row i32_gt_u refl
+    (two_row i32_le_s refl
+    (two_row i32_le_u refl
+    (two_row i32_ge_s refl
+    (two_row i32_ge_u refl
+    (one_row i64_eqz refl
+    (two_row i64_eq refl
+    (two_row i64_ne refl
+    (two_row i64_lt_s refl
+    (two_row i64_lt_u refl
+    (two_row i64_gt_s refl
+    (two_row i64_gt_u refl
+    (two_row i64_le_s refl
+    (two_row i64_le_u refl
+    (two_row i64_ge_s refl
+    (two_row i64_ge_u refl
+    (two_row f32_eq refl
+    (two_row f32_ne refl
+    (two_row f32_lt refl
+    (two_row f32_gt refl
+    (two_row f32_le refl
+    (two_row f32_ge refl
+    (two_row f64_eq refl
+    (two_row f64_ne refl
+    (two_row f64_lt refl
+    (two_row f64_gt refl
+    (two_row f64_le refl
+    (two_row f64_ge refl
+    (two_row i32_add refl
+    (two_row i32_sub refl
+    (two_row i64_add refl
+    (two_row i64_sub refl
+    (one_row f32_neg refl
+    (two_row f32_add refl
+    (two_row f32_sub refl
+    (two_row f32_mul refl
+    (two_row f32_div refl
+    (one_row f64_neg refl
+    (two_row f64_add refl
+    (two_row f64_sub refl
+    (two_row f64_mul refl
+    (two_row f64_div refl
+    no_row_lem))))))))))))))))))))))))))))))))))))))))))))))))
 
 -- a deed that was found is an instruction's
 pub data Instructed (b : ℕ) : Deed → Type 0 where
@@ -83,13 +83,13 @@ pub data Instructed (b : ℕ) : Deed → Type 0 where
   is_two : {k r : Number} {f : ℕ → ℕ → ℕ} → Two b k r f → numeric_of b ≡ some (kinds_of 2 k r) → Instructed b (of_two f)
 
 found_line : {rows : List (ℕ × Deed)} → Lines rows → (b : ℕ) (deed : Deed) → find b rows ≡ some deed → Instructed b deed
-found_line no-row b deed e = absurd (none_is_not-some e)
-found_line (one-row {b = a} {f = f} {rows = rows} o k more) b deed e = go (eqb b a) refl e (λ q. found_line more b deed q)
+found_line no_row_lem b deed e = absurd (none_is_not-some e)
+found_line (one_row {b = a} {f = f} {rows = rows} o k more) b deed e = go (eqb b a) refl e (λ q. found_line more b deed q)
   where
     go : (t : Bool) → eqb b a ≡ t → cond t (some (of_one f)) (find b rows) ≡ some deed → (find b rows ≡ some deed → Instructed b deed) → Instructed b deed
     go true is e later = let same : of_one f ≡ deed = cc in rw (eqb-true b a is, ← same) (is_one o k)
     go false is e later = later e
-found_line (two-row {b = a} {f = f} {rows = rows} o k more) b deed e = go (eqb b a) refl e (λ q. found_line more b deed q)
+found_line (two_row {b = a} {f = f} {rows = rows} o k more) b deed e = go (eqb b a) refl e (λ q. found_line more b deed q)
   where
     go : (t : Bool) → eqb b a ≡ t → cond t (some (of_two f)) (find b rows) ≡ some deed → (find b rows ≡ some deed → Instructed b deed) → Instructed b deed
     go true is e later = let same : of_two f ≡ deed = cc in rw (eqb-true b a is, ← same) (is_two o k)

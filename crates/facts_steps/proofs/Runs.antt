@@ -10,28 +10,28 @@ use Rattle.scope.specs.Bodies.{Body}
 use Rattle.scope.specs.Machine.{Value, Machine, Program, Outcome, goes, ends, traps, stuck, default_of, step}
 use Rattle.scope.specs.Running.{Ending, on_outcome, run_by, run, start_of}
 use Rattle.facts_steps.specs.Laws.{StepOf}
-use Rattle.facts_steps.specs.Runs.{HeldFirst, zero-first, null_first, nothing_first, AllHeldFirst, no-locals, one_local, Begins, RunsTo, none_left_lem, one-step, last_step, trapping_step, no_step, RunByRules}
+use Rattle.facts_steps.specs.Runs.{HeldFirst, zero_first, null_first, nothing_first, AllHeldFirst, no_locals, one_local, Begins, RunsTo, none_left_lem, one-step, last_step, trapping_step, no_step, RunByRules}
 use Rattle.facts_steps.proofs.Is.{step_is}
 use Rattle.facts_steps.proofs.Laws.{step_laws}
 
 -- the start
 
 held_first : (v : Val) → HeldFirst v (default_of v)
-held_first (num k) = zero-first
+held_first (num k) = zero_first
 held_first (ref true h) = null_first
 held_first (ref false h) = nothing_first
 
 only_held : {v : Val} {o : Option Value} → HeldFirst v o → default_of v ≡ o
-only_held zero-first = refl
+only_held zero_first = refl
 only_held null_first = refl
 only_held nothing_first = refl
 
 all_held : (vs : List Val) → AllHeldFirst vs (map default_of vs)
-all_held [] = no-locals
+all_held [] = no_locals
 all_held (v ∷ vs) = one_local (held_first v) (all_held vs)
 
 only_all_held : {vs : List Val} {os : List (Option Value)} → AllHeldFirst vs os → map default_of vs ≡ os
-only_all_held no-locals = refl
+only_all_held no_locals = refl
 only_all_held (one_local h more) = rw (only_held h, only_all_held more)
 
 begins_start : (b : Body) → Begins b (start_of b)

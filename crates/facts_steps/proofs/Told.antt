@@ -13,7 +13,7 @@ use Rattle.scope.specs.Refusals.{trap_cast, trap_other_numeric}
 use Rattle.scope.specs.Syntax.{i32, i64, f32, f64}
 use Rattle.scope.specs.Numeric.{Numeric, numeric_of}
 use Rattle.scope.specs.Arithmetic.{Deed, deed_of}
-use Rattle.scope.specs.Instructions.{Op, unreachable, nop, return, drop_value, br, br-if, local_get, local-set, local_tee, i32_const, i64_const, f32_const, f64_const, numeric, ref_null, ref-is-null, ref-eq, ref-as-non-null, struct_new, struct-new-default, struct_get, struct_set, ref_test, ref_cast, br_on_cast, br_on_cast_fail, struct-new-desc, struct-new-default-desc, ref_get_desc, ref_cast_desc_eq, br_on_cast_desc_eq, br_on_cast_desc_eq_fail, block, loop, end, op}
+use Rattle.scope.specs.Instructions.{Op, unreachable, nop, return, drop_value, br, br_if, local_get, local_set, local_tee, i32_const, i64_const, f32_const, f64_const, numeric, ref_null, ref_is_null, ref_eq, ref_as_non_null, struct_new, struct_new_default, struct_get, struct_set, ref_test, ref_cast, br_on_cast, br_on_cast_fail, struct_new_desc, struct_new_default_desc, ref_get_desc, ref_cast_desc_eq, br_on_cast_desc_eq, br_on_cast_desc_eq_fail, block, loop, end, op}
 use Rattle.scope.specs.Bodies.{Code}
 use Rattle.scope.specs.Machine.{Value, number, null, object, Object, Store, Block, open_block, open_loop, Machine, Program, Outcome, goes, traps, stuck, truth, branch, with_operands, with_heap, with_object, with_field, on_taken, calculate, do_numeric, do_op, do_instr, step}
 use Rattle.facts_runs.specs.OtherNumeric.{other_numeric}
@@ -21,7 +21,7 @@ use Rattle.facts_runs.proofs.OtherNumeric.{no_line}
 use Rattle.facts_steps.specs.Places.{Stands, state}
 use Rattle.facts_steps.specs.Making.{new, new_default, new_desc, new_default_desc}
 use Rattle.facts_steps.specs.Trapping.{by_as_non_null, by_get, by_set, by_get_desc, by_new_desc, by_new_default_desc, by_cast_desc_eq, by_br_on_cast_desc_eq, by_br_on_cast_desc_eq_fail, by_cast, by_desc_eq, trap_41, trap_42, trap_43, trap_44, trap_46}
-use Rattle.facts_steps.specs.Rules.{Does, does_nop, does_return, does_br, does_br_if_zero, does_br_if, does_drop, does_local_get, does_local_set, does_local_tee, does_i32_const, does_i64_const, does_f32_const, does_f64_const, does_one, does_two, does_ref_null, does_null_is_null, does_object_is_null, does_eq_nulls, does_eq-one_object, does_eq-two_objects, does_eq_null_first, does_eq_null_second, does_as_non_null, does_struct_get, does_struct_set, does_get_desc, does_test-yes, does_test-no, does_cast, does_cast_desc_eq, does_on_cast, does_not-on_cast, does_on_fail, does_not-on_fail, does_on_desc_eq, does_not-on_desc_eq, does_on_desc_eq_fail, does_not-on_desc_eq_fail, does_trap, Steps, steps_block, steps_loop, steps_block_end, steps_loop-end, steps_function-end, steps_op}
+use Rattle.facts_steps.specs.Rules.{Does, does_nop, does_return, does_br, does_br_if_zero, does_br_if, does_drop, does_local_get, does_local_set, does_local_tee, does_i32_const, does_i64_const, does_f32_const, does_f64_const, does_one, does_two, does_ref_null, does_null_is_null, does_object_is_null, does_eq_nulls, does_eq_one_object, does_eq_two_objects, does_eq_null_first, does_eq_null_second, does_as_non_null, does_struct_get, does_struct_set, does_get_desc, does_test_yes, does_test_no, does_cast, does_cast_desc_eq, does_on_cast, does_not_on_cast, does_on_fail, does_not_on_fail, does_on_desc_eq, does_not_on_desc_eq, does_on_desc_eq_fail, does_not_on_desc_eq_fail, does_trap, Steps, steps_block, steps_loop, steps_block_end, steps_loop_end, steps_function_end, steps_op}
 use Rattle.facts_steps.proofs.Places.{found_stands, found_changed}
 use Rattle.facts_steps.proofs.Said.{Said, said, silent, also_said, on_some, on_test, on_kind}
 use Rattle.facts_steps.proofs.Numbers.{Instructed, is_one, is_two, instructed}
@@ -78,22 +78,22 @@ module _ (p : Program) (heap : Store) (locals : List (Option Value)) (blocks : L
   op_told [] drop_value = silent
   op_told (v ∷ vs) drop_value = said does_drop
   op_told vs (br l) = also_said (λ r f. does_br f) (branch-said p heap locals vs blocks code l vs)
-  op_told [] (br-if l) = silent
-  op_told (number i32 n ∷ vs) (br-if l) = go (eqb n 0) refl
+  op_told [] (br_if l) = silent
+  op_told (number i32 n ∷ vs) (br_if l) = go (eqb n 0) refl
     where
       go : (t : Bool) → eqb n 0 ≡ t
-          → Said (Does p heap locals blocks code (number i32 n ∷ vs) (br-if l)) (cond t (goes (state heap locals vs blocks code)) (branch p (state heap locals (number i32 n ∷ vs) blocks code) l vs))
+          → Said (Does p heap locals blocks code (number i32 n ∷ vs) (br_if l)) (cond t (goes (state heap locals vs blocks code)) (branch p (state heap locals (number i32 n ∷ vs) blocks code) l vs))
       go true e = rw (eqb-true n 0 e) (said does_br_if_zero)
       go false e = also_said (λ r f. does_br_if (eqb-false n 0 e) f) (branch-said p heap locals (number i32 n ∷ vs) blocks code l vs)
-  op_told (number i64 n ∷ vs) (br-if l) = silent
-  op_told (number f32 n ∷ vs) (br-if l) = silent
-  op_told (number f64 n ∷ vs) (br-if l) = silent
-  op_told (null ∷ vs) (br-if l) = silent
-  op_told (object o ∷ vs) (br-if l) = silent
+  op_told (number i64 n ∷ vs) (br_if l) = silent
+  op_told (number f32 n ∷ vs) (br_if l) = silent
+  op_told (number f64 n ∷ vs) (br_if l) = silent
+  op_told (null ∷ vs) (br_if l) = silent
+  op_told (object o ∷ vs) (br_if l) = silent
   op_told vs (local_get x) =
       on_some (get_elem? locals x) (λ held e. on_some held (λ v f. said (does_local_get (found_stands locals x (rw f at e)))))
-  op_told [] (local-set x) = silent
-  op_told (v ∷ vs) (local-set x) = on_some (get_elem? locals x) (λ old e. said (does_local_set (found_changed locals x (some v) e)))
+  op_told [] (local_set x) = silent
+  op_told (v ∷ vs) (local_set x) = on_some (get_elem? locals x) (λ old e. said (does_local_set (found_changed locals x (some v) e)))
   op_told [] (local_tee x) = silent
   op_told (v ∷ vs) (local_tee x) = on_some (get_elem? locals x) (λ old e. said (does_local_tee (found_changed locals x (some v) e)))
   op_told vs (i32_const n) = said does_i32_const
@@ -102,29 +102,29 @@ module _ (p : Program) (heap : Store) (locals : List (Option Value)) (blocks : L
   op_told vs (f64_const n) = said does_f64_const
   op_told vs (numeric b) = number-told vs b
   op_told vs (ref_null h) = said does_ref_null
-  op_told [] ref-is-null = silent
-  op_told (number k n ∷ vs) ref-is-null = silent
-  op_told (null ∷ vs) ref-is-null = said does_null_is_null
-  op_told (object o ∷ vs) ref-is-null = said does_object_is_null
-  op_told [] ref-eq = silent
-  op_told (v ∷ []) ref-eq = silent
-  op_told (number k n ∷ w ∷ vs) ref-eq = silent
-  op_told (null ∷ number k n ∷ vs) ref-eq = silent
-  op_told (null ∷ null ∷ vs) ref-eq = said does_eq_nulls
-  op_told (null ∷ object q ∷ vs) ref-eq = said does_eq_null_second
-  op_told (object o ∷ number k n ∷ vs) ref-eq = silent
-  op_told (object o ∷ null ∷ vs) ref-eq = said does_eq_null_first
-  op_told (object o ∷ object q ∷ vs) ref-eq = go (eqb o q) refl
+  op_told [] ref_is_null = silent
+  op_told (number k n ∷ vs) ref_is_null = silent
+  op_told (null ∷ vs) ref_is_null = said does_null_is_null
+  op_told (object o ∷ vs) ref_is_null = said does_object_is_null
+  op_told [] ref_eq = silent
+  op_told (v ∷ []) ref_eq = silent
+  op_told (number k n ∷ w ∷ vs) ref_eq = silent
+  op_told (null ∷ number k n ∷ vs) ref_eq = silent
+  op_told (null ∷ null ∷ vs) ref_eq = said does_eq_nulls
+  op_told (null ∷ object q ∷ vs) ref_eq = said does_eq_null_second
+  op_told (object o ∷ number k n ∷ vs) ref_eq = silent
+  op_told (object o ∷ null ∷ vs) ref_eq = said does_eq_null_first
+  op_told (object o ∷ object q ∷ vs) ref_eq = go (eqb o q) refl
     where
-      go : (t : Bool) → eqb o q ≡ t → Said (Does p heap locals blocks code (object o ∷ object q ∷ vs) ref-eq) (goes (state heap locals (truth t ∷ vs) blocks code))
-      go true e = rw (eqb-true o q e) (said does_eq-one_object)
-      go false e = said (does_eq-two_objects (eqb-false o q e))
-  op_told [] ref-as-non-null = silent
-  op_told (number k n ∷ vs) ref-as-non-null = silent
-  op_told (null ∷ vs) ref-as-non-null = said (does_trap (trap_42 by_as_non_null))
-  op_told (object o ∷ vs) ref-as-non-null = said does_as_non_null
+      go : (t : Bool) → eqb o q ≡ t → Said (Does p heap locals blocks code (object o ∷ object q ∷ vs) ref_eq) (goes (state heap locals (truth t ∷ vs) blocks code))
+      go true e = rw (eqb-true o q e) (said does_eq_one_object)
+      go false e = said (does_eq_two_objects (eqb-false o q e))
+  op_told [] ref_as_non_null = silent
+  op_told (number k n ∷ vs) ref_as_non_null = silent
+  op_told (null ∷ vs) ref_as_non_null = said (does_trap (trap_42 by_as_non_null))
+  op_told (object o ∷ vs) ref_as_non_null = said does_as_non_null
   op_told vs (struct_new x) = given-said p heap locals blocks code vs (struct_new x) x none vs (λ fs fields below. new)
-  op_told vs (struct-new-default x) = default_said p heap locals blocks code vs (struct-new-default x) x none vs (λ fs fields. new_default)
+  op_told vs (struct_new_default x) = default_said p heap locals blocks code vs (struct_new_default x) x none vs (λ fs fields. new_default)
   op_told [] (struct_get x i) = silent
   op_told (number k n ∷ vs) (struct_get x i) = silent
   op_told (null ∷ vs) (struct_get x i) = said (does_trap (trap_42 by_get))
@@ -136,7 +136,7 @@ module _ (p : Program) (heap : Store) (locals : List (Option Value)) (blocks : L
   op_told (v ∷ object o ∷ vs) (struct_set x i) = set_told x i o v vs
   op_told [] (ref_test n h) = silent
   op_told (v ∷ vs) (ref_test n h) =
-      on_cast p.types heap n h v (λ b. goes (state heap locals (truth b ∷ vs) blocks code)) (λ y. said (does_test-yes y)) (λ f. said (does_test-no f))
+      on_cast p.types heap n h v (λ b. goes (state heap locals (truth b ∷ vs) blocks code)) (λ y. said (does_test_yes y)) (λ f. said (does_test_no f))
   op_told [] (ref_cast n h) = silent
   op_told (v ∷ vs) (ref_cast n h) =
       on_cast p.types heap n h v (λ b. cond b (goes (state heap locals (v ∷ vs) blocks code)) (traps trap_cast)) (λ y. said (does_cast y)) (λ f. said (does_trap (trap_44 (by_cast f))))
@@ -145,23 +145,23 @@ module _ (p : Program) (heap : Store) (locals : List (Option Value)) (blocks : L
       on_cast p.types heap k.target_null k.target v
       (λ b. cond b (branch p (state heap locals (v ∷ vs) blocks code) k.label (v ∷ vs)) (goes (state heap locals (v ∷ vs) blocks code)))
       (λ y. also_said (λ r f. does_on_cast y f) (branch-said p heap locals (v ∷ vs) blocks code k.label (v ∷ vs)))
-      (λ f. said (does_not-on_cast f))
+      (λ f. said (does_not_on_cast f))
   op_told [] (br_on_cast_fail k) = silent
   op_told (v ∷ vs) (br_on_cast_fail k) =
       on_cast p.types heap k.target_null k.target v
       (λ b. cond b (goes (state heap locals (v ∷ vs) blocks code)) (branch p (state heap locals (v ∷ vs) blocks code) k.label (v ∷ vs)))
-      (λ y. said (does_not-on_fail y))
+      (λ y. said (does_not_on_fail y))
       (λ f. also_said (λ r g. does_on_fail f g) (branch-said p heap locals (v ∷ vs) blocks code k.label (v ∷ vs)))
-  op_told [] (struct-new-desc x) = silent
-  op_told (number k n ∷ vs) (struct-new-desc x) = silent
-  op_told (null ∷ vs) (struct-new-desc x) = said (does_trap (trap_43 by_new_desc))
-  op_told (object d ∷ vs) (struct-new-desc x) =
-      given-said p heap locals blocks code (object d ∷ vs) (struct-new-desc x) x (some d) vs (λ fs fields below. new_desc)
-  op_told [] (struct-new-default-desc x) = silent
-  op_told (number k n ∷ vs) (struct-new-default-desc x) = silent
-  op_told (null ∷ vs) (struct-new-default-desc x) = said (does_trap (trap_43 by_new_default_desc))
-  op_told (object d ∷ vs) (struct-new-default-desc x) =
-      default_said p heap locals blocks code (object d ∷ vs) (struct-new-default-desc x) x (some d) vs (λ fs fields. new_default_desc)
+  op_told [] (struct_new_desc x) = silent
+  op_told (number k n ∷ vs) (struct_new_desc x) = silent
+  op_told (null ∷ vs) (struct_new_desc x) = said (does_trap (trap_43 by_new_desc))
+  op_told (object d ∷ vs) (struct_new_desc x) =
+      given-said p heap locals blocks code (object d ∷ vs) (struct_new_desc x) x (some d) vs (λ fs fields below. new_desc)
+  op_told [] (struct_new_default_desc x) = silent
+  op_told (number k n ∷ vs) (struct_new_default_desc x) = silent
+  op_told (null ∷ vs) (struct_new_default_desc x) = said (does_trap (trap_43 by_new_default_desc))
+  op_told (object d ∷ vs) (struct_new_default_desc x) =
+      default_said p heap locals blocks code (object d ∷ vs) (struct_new_default_desc x) x (some d) vs (λ fs fields. new_default_desc)
   op_told [] (ref_get_desc x) = silent
   op_told (number k n ∷ vs) (ref_get_desc x) = silent
   op_told (null ∷ vs) (ref_get_desc x) = said (does_trap (trap_42 by_get_desc))
@@ -181,7 +181,7 @@ module _ (p : Program) (heap : Store) (locals : List (Option Value)) (blocks : L
       on_very heap k.target_null d v
       (λ b. cond b (branch p (state heap locals (object d ∷ v ∷ vs) blocks code) k.label (v ∷ vs)) (goes (state heap locals (v ∷ vs) blocks code)))
       (λ y. also_said (λ r f. does_on_desc_eq y f) (branch-said p heap locals (object d ∷ v ∷ vs) blocks code k.label (v ∷ vs)))
-      (λ f. said (does_not-on_desc_eq f))
+      (λ f. said (does_not_on_desc_eq f))
   op_told [] (br_on_cast_desc_eq_fail k) = silent
   op_told (number j m ∷ vs) (br_on_cast_desc_eq_fail k) = silent
   op_told (null ∷ vs) (br_on_cast_desc_eq_fail k) = said (does_trap (trap_43 by_br_on_cast_desc_eq_fail))
@@ -189,7 +189,7 @@ module _ (p : Program) (heap : Store) (locals : List (Option Value)) (blocks : L
   op_told (object d ∷ v ∷ vs) (br_on_cast_desc_eq_fail k) =
       on_very heap k.target_null d v
       (λ b. cond b (goes (state heap locals (v ∷ vs) blocks code)) (branch p (state heap locals (object d ∷ v ∷ vs) blocks code) k.label (v ∷ vs)))
-      (λ y. said (does_not-on_desc_eq_fail y))
+      (λ y. said (does_not_on_desc_eq_fail y))
       (λ f. also_said (λ r g. does_on_desc_eq_fail f g) (branch-said p heap locals (object d ∷ v ∷ vs) blocks code k.label (v ∷ vs)))
 
 -- a step
@@ -202,7 +202,7 @@ step-told p m = go m.blocks m.code
     go blocks [] = silent
     go blocks ((at, block rs) ∷ code) = said steps_block
     go blocks ((at, loop rs) ∷ code) = said steps_loop
-    go [] ((at, end) ∷ code) = also_said (λ r f. steps_function-end f) (finish-said p m.heap m.locals m.operands [] code m.operands)
+    go [] ((at, end) ∷ code) = also_said (λ r f. steps_function_end f) (finish-said p m.heap m.locals m.operands [] code m.operands)
     go (open_block from n below ∷ blocks) ((at, end) ∷ code) = said steps_block_end
-    go (open_loop from below again ∷ blocks) ((at, end) ∷ code) = said steps_loop-end
+    go (open_loop from below again ∷ blocks) ((at, end) ∷ code) = said steps_loop_end
     go blocks ((at, op o) ∷ code) = also_said (λ r f. steps_op f) (op_told p m.heap m.locals blocks code m.operands o)

@@ -13,7 +13,7 @@ use Rattle.scope.proofs.Impossible.{contradiction}
 use Rattle.facts_runs.specs.OtherNumeric.{OtherNumeric}
 use Rattle.facts_steps.specs.Branches.{Finishes, finishes, Branches, out_of_block, to_loop, out_of_function}
 use Rattle.facts_steps.specs.Trapping.{NullUsed, NullDescriptor, CastFailed, NoRoomLeft, Traps, trap_41, trap_42, trap_43, trap_44, trap_45, trap_46}
-use Rattle.facts_steps.specs.Rules.{Does, does_nop, does_return, does_br, does_br_if_zero, does_br_if, does_drop, does_local_get, does_local_set, does_local_tee, does_i32_const, does_i64_const, does_f32_const, does_f64_const, does_one, does_two, does_ref_null, does_null_is_null, does_object_is_null, does_eq_nulls, does_eq-one_object, does_eq-two_objects, does_eq_null_first, does_eq_null_second, does_as_non_null, does_make, does_struct_get, does_struct_set, does_get_desc, does_test-yes, does_test-no, does_cast, does_cast_desc_eq, does_on_cast, does_not-on_cast, does_on_fail, does_not-on_fail, does_on_desc_eq, does_not-on_desc_eq, does_on_desc_eq_fail, does_not-on_desc_eq_fail, does_trap}
+use Rattle.facts_steps.specs.Rules.{Does, does_nop, does_return, does_br, does_br_if_zero, does_br_if, does_drop, does_local_get, does_local_set, does_local_tee, does_i32_const, does_i64_const, does_f32_const, does_f64_const, does_one, does_two, does_ref_null, does_null_is_null, does_object_is_null, does_eq_nulls, does_eq_one_object, does_eq_two_objects, does_eq_null_first, does_eq_null_second, does_as_non_null, does_make, does_struct_get, does_struct_set, does_get_desc, does_test_yes, does_test_no, does_cast, does_cast_desc_eq, does_on_cast, does_not_on_cast, does_on_fail, does_not_on_fail, does_on_desc_eq, does_not_on_desc_eq, does_on_desc_eq_fail, does_not_on_desc_eq_fail, does_trap}
 
 -- by the outcome: a rule goes on, ends, or says a trap of which P holds; it never is stuck
 pub data Tells (P : ℕ → Type 0) : Outcome → Type 0 where
@@ -64,8 +64,8 @@ op_tells does_ref_null = going
 op_tells does_null_is_null = going
 op_tells does_object_is_null = going
 op_tells does_eq_nulls = going
-op_tells does_eq-one_object = going
-op_tells (does_eq-two_objects x) = going
+op_tells does_eq_one_object = going
+op_tells (does_eq_two_objects x) = going
 op_tells does_eq_null_first = going
 op_tells does_eq_null_second = going
 op_tells does_as_non_null = going
@@ -73,18 +73,18 @@ op_tells (does_make x y) = going
 op_tells (does_struct_get x y) = going
 op_tells (does_struct_set x y z) = going
 op_tells (does_get_desc x y) = going
-op_tells (does_test-yes x) = going
-op_tells (does_test-no x) = going
+op_tells (does_test_yes x) = going
+op_tells (does_test_no x) = going
 op_tells (does_cast x) = going
 op_tells (does_cast_desc_eq x) = going
 op_tells (does_on_cast x b) = branch_tells b
-op_tells (does_not-on_cast x) = going
+op_tells (does_not_on_cast x) = going
 op_tells (does_on_fail x b) = branch_tells b
-op_tells (does_not-on_fail x) = going
+op_tells (does_not_on_fail x) = going
 op_tells (does_on_desc_eq x b) = branch_tells b
-op_tells (does_not-on_desc_eq x) = going
+op_tells (does_not_on_desc_eq x) = going
 op_tells (does_on_desc_eq_fail x b) = branch_tells b
-op_tells (does_not-on_desc_eq_fail x) = going
+op_tells (does_not_on_desc_eq_fail x) = going
 op_tells (does_trap t) = trapping t
 
 -- each trap's number is its own

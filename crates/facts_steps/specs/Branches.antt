@@ -18,7 +18,7 @@ pub data PastEnds : ℕ → Code → Code → Type 0 where
   none_open : {code : Code} → PastEnds zero code code
   closes : {n at : ℕ} {code rest : Code} → PastEnds n code rest → PastEnds (suc n) ((at, end) ∷ code) rest
   opens_block : {n at : ℕ} {rs : List Val} {code rest : Code} → PastEnds (suc (suc n)) code rest → PastEnds (suc n) ((at, block rs) ∷ code) rest
-  opens-loop : {n at : ℕ} {rs : List Val} {code rest : Code} → PastEnds (suc (suc n)) code rest → PastEnds (suc n) ((at, loop rs) ∷ code) rest
+  opens_loop : {n at : ℕ} {rs : List Val} {code rest : Code} → PastEnds (suc (suc n)) code rest → PastEnds (suc n) ((at, loop rs) ∷ code) rest
   passes : {n at : ℕ} {o : Op} {code rest : Code} → PastEnds (suc n) code rest → PastEnds (suc n) ((at, op o) ∷ code) rest
   -- of no accepted body, whose ends close all that is open
   no_end : {n : ℕ} → PastEnds (suc n) [] []

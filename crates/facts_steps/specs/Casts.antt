@@ -36,5 +36,5 @@ pub data Described (heap : Store) (null_too : Bool) (d : ℕ) : Value → Type 0
 
 -- an object without a descriptor is among these
 pub data NotDescribed (heap : Store) (null_too : Bool) (d : ℕ) : Value → Type 0 where
-  null_not-described : null_too ≡ false → NotDescribed heap null_too d null
-  object_not-described : {o : ℕ} {it : Object} → Stands o it heap → ¬ (it.descriptor ≡ some d) → NotDescribed heap null_too d (object o)
+  null_not_described : null_too ≡ false → NotDescribed heap null_too d null
+  object_not_described : {o : ℕ} {it : Object} → Stands o it heap → ¬ (it.descriptor ≡ some d) → NotDescribed heap null_too d (object o)

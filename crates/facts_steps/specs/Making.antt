@@ -3,12 +3,12 @@
 use Rattle.std.specs.Prelude.{ℕ, ◌≡◌, Bool, true, List, [], ◌∷◌, ◌++◌, reverse, length}
 use Rattle.std.proofs.Math.Option.{none, some}
 use Rattle.scope.specs.Syntax.{Heap, Number, num, ref, Field, struct, Types}
-use Rattle.scope.specs.Instructions.{Op, struct_new, struct-new-default, struct-new-desc, struct-new-default-desc}
+use Rattle.scope.specs.Instructions.{Op, struct_new, struct_new_default, struct_new_desc, struct_new_default_desc}
 use Rattle.scope.specs.Machine.{Value, number, null, object, Object}
 
 -- "zero or null"
 pub data StartsAt : Field → Value → Type 0 where
-  number-zero : {k : Number} {mutable : Bool} → StartsAt (record { holds = num k; mutable = mutable }) (number k 0)
+  number_zero : {k : Number} {mutable : Bool} → StartsAt (record { holds = num k; mutable = mutable }) (number k 0)
   reference_null : {h : Heap} {mutable : Bool} → StartsAt (record { holds = ref true h; mutable = mutable }) null
 
 -- each field's default, in their order
@@ -23,10 +23,10 @@ pub data Makes (ts : Types) : List Value → Op → Object → List Value → Ty
       → Makes ts vs (struct_new x) (record { type = x; descriptor = none; fields = fields }) below
   new_default : {x : ℕ} {fs : List Field} {fields below : List Value}
       → (ts x).form ≡ struct fs → Defaults fs fields
-      → Makes ts below (struct-new-default x) (record { type = x; descriptor = none; fields = fields }) below
+      → Makes ts below (struct_new_default x) (record { type = x; descriptor = none; fields = fields }) below
   new_desc : {x d : ℕ} {fs : List Field} {vs fields below : List Value}
       → (ts x).form ≡ struct fs → length fields ≡ length fs → vs ≡ reverse fields ++ below
-      → Makes ts (object d ∷ vs) (struct-new-desc x) (record { type = x; descriptor = some d; fields = fields }) below
+      → Makes ts (object d ∷ vs) (struct_new_desc x) (record { type = x; descriptor = some d; fields = fields }) below
   new_default_desc : {x d : ℕ} {fs : List Field} {fields below : List Value}
       → (ts x).form ≡ struct fs → Defaults fs fields
-      → Makes ts (object d ∷ below) (struct-new-default-desc x) (record { type = x; descriptor = some d; fields = fields }) below
+      → Makes ts (object d ∷ below) (struct_new_default_desc x) (record { type = x; descriptor = some d; fields = fields }) below

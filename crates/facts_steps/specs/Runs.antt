@@ -11,12 +11,12 @@ use Rattle.facts_steps.specs.Laws.{StepOf}
 
 -- what a local of this type holds at first
 pub data HeldFirst : Val → Option Value → Type 0 where
-  zero-first : {k : Number} → HeldFirst (num k) (some (number k 0))
+  zero_first : {k : Number} → HeldFirst (num k) (some (number k 0))
   null_first : {h : Heap} → HeldFirst (ref true h) (some null)
   nothing_first : {h : Heap} → HeldFirst (ref false h) none
 
 pub data AllHeldFirst : List Val → List (Option Value) → Type 0 where
-  no-locals : AllHeldFirst [] []
+  no_locals : AllHeldFirst [] []
   one_local : {v : Val} {o : Option Value} {vs : List Val} {os : List (Option Value)} → HeldFirst v o → AllHeldFirst vs os → AllHeldFirst (v ∷ vs) (o ∷ os)
 
 pub record Begins (b : Body) (m : Machine) : Type 0 where

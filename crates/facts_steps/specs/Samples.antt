@@ -5,7 +5,7 @@ use Rattle.std.specs.Prelude.{ℕ, ◌≡◌, true, false, List, [], ◌∷◌}
 use Rattle.std.proofs.Math.Option.{Option, none, some}
 use Rattle.scope.specs.Abstract.{ANY, EQ, STRUCT, FUNC}
 use Rattle.scope.specs.Syntax.{abstract, defined, exact, i32, i64, f32, Number, num, nullable, non_null, struct, Definition, types_of}
-use Rattle.scope.specs.Instructions.{Cast, Op, unreachable, nop, return, drop_value, br, br-if, local_get, local-set, local_tee, i32_const, i64_const, numeric, ref_null, ref-is-null, ref-eq, ref-as-non-null, struct_new, struct-new-default, struct_get, struct_set, ref_test, ref_cast, br_on_cast, br_on_cast_fail, struct-new-desc, struct-new-default-desc, ref_get_desc, ref_cast_desc_eq, br_on_cast_desc_eq, br_on_cast_desc_eq_fail, block, loop, end, op}
+use Rattle.scope.specs.Instructions.{Cast, Op, unreachable, nop, return, drop_value, br, br_if, local_get, local_set, local_tee, i32_const, i64_const, numeric, ref_null, ref_is_null, ref_eq, ref_as_non_null, struct_new, struct_new_default, struct_get, struct_set, ref_test, ref_cast, br_on_cast, br_on_cast_fail, struct_new_desc, struct_new_default_desc, ref_get_desc, ref_cast_desc_eq, br_on_cast_desc_eq, br_on_cast_desc_eq_fail, block, loop, end, op}
 use Rattle.scope.specs.Bodies.{Code}
 use Rattle.scope.specs.Machine.{Value, number, null, object, Object, Store, Block, open_block, open_loop, Machine, Program, Outcome, goes, ends, traps, stuck, step}
 use Rattle.facts_steps.specs.Places.{state}
@@ -107,11 +107,11 @@ control =
     ∷ sample (yes ∷ null ∷ []) (br 2) (done yes)
     ∷ sample (yes ∷ null ∷ []) (br 3) stuck
     -- taken on anything but zero
-    ∷ sample (no ∷ yes ∷ []) (br-if 1) (on (yes ∷ []))
-    ∷ sample (yes ∷ no ∷ []) (br-if 1) (out no)
-    ∷ sample (number i32 2 ∷ no ∷ []) (br-if 1) (out no)
-    ∷ sample (number i32 0x8000_0000 ∷ no ∷ []) (br-if 0) round
-    ∷ sample (number i64 1 ∷ no ∷ []) (br-if 1) stuck
+    ∷ sample (no ∷ yes ∷ []) (br_if 1) (on (yes ∷ []))
+    ∷ sample (yes ∷ no ∷ []) (br_if 1) (out no)
+    ∷ sample (number i32 2 ∷ no ∷ []) (br_if 1) (out no)
+    ∷ sample (number i32 0x8000_0000 ∷ no ∷ []) (br_if 0) round
+    ∷ sample (number i64 1 ∷ no ∷ []) (br_if 1) stuck
     ∷ []
 
 abbrev pub plain_ones : List Sample
@@ -119,9 +119,9 @@ plain_ones =
     sample (null ∷ []) (local_get 0) (on (number i32 5 ∷ null ∷ []))
     -- no value until it is set
     ∷ sample (null ∷ []) (local_get 1) stuck
-    ∷ sample (yes ∷ null ∷ []) (local-set 1) (goes (state heap (some (number i32 5) ∷ some yes ∷ []) (null ∷ []) blocks after))
+    ∷ sample (yes ∷ null ∷ []) (local_set 1) (goes (state heap (some (number i32 5) ∷ some yes ∷ []) (null ∷ []) blocks after))
     ∷ sample (yes ∷ null ∷ []) (local_tee 1) (goes (state heap (some (number i32 5) ∷ some yes ∷ []) (yes ∷ null ∷ []) blocks after))
-    ∷ sample (yes ∷ []) (local-set 2) stuck
+    ∷ sample (yes ∷ []) (local_set 2) stuck
     ∷ sample [] (i32_const 9) (on (number i32 9 ∷ []))
     ∷ sample [] (i64_const 9) (on (number i64 9 ∷ []))
     -- i32.sub, the second operand on top; i32.mul is not done
@@ -133,30 +133,30 @@ plain_ones =
 abbrev pub references : List Sample
 references =
     sample [] (ref_null (abstract FUNC)) (on (null ∷ []))
-    ∷ sample (null ∷ []) ref-is-null (on (yes ∷ []))
-    ∷ sample (object 0 ∷ []) ref-is-null (on (no ∷ []))
-    ∷ sample (null ∷ null ∷ yes ∷ []) ref-eq (on (yes ∷ yes ∷ []))
-    ∷ sample (object 1 ∷ object 1 ∷ []) ref-eq (on (yes ∷ []))
-    ∷ sample (object 0 ∷ object 0 ∷ []) ref-eq (on (yes ∷ []))
-    ∷ sample (object 0 ∷ object 1 ∷ []) ref-eq (on (no ∷ []))
-    ∷ sample (object 1 ∷ object 0 ∷ []) ref-eq (on (no ∷ []))
-    ∷ sample (object 0 ∷ null ∷ []) ref-eq (on (no ∷ []))
-    ∷ sample (null ∷ object 0 ∷ []) ref-eq (on (no ∷ []))
-    ∷ sample (object 0 ∷ []) ref-as-non-null (on (object 0 ∷ []))
-    ∷ sample (null ∷ []) ref-as-non-null (traps 42)
+    ∷ sample (null ∷ []) ref_is_null (on (yes ∷ []))
+    ∷ sample (object 0 ∷ []) ref_is_null (on (no ∷ []))
+    ∷ sample (null ∷ null ∷ yes ∷ []) ref_eq (on (yes ∷ yes ∷ []))
+    ∷ sample (object 1 ∷ object 1 ∷ []) ref_eq (on (yes ∷ []))
+    ∷ sample (object 0 ∷ object 0 ∷ []) ref_eq (on (yes ∷ []))
+    ∷ sample (object 0 ∷ object 1 ∷ []) ref_eq (on (no ∷ []))
+    ∷ sample (object 1 ∷ object 0 ∷ []) ref_eq (on (no ∷ []))
+    ∷ sample (object 0 ∷ null ∷ []) ref_eq (on (no ∷ []))
+    ∷ sample (null ∷ object 0 ∷ []) ref_eq (on (no ∷ []))
+    ∷ sample (object 0 ∷ []) ref_as_non_null (on (object 0 ∷ []))
+    ∷ sample (null ∷ []) ref_as_non_null (traps 42)
     ∷ []
 
 abbrev pub structs : List Sample
 structs =
     -- the last field on top
     sample (number i64 3 ∷ object 0 ∷ yes ∷ []) (struct_new 0) (goes (state (first ∷ second ∷ record { type = 0; descriptor = none; fields = object 0 ∷ number i64 3 ∷ [] } ∷ []) locals (object 2 ∷ yes ∷ []) blocks after))
-    ∷ sample (yes ∷ []) (struct-new-default 0) (goes (state (first ∷ second ∷ record { type = 0; descriptor = none; fields = null ∷ number i64 0 ∷ [] } ∷ []) locals (object 2 ∷ yes ∷ []) blocks after))
-    ∷ sample (object 0 ∷ number i64 3 ∷ null ∷ yes ∷ []) (struct-new-desc 0) (goes (state (first ∷ second ∷ record { type = 0; descriptor = some 0; fields = null ∷ number i64 3 ∷ [] } ∷ []) locals (object 2 ∷ yes ∷ []) blocks after))
-    ∷ sample (object 0 ∷ yes ∷ []) (struct-new-default-desc 0) (goes (state (first ∷ second ∷ record { type = 0; descriptor = some 0; fields = null ∷ number i64 0 ∷ [] } ∷ []) locals (object 2 ∷ yes ∷ []) blocks after))
-    ∷ sample (null ∷ []) (struct-new-desc 0) (traps 43)
-    ∷ sample (null ∷ []) (struct-new-default-desc 0) (traps 43)
+    ∷ sample (yes ∷ []) (struct_new_default 0) (goes (state (first ∷ second ∷ record { type = 0; descriptor = none; fields = null ∷ number i64 0 ∷ [] } ∷ []) locals (object 2 ∷ yes ∷ []) blocks after))
+    ∷ sample (object 0 ∷ number i64 3 ∷ null ∷ yes ∷ []) (struct_new_desc 0) (goes (state (first ∷ second ∷ record { type = 0; descriptor = some 0; fields = null ∷ number i64 3 ∷ [] } ∷ []) locals (object 2 ∷ yes ∷ []) blocks after))
+    ∷ sample (object 0 ∷ yes ∷ []) (struct_new_default_desc 0) (goes (state (first ∷ second ∷ record { type = 0; descriptor = some 0; fields = null ∷ number i64 0 ∷ [] } ∷ []) locals (object 2 ∷ yes ∷ []) blocks after))
+    ∷ sample (null ∷ []) (struct_new_desc 0) (traps 43)
+    ∷ sample (null ∷ []) (struct_new_default_desc 0) (traps 43)
     -- a field without a default
-    ∷ sample [] (struct-new-default 2) stuck
+    ∷ sample [] (struct_new_default 2) stuck
     ∷ sample (object 1 ∷ yes ∷ []) (struct_get 0 1) (on (number i64 0x1_0000_0002 ∷ yes ∷ []))
     ∷ sample (object 0 ∷ yes ∷ []) (struct_get 1 0) (on (number i32 7 ∷ yes ∷ []))
     ∷ sample (null ∷ []) (struct_get 0 1) (traps 42)

@@ -4,7 +4,7 @@
 use Rattle.std.specs.Prelude.{ℕ, Bool, List, ◌∷◌, length}
 use Rattle.scope.specs.Refusals.{trap_unreachable, trap_null, trap_null_descriptor, trap_cast, trap_no_room, trap_other_numeric}
 use Rattle.scope.specs.Syntax.{Heap, Types}
-use Rattle.scope.specs.Instructions.{Cast, Op, unreachable, ref-as-non-null, struct_get, struct_set, ref_cast, struct-new-desc, struct-new-default-desc, ref_get_desc, ref_cast_desc_eq, br_on_cast_desc_eq, br_on_cast_desc_eq_fail}
+use Rattle.scope.specs.Instructions.{Cast, Op, unreachable, ref_as_non_null, struct_get, struct_set, ref_cast, struct_new_desc, struct_new_default_desc, ref_get_desc, ref_cast_desc_eq, br_on_cast_desc_eq, br_on_cast_desc_eq_fail}
 use Rattle.scope.specs.Machine.{Value, null, object, Object, Store}
 use Rattle.facts_runs.specs.NoRoom.{NoRoom}
 use Rattle.facts_runs.specs.OtherNumeric.{OtherNumeric}
@@ -13,15 +13,15 @@ use Rattle.facts_steps.specs.Making.{Makes}
 
 -- 42
 pub data NullUsed : List Value → Op → Type 0 where
-  by_as_non_null : {vs : List Value} → NullUsed (null ∷ vs) ref-as-non-null
+  by_as_non_null : {vs : List Value} → NullUsed (null ∷ vs) ref_as_non_null
   by_get : {x i : ℕ} {vs : List Value} → NullUsed (null ∷ vs) (struct_get x i)
   by_set : {x i : ℕ} {new : Value} {vs : List Value} → NullUsed (new ∷ null ∷ vs) (struct_set x i)
   by_get_desc : {x : ℕ} {vs : List Value} → NullUsed (null ∷ vs) (ref_get_desc x)
 
 -- 43: whatever lies below the descriptor
 pub data NullDescriptor : List Value → Op → Type 0 where
-  by_new_desc : {x : ℕ} {vs : List Value} → NullDescriptor (null ∷ vs) (struct-new-desc x)
-  by_new_default_desc : {x : ℕ} {vs : List Value} → NullDescriptor (null ∷ vs) (struct-new-default-desc x)
+  by_new_desc : {x : ℕ} {vs : List Value} → NullDescriptor (null ∷ vs) (struct_new_desc x)
+  by_new_default_desc : {x : ℕ} {vs : List Value} → NullDescriptor (null ∷ vs) (struct_new_default_desc x)
   by_cast_desc_eq : {n : Bool} {h : Heap} {vs : List Value} → NullDescriptor (null ∷ vs) (ref_cast_desc_eq n h)
   by_br_on_cast_desc_eq : {k : Cast} {vs : List Value} → NullDescriptor (null ∷ vs) (br_on_cast_desc_eq k)
   by_br_on_cast_desc_eq_fail : {k : Cast} {vs : List Value} → NullDescriptor (null ∷ vs) (br_on_cast_desc_eq_fail k)

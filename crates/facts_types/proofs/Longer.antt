@@ -15,7 +15,7 @@ use Rattle.scope.specs.Order.{same_type, climbs, heap_below, val_below}
 use Rattle.scope.specs.TypeRules.{in_reach, one_super, super_earlier_and_open, short_chain, field_matches, form_matches, matches_super, clauses_on_struct, describes_earlier, is_the, clauses_agree, descriptor_follows, described_follow, describes_follows}
 use Rattle.scope.specs.Judging.{accepted, and_then, links_fault, rule_fault, scan, judge_types}
 use Rattle.scope.proofs.Accepted.{judged-kept, judged-no_fault, super_earlier_and_open_lem}
-use Rattle.facts_types.specs.TypeRelations.{ValNames, of_defined, of_exact, of_holds, SomeNames, this_names, later-names, FormNames, in_field, in_parameter, in_result, Names, as_described, as_descriptor, in_form}
+use Rattle.facts_types.specs.TypeRelations.{ValNames, of_defined, of_exact, of_holds, SomeNames, this_names, later_names, FormNames, in_field, in_parameter, in_result, Names, as_described, as_descriptor, in_form}
 use Rattle.facts_types.proofs.Named.{reach_says}
 use Rattle.facts_types.proofs.Judge.{faultless_judged}
 
@@ -41,7 +41,7 @@ module _ {A B : Type 0} (f g : A → B → Bool) where
 
 some_of : {A : Type 0} {R : A → ℕ → Type 0} {x : A} {xs : List A} {y : ℕ} → Memᴰ x xs → R x y → SomeNames R xs y
 some_of {R = R} {y = y} (Memᴰ.head e) r = this_names (rw e at r)
-some_of (Memᴰ.tail m) r = later-names (some_of m r)
+some_of (Memᴰ.tail m) r = later_names (some_of m r)
 
 -- what a heap type and a value type name lies below n
 

@@ -13,7 +13,7 @@ use Rattle.scope.specs.Lists.{joined, as_list}
 use Rattle.scope.specs.Syntax.{abstract, defined, exact, Val, num, ref, Field, Form, struct, func, Definition, Types}
 use Rattle.scope.specs.TypeRules.{val_names, field_names, form_names, names, in_reach}
 use Rattle.scope.proofs.Truths.{every-at}
-use Rattle.facts_types.specs.TypeRelations.{ValNames, of_defined, of_exact, FieldNames, of_holds, SomeNames, this_names, later-names, FormNames, in_field, in_parameter, in_result, Names, as_supertype, as_described, as_descriptor, in_form, InReach}
+use Rattle.facts_types.specs.TypeRelations.{ValNames, of_defined, of_exact, FieldNames, of_holds, SomeNames, this_names, later_names, FormNames, in_field, in_parameter, in_result, Names, as_supertype, as_described, as_descriptor, in_form, InReach}
 use Rattle.facts_types.proofs.Tests.{every_of}
 
 -- A list of numbers for each of a list, and the relation that says what is in it
@@ -21,7 +21,7 @@ use Rattle.facts_types.proofs.Tests.{every_of}
 module _ {A : Type 0} {R : A → ℕ → Type 0} (f : A → List ℕ) where
   some-listed : ((x : A) (y : ℕ) → R x y → Memᴰ y (f x)) → {xs : List A} {y : ℕ} → SomeNames R xs y → Memᴰ y (joined (map f xs))
   some-listed into (this_names r) = Memᴰ.append_left _ (into _ _ r)
-  some-listed into (later-names {x = x} more) = Memᴰ.append_right (f x) (some-listed into more)
+  some-listed into (later_names {x = x} more) = Memᴰ.append_right (f x) (some-listed into more)
 
   listed-some : ((x : A) (y : ℕ) → Memᴰ y (f x) → R x y) → (xs : List A) {y : ℕ} → Memᴰ y (joined (map f xs)) → SomeNames R xs y
   listed-some out [] m = absurd (Memᴰ.not-nil m)
@@ -29,7 +29,7 @@ module _ {A : Type 0} {R : A → ℕ → Type 0} (f : A → List ℕ) where
     where
       go : Memᴰ y (f x) ⊎ Memᴰ y (joined (map f xs)) → (Memᴰ y (joined (map f xs)) → SomeNames R xs y) → SomeNames R (x ∷ xs) y
       go (inl here) later = this_names (out x y here)
-      go (inr there) later = later-names (later there)
+      go (inr there) later = later_names (later there)
 
 -- Value types, fields and forms
 

@@ -21,7 +21,7 @@ use Rattle.scope.proofs.Order.{same_number_equal, value_order-tested}
 use Rattle.scope.proofs.Identity.{same_value_equal, value_same}
 use Rattle.facts_types.specs.TypeRelations.{Matches}
 use Rattle.facts_types.specs.Chains.{Steps, stay, step}
-use Rattle.facts_types.specs.OwnForms.{KindOf, struct_kind, func_kind, BottomOf, struct_bottom, func_bottom, OwnHeap, abstracts, bottom_of_defined, bottom_of_exact, defined_by_kind, exact_by_kind, defined_by_chain, exact_by_chain, exact_itself, OwnVal, same_number_lem, from_non_null, from_nullable, OwnField, both-fixed, both_mutable, OwnAgainst, own_against, OwnForm, own_structs, own_functions, OwnMatches}
+use Rattle.facts_types.specs.OwnForms.{KindOf, struct_kind, func_kind, BottomOf, struct_bottom, func_bottom, OwnHeap, abstracts, bottom_of_defined, bottom_of_exact, defined_by_kind, exact_by_kind, defined_by_chain, exact_by_chain, exact_itself, OwnVal, same_number_lem, from_non_null, from_nullable, OwnField, both_fixed, both_mutable, OwnAgainst, own_against, OwnForm, own_structs, own_functions, OwnMatches}
 use Rattle.facts_types.proofs.Tests.{given_says, says_given, prefix_at_least, pairwise_as_many, at_least_prefix, as_many_pairwise}
 use Rattle.facts_types.proofs.TenTypes.{below-order, order_below}
 use Rattle.facts_types.proofs.Rules.{matches_say, matches_tested}
@@ -127,10 +127,10 @@ module _ (ts : Types) where
       go v w true true same = rw (same_value_equal v w same) both_mutable
       go v w true false same = absurd (false≢true same)
       go v w false true same = absurd (false≢true same)
-      go v w false false below = both-fixed (val_says v w below)
+      go v w false false below = both_fixed (val_says v w below)
 
   field_tested : (f g : Field) → OwnField ts f g → field_matches ts f g ≡ true
-  field_tested f g (both-fixed {v = v} {w = w} below) = val_tested v w below
+  field_tested f g (both_fixed {v = v} {w = w} below) = val_tested v w below
   field_tested f g (both_mutable {v = v}) = value_same v
 
   against_tested : (p q : Val) → OwnAgainst ts p q → val_below ts q p ≡ true

@@ -10,7 +10,7 @@ use Rattle.scope.specs.Abstract.{Abstract, NOFUNC, NOEXTERN, NONE, FUNC, EXTERN,
 use Rattle.scope.specs.Order.{up_table, abstract_below}
 use Rattle.scope.proofs.Truths.{from_some, from_either}
 use Rattle.scope.proofs.TenRows.{same_equal, row_kept, pair-kept, abstract_transitive}
-use Rattle.facts_types.specs.TenTypes.{CodeOf, code_73, code_72, code_71, code_70, code_6F, code_6E, code_6D, code_6C, code_6B, code_6A, Listed, none-below_i31, none-below_struct, none-below_array, i31_below-eq, struct_below-eq, array_below-eq, eq-below_any, nofunc_below_func, noextern_below_extern, AbstractOrder, as_listed, same_abstract_lem, by_way_of, Hierarchy, of_any, of_func, of_extern}
+use Rattle.facts_types.specs.TenTypes.{CodeOf, code_73, code_72, code_71, code_70, code_6F, code_6E, code_6D, code_6C, code_6B, code_6A, Listed, none_below_i31, none_below_struct, none_below_array, i31_below_eq, struct_below_eq, array_below_eq, eq_below_any, nofunc_below_func, noextern_below_extern, AbstractOrder, as_listed, same_abstract_lem, by_way_of, Hierarchy, of_any, of_func, of_extern}
 
 pub row-code : (a : Abstract) → CodeOf (row a).code a
 row-code NOFUNC = code_73
@@ -55,20 +55,20 @@ above_listed NOFUNC (Memᴰ.head e) = rw e nofunc_below_func
 above_listed NOFUNC (Memᴰ.tail x) = elim x [ ]
 above_listed NOEXTERN (Memᴰ.head e) = rw e noextern_below_extern
 above_listed NOEXTERN (Memᴰ.tail x) = elim x [ ]
-above_listed NONE (Memᴰ.head e) = rw e none-below_i31
-above_listed NONE (Memᴰ.tail (Memᴰ.head e)) = rw e none-below_struct
-above_listed NONE (Memᴰ.tail (Memᴰ.tail (Memᴰ.head e))) = rw e none-below_array
+above_listed NONE (Memᴰ.head e) = rw e none_below_i31
+above_listed NONE (Memᴰ.tail (Memᴰ.head e)) = rw e none_below_struct
+above_listed NONE (Memᴰ.tail (Memᴰ.tail (Memᴰ.head e))) = rw e none_below_array
 above_listed NONE (Memᴰ.tail (Memᴰ.tail (Memᴰ.tail x))) = elim x [ ]
 above_listed FUNC x = elim x [ ]
 above_listed EXTERN x = elim x [ ]
 above_listed ANY x = elim x [ ]
-above_listed EQ (Memᴰ.head e) = rw e eq-below_any
+above_listed EQ (Memᴰ.head e) = rw e eq_below_any
 above_listed EQ (Memᴰ.tail x) = elim x [ ]
-above_listed I31 (Memᴰ.head e) = rw e i31_below-eq
+above_listed I31 (Memᴰ.head e) = rw e i31_below_eq
 above_listed I31 (Memᴰ.tail x) = elim x [ ]
-above_listed STRUCT (Memᴰ.head e) = rw e struct_below-eq
+above_listed STRUCT (Memᴰ.head e) = rw e struct_below_eq
 above_listed STRUCT (Memᴰ.tail x) = elim x [ ]
-above_listed ARRAY (Memᴰ.head e) = rw e array_below-eq
+above_listed ARRAY (Memᴰ.head e) = rw e array_below_eq
 above_listed ARRAY (Memᴰ.tail x) = elim x [ ]
 
 pub directly_listed : (a b : Abstract) → directly_above a b ≡ true → Listed a b
@@ -77,13 +77,13 @@ directly_listed a b e =
     above_listed a (subst (λ (d : Abstract). Memᴰ d (row a).above) (sym (same_equal b c same)) among)
 
 pub listed_directly : {a b : Abstract} → Listed a b → directly_above a b ≡ true
-listed_directly none-below_i31 = refl
-listed_directly none-below_struct = refl
-listed_directly none-below_array = refl
-listed_directly i31_below-eq = refl
-listed_directly struct_below-eq = refl
-listed_directly array_below-eq = refl
-listed_directly eq-below_any = refl
+listed_directly none_below_i31 = refl
+listed_directly none_below_struct = refl
+listed_directly none_below_array = refl
+listed_directly i31_below_eq = refl
+listed_directly struct_below_eq = refl
+listed_directly array_below_eq = refl
+listed_directly eq_below_any = refl
 listed_directly nofunc_below_func = refl
 listed_directly noextern_below_extern = refl
 

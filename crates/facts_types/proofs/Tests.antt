@@ -10,7 +10,7 @@ use Rattle.scope.specs.Reading.{given}
 use Rattle.scope.specs.Lists.{every, pairwise, prefixwise}
 use Rattle.scope.specs.TypeRules.{is_the}
 use Rattle.scope.proofs.Truths.{both, from_both}
-use Rattle.facts_types.specs.TypeRelations.{AtLeast, any_more, one-and_more, AsMany, no_more, one-and_as_many}
+use Rattle.facts_types.specs.TypeRelations.{AtLeast, any_more, one_and_more, AsMany, no_more, one_and_as_many}
 
 -- A test of what may be missing
 
@@ -46,7 +46,7 @@ module _ {A B : Type 0} (f : A → B → Bool) {R : A → B → Type 0} where
     prefix_at_least [] (y ∷ ys) e = absurd (false≢true e)
     prefix_at_least (x ∷ xs) (y ∷ ys) e =
         let (first, later) = from_both (f x y) (prefixwise f xs ys) e in
-        one-and_more (says x y first) (prefix_at_least xs ys later)
+        one_and_more (says x y first) (prefix_at_least xs ys later)
 
     pub pairwise_as_many : (xs : List A) (ys : List B) → pairwise f xs ys ≡ true → AsMany R xs ys
     pairwise_as_many [] [] e = no_more
@@ -54,13 +54,13 @@ module _ {A B : Type 0} (f : A → B → Bool) {R : A → B → Type 0} where
     pairwise_as_many [] (y ∷ ys) e = absurd (false≢true e)
     pairwise_as_many (x ∷ xs) (y ∷ ys) e =
         let (first, later) = from_both (f x y) (pairwise f xs ys) e in
-        one-and_as_many (says x y first) (pairwise_as_many xs ys later)
+        one_and_as_many (says x y first) (pairwise_as_many xs ys later)
 
   module _ (tested : (x : A) (y : B) → R x y → f x y ≡ true) where
     pub at_least_prefix : {xs : List A} {ys : List B} → AtLeast R xs ys → prefixwise f xs ys ≡ true
     at_least_prefix any_more = refl
-    at_least_prefix (one-and_more r more) = both (tested _ _ r) (at_least_prefix more)
+    at_least_prefix (one_and_more r more) = both (tested _ _ r) (at_least_prefix more)
 
     pub as_many_pairwise : {xs : List A} {ys : List B} → AsMany R xs ys → pairwise f xs ys ≡ true
     as_many_pairwise no_more = refl
-    as_many_pairwise (one-and_as_many r more) = both (tested _ _ r) (as_many_pairwise more)
+    as_many_pairwise (one_and_as_many r more) = both (tested _ _ r) (as_many_pairwise more)

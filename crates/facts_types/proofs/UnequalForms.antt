@@ -13,7 +13,7 @@ use Rattle.scope.specs.Syntax.{Val, Field, struct, func, Group, Types, types_of}
 use Rattle.scope.specs.Sections.{read_after, empty_library}
 use Rattle.scope.specs.Judging.{plain, rejected, judge_joined}
 use Rattle.scope.proofs.Computes.{computes}
-use Rattle.facts_types.specs.TypeRelations.{Matches, structs, one-and_more, any_more, fixed_subtype, FormMatches}
+use Rattle.facts_types.specs.TypeRelations.{Matches, structs, one_and_more, any_more, fixed_subtype, FormMatches}
 
 abbrev function_below_struct : List ℕ
 function_below_struct =
@@ -32,7 +32,7 @@ unfolding computes
 type_2_matches = record { matched = λ {p} e. go p e }
   where
     go : (p : ℕ) → some 1 ≡ some p → FormMatches (types_read (read_after 0 function_below_struct)) (types_read (read_after 0 function_below_struct) 2).form (types_read (read_after 0 function_below_struct) p).form
-    go p e = let q : 1 ≡ p = cc in rw (← q) (structs (one-and_more (fixed_subtype (heaps (transitive (supertype {y = 0} refl) (kind refl)))) any_more))
+    go p e = let q : 1 ≡ p = cc in rw (← q) (structs (one_and_more (fixed_subtype (heaps (transitive (supertype {y = 0} refl) (kind refl)))) any_more))
 
 function_is_no_struct : {ts : Types} {ps rs : List Val} {fs : List Field} → FormMatches ts (func ps rs) (struct fs) → ⊥
 function_is_no_struct m = elim m [ ]

@@ -36,7 +36,7 @@ pub data OwnVal (ts : Types) : Val → Val → Type 0 where
 
 -- "a fixed field's type is a subtype, a mutable one's is identical, mutability equal"
 pub data OwnField (ts : Types) : Field → Field → Type 0 where
-  both-fixed : {v w : Val} → OwnVal ts v w → OwnField ts (record { holds = v; mutable = false }) (record { holds = w; mutable = false })
+  both_fixed : {v w : Val} → OwnVal ts v w → OwnField ts (record { holds = v; mutable = false }) (record { holds = w; mutable = false })
   both_mutable : {v : Val} → OwnField ts (record { holds = v; mutable = true }) (record { holds = v; mutable = true })
 
 -- "parameters against"

@@ -18,13 +18,13 @@ pub data CodeOf : ℕ → Abstract → Type 0 where
 
 -- Rule 6: "none below i31, struct, array; these below eq, eq below any; nofunc below func; noextern below extern."
 pub data Listed : Abstract → Abstract → Type 0 where
-  none-below_i31 : Listed NONE I31
-  none-below_struct : Listed NONE STRUCT
-  none-below_array : Listed NONE ARRAY
-  i31_below-eq : Listed I31 EQ
-  struct_below-eq : Listed STRUCT EQ
-  array_below-eq : Listed ARRAY EQ
-  eq-below_any : Listed EQ ANY
+  none_below_i31 : Listed NONE I31
+  none_below_struct : Listed NONE STRUCT
+  none_below_array : Listed NONE ARRAY
+  i31_below_eq : Listed I31 EQ
+  struct_below_eq : Listed STRUCT EQ
+  array_below_eq : Listed ARRAY EQ
+  eq_below_any : Listed EQ ANY
   nofunc_below_func : Listed NOFUNC FUNC
   noextern_below_extern : Listed NOEXTERN EXTERN
 

@@ -20,7 +20,7 @@ pub data FieldNames : Field → ℕ → Type 0 where
 -- one of the list names it
 pub data SomeNames {A : Type 0} (R : A → ℕ → Type 0) : List A → ℕ → Type 0 where
   this_names : {x : A} {xs : List A} {y : ℕ} → R x y → SomeNames R (x ∷ xs) y
-  later-names : {x : A} {xs : List A} {y : ℕ} → SomeNames R xs y → SomeNames R (x ∷ xs) y
+  later_names : {x : A} {xs : List A} {y : ℕ} → SomeNames R xs y → SomeNames R (x ∷ xs) y
 
 pub data FormNames : Form → ℕ → Type 0 where
   in_field : {fs : List Field} {y : ℕ} → SomeNames FieldNames fs y → FormNames (struct fs) y
@@ -55,12 +55,12 @@ pub data FieldMatches (ts : Types) : Field → Field → Type 0 where
 -- at least as many, and each that has a partner stands in the relation to it
 pub data AtLeast {A B : Type 0} (R : A → B → Type 0) : List A → List B → Type 0 where
   any_more : {xs : List A} → AtLeast R xs []
-  one-and_more : {x : A} {y : B} {xs : List A} {ys : List B} → R x y → AtLeast R xs ys → AtLeast R (x ∷ xs) (y ∷ ys)
+  one_and_more : {x : A} {y : B} {xs : List A} {ys : List B} → R x y → AtLeast R xs ys → AtLeast R (x ∷ xs) (y ∷ ys)
 
 -- the same count, and each stands in the relation to its partner
 pub data AsMany {A B : Type 0} (R : A → B → Type 0) : List A → List B → Type 0 where
   no_more : AsMany R [] []
-  one-and_as_many : {x : A} {y : B} {xs : List A} {ys : List B} → R x y → AsMany R xs ys → AsMany R (x ∷ xs) (y ∷ ys)
+  one_and_as_many : {x : A} {y : B} {xs : List A} {ys : List B} → R x y → AsMany R xs ys → AsMany R (x ∷ xs) (y ∷ ys)
 
 -- parameters against
 pub data Against (ts : Types) (v w : Val) : Type 0 where

@@ -16,7 +16,7 @@ use Rattle.scope.specs.BodyRules.{one_hierarchy}
 use Rattle.scope.specs.Bodies.{Body, instructions, judge_body}
 use Rattle.scope.proofs.Computes.{computes}
 use Rattle.scope.proofs.Impossible.{contradiction}
-use Rattle.facts_bodies.specs.Premises.{abstract_reached, defined-reached}
+use Rattle.facts_bodies.specs.Premises.{abstract_reached, defined_reached}
 use Rattle.facts_bodies.specs.Apart.{ShareSupertype, OneHierarchy}
 use Rattle.facts_bodies.specs.Typing.{AllowedBody}
 use Rattle.facts_witnesses.specs.Samples.{W, every_kind, every_number, other_number, mixed_numbers, test_gives_no_other, forgotten, remembered, unwanted_descriptor, missing_descriptor, fixed_field, target_above, target_beside, other_hierarchy, label_without_types, values_left, no_default, number_as_reference, unknown_as_number, block_starts_empty, label_absent}
@@ -166,7 +166,7 @@ struct_and_i31_in_one_hierarchy = (shared_exactly_in_one_hierarchy empty_library
 -- where the target matches the source, the source is shared: type 2 is below type 0
 pub matching_share : Share (nullable (defined 0)) (nullable (defined 2))
 unfolding computes
-matching_share = matching_shares (defined-reached (ltb-true 0 (length types) refl)) (heaps (supertype refl))
+matching_share = matching_shares (defined_reached (ltb-true 0 (length types) refl)) (heaps (supertype refl))
 
 -- by the tops: a type and one beside it; a bottom and an exact type
 pub beside_share : Share (non_null (defined 2)) (nullable (defined 3))

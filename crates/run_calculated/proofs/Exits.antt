@@ -10,7 +10,7 @@ use Rattle.run_value.specs.declared.Value
 use Rattle.run_value.specs.declared.Value.{Value as Carrier}
 use Rattle.run_value.specs.Carried.{decoded}
 use Rattle.run_calculated.specs.declared.Calculated
-use Rattle.run_calculated.specs.Calculations.{one-gives, two_give, bits_as, by_one, by_two, TruthIs, OneIs, TwoIs}
+use Rattle.run_calculated.specs.Calculations.{one_gives, two_give, bits_as, by_one, by_two, TruthIs, OneIs, TwoIs}
 
 -- truth
 
@@ -27,7 +27,7 @@ pub ruleset truth_exits = (truth-holds, truth-not)
 module _ (k j : Number) {first : Carrier} where
   pub one_is : (f : ℕ → ℕ) {a : ℕ} {r : Carrier} → bits_as k (decoded first) ≡ some a → decoded r ≡ number j (f a) → OneIs k j f first (Calculated.TheVariants.OfOne r)
   unfolding by_one
-  one_is f e is = record { is = rw e (ap one-gives is) }
+  one_is f e is = record { is = rw e (ap one_gives is) }
 
   pub one_wrong : (f : ℕ → ℕ) → bits_as k (decoded first) ≡ none → OneIs k j f first Calculated.TheVariants.Wrong
   unfolding by_one

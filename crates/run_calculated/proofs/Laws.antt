@@ -13,11 +13,11 @@ use Rattle.scope.specs.Refusals.{trap_other_numeric}
 use Rattle.scope.specs.Numeric.{Numeric, numeric_of}
 use Rattle.scope.specs.Arithmetic.{Deed, of_one, of_two, deed_of}
 use Rattle.scope.specs.Machine.{Value, number, null, object, Machine, Outcome, goes, traps, stuck, with_operands, on_number, calculate, do_numeric}
-use Rattle.run_calculated.specs.Calculations.{Comes, one-gives, two_give, other, wrong, bits_as, by_one, by_two, by_deed, comes_to}
+use Rattle.run_calculated.specs.Calculations.{Comes, one_gives, two_give, other, wrong, bits_as, by_one, by_two, by_deed, comes_to}
 
 -- what the machine does by it, with these operands
 abbrev pub done : Machine → List Value → Comes → Outcome
-done m vs (one-gives r) = goes (with_operands m (r ∷ drop 1 vs))
+done m vs (one_gives r) = goes (with_operands m (r ∷ drop 1 vs))
 done m vs (two_give r) = goes (with_operands m (r ∷ drop 2 vs))
 done m vs other = traps trap_other_numeric
 done m vs wrong = stuck
@@ -46,7 +46,7 @@ deed_is : (m : Machine) (kinds : Numeric) (vs : List Value) (deed : Deed) → ca
 unfolding by_one by_two
 deed_is m kinds [] (of_one f) = refl
 deed_is m kinds (v ∷ vs) (of_one f) =
-    as_number kinds.kind v m (v ∷ vs) (λ a. goes (with_operands m (number kinds.result (f a) ∷ vs))) (λ a. one-gives (number kinds.result (f a))) (λ a. refl)
+    as_number kinds.kind v m (v ∷ vs) (λ a. goes (with_operands m (number kinds.result (f a) ∷ vs))) (λ a. one_gives (number kinds.result (f a))) (λ a. refl)
 deed_is m kinds [] (of_two f) = refl
 deed_is m kinds (w ∷ []) (of_two f) = second_missing kinds.kind w m (w ∷ []) (λ a. two_give (number kinds.result (f a a)))
 deed_is m kinds (w ∷ v ∷ vs) (of_two f) =

@@ -15,7 +15,7 @@ use Rattle.run_calculated.specs.declared.Calculated.{Calculated}
 
 -- a result in place of one operand, or of two; trap 46; an operand is missing or of another kind
 pub data Comes : Type 0 where
-  one-gives : Value → Comes
+  one_gives : Value → Comes
   two_give : Value → Comes
   other : Comes
   wrong : Comes
@@ -28,7 +28,7 @@ bits_as k (object o) = none
 
 -- the operands are of kind k and the result of kind j. The first is the topmost; the definitions' operation has it last.
 unfoldable pub by_one : Number → Number → (ℕ → ℕ) → Value → Comes
-by_one k j f first = given (bits_as k first) wrong (λ a. one-gives (number j (f a)))
+by_one k j f first = given (bits_as k first) wrong (λ a. one_gives (number j (f a)))
 
 unfoldable pub by_two : Number → Number → (ℕ → ℕ → ℕ) → Value → Value → Comes
 by_two k j f first second = given (bits_as k first) wrong (λ b. given (bits_as k second) wrong (λ a. two_give (number j (f a b))))
@@ -42,7 +42,7 @@ comes_to code first second = given (deed_of code) other (λ deed. given (numeric
 
 -- what the code's answer says
 abbrev pub told : Calculated → Comes
-told (Calculated.TheVariants.OfOne v) = one-gives (decoded v)
+told (Calculated.TheVariants.OfOne v) = one_gives (decoded v)
 told (Calculated.TheVariants.OfTwo v) = two_give (decoded v)
 told Calculated.TheVariants.Other = other
 told Calculated.TheVariants.Wrong = wrong

@@ -12,7 +12,7 @@ use Rattle.scope.specs.Bodies.{Frame, of_block, of_loop, State, Next, goes_on, f
 use Rattle.scope.proofs.Telling.{Allows, this, after-and, whatever}
 use Rattle.scope.proofs.Standing.{Accepts, last as judged-last, next as judged-next, judged_accepts, after-none-left, left_of, KeepsFrames, keeps_frames, Enters, enters, Leaves, op_keeps, block_enters, loop_enters, end_leaves, after-end, finished_goes_not-on}
 use Rattle.scope.proofs.Impossible.{impossible}
-use Rattle.run_ends.specs.Matching.{code_at, Balanced, last, closing, opening_block, opening-loop, inside}
+use Rattle.run_ends.specs.Matching.{code_at, Balanced, last, closing, opening_block, opening_loop, inside}
 use Rattle.run_ends.proofs.Codes.{code_here, code-none}
 
 -- what is read
@@ -85,7 +85,7 @@ module _ (c : Context) (st : State) where
   unfolding judge_instr
   next_balanced at (op o) e more = inside (as_many ((op_keeps c st o).tells _ e) more)
   next_balanced at (block rs) e more = opening_block (one_more_lem ((block_enters c st rs).tells _ e) more)
-  next_balanced at (loop rs) e more = opening-loop (one_more_lem ((loop_enters c st rs).tells _ e) more)
+  next_balanced at (loop rs) e more = opening_loop (one_more_lem ((loop_enters c st rs).tells _ e) more)
   next_balanced at end {later} {code} e more = go st.frames refl e
     where
       go : (fs : List Frame) → st.frames ≡ fs → judge_end c st fs ≡ allowed (goes_on later) → Balanced (length fs) ((at, end) ∷ code)

@@ -31,7 +31,7 @@ use Rattle.run_ends.specs.declared.Kind
 use Rattle.run_ends.specs.declared.Noted.{Noted}
 use Rattle.run_ends.specs.declared.Noted
 use Rattle.run_ends.specs.Noting.{kind_of, KindIs, NotedAt, none_there}
-use Rattle.run_ends.specs.Matching.{code_at, Balanced, last, closing, opening_block, opening-loop, inside, Reached, here, further, Opener, is_block, is_loop, Lands, EndsOf, Fillable, Filled}
+use Rattle.run_ends.specs.Matching.{code_at, Balanced, last, closing, opening_block, opening_loop, inside, Reached, here, further, Opener, is_block, is_loop, Lands, EndsOf, Fillable, Filled}
 use Rattle.run_ends.proofs.Codes.{code_here, code_refused, code-none, reached_next, one_next, past_own_end}
 use Rattle.lent_u16.proofs.Stores.{Stored, stored}
 use Rattle.run_ends.proofs.Chain.{Open, none_open, one_open, open_from, open_later, word_small, open_in, Innermost, innermost_open, no-places, past_inside, past_block_lem, past_loop, past_end}
@@ -69,7 +69,7 @@ balanced_block : {n at : ℕ} {code : Code} {rs : List Val} → Balanced n ((at,
 balanced_block (opening_block b) = b
 
 balanced_loop : {n at : ℕ} {code : Code} {rs : List Val} → Balanced n ((at, loop rs) ∷ code) → Balanced (suc n) code
-balanced_loop (opening-loop b) = b
+balanced_loop (opening_loop b) = b
 
 balanced_end : {n at : ℕ} {code : Code} → Balanced (suc n) ((at, end) ∷ code) → Balanced n code
 balanced_end (closing b) = b
@@ -255,7 +255,7 @@ module _ {s ends₀ : List ℕ} {first : ℕ} {ends : List ℕ} {next innermost 
     turn {ends'} {noted} {word} (loop rs) read n e =
         let same : word ≡ next + 1 = noted_one (sym e ∙ n.answer) in
         let one : next + 1 ≡ suc next = omega arith in
-        rw (same, one) (turn_opens read (is_loop read) (λ k. past_loop next k (code_at s onto) rs) balanced_loop opening-loop (stored_open read n.memory))
+        rw (same, one) (turn_opens read (is_loop read) (λ k. past_loop next k (code_at s onto) rs) balanced_loop opening_loop (stored_open read n.memory))
     turn {ends'} {noted} {word} end read n e = go innermost refl n
       where
         go : (w : ℕ) → innermost ≡ w → NotedAt ends ends' w next onto Kind.TheVariants.Closes noted → Going s ends₀ first ends' onto word (left - 1)

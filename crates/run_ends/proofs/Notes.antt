@@ -8,7 +8,7 @@ use lib.ListN.{set}
 use lib.Dec.{leb}
 use denote.Enum.Declared.{tag_of}
 use Rattle.scope.specs.Reading.{Read}
-use Rattle.scope.specs.Instructions.{Op, unreachable, nop, return, drop_value, br, br-if, local_get, local-set, local_tee, i32_const, i64_const, f32_const, f64_const, numeric, ref_null, ref-is-null, ref-eq, ref-as-non-null, struct_new, struct-new-default, struct_get, struct_set, ref_test, ref_cast, br_on_cast, br_on_cast_fail, struct-new-desc, struct-new-default-desc, ref_get_desc, ref_cast_desc_eq, br_on_cast_desc_eq, br_on_cast_desc_eq_fail, Instr, block, loop, end, op}
+use Rattle.scope.specs.Instructions.{Op, unreachable, nop, return, drop_value, br, br_if, local_get, local_set, local_tee, i32_const, i64_const, f32_const, f64_const, numeric, ref_null, ref_is_null, ref_eq, ref_as_non_null, struct_new, struct_new_default, struct_get, struct_set, ref_test, ref_cast, br_on_cast, br_on_cast_fail, struct_new_desc, struct_new_default_desc, ref_get_desc, ref_cast_desc_eq, br_on_cast_desc_eq, br_on_cast_desc_eq_fail, Instr, block, loop, end, op}
 use Rattle.scope.proofs.Impossible.{contradiction, impossible}
 use Rattle.body_immediates.specs.declared.Instruction.{Instruction}
 use Rattle.body_immediates.specs.declared.Instruction
@@ -39,9 +39,9 @@ op_inside nop = refl
 op_inside return = refl
 op_inside drop_value = refl
 op_inside (br l) = refl
-op_inside (br-if l) = refl
+op_inside (br_if l) = refl
 op_inside (local_get x) = refl
-op_inside (local-set x) = refl
+op_inside (local_set x) = refl
 op_inside (local_tee x) = refl
 op_inside (i32_const n) = refl
 op_inside (i64_const n) = refl
@@ -49,19 +49,19 @@ op_inside (f32_const n) = refl
 op_inside (f64_const n) = refl
 op_inside (numeric b) = refl
 op_inside (ref_null h) = refl
-op_inside ref-is-null = refl
-op_inside ref-eq = refl
-op_inside ref-as-non-null = refl
+op_inside ref_is_null = refl
+op_inside ref_eq = refl
+op_inside ref_as_non_null = refl
 op_inside (struct_new x) = refl
-op_inside (struct-new-default x) = refl
+op_inside (struct_new_default x) = refl
 op_inside (struct_get x i) = refl
 op_inside (struct_set x i) = refl
 op_inside (ref_test n h) = refl
 op_inside (ref_cast n h) = refl
 op_inside (br_on_cast k) = refl
 op_inside (br_on_cast_fail k) = refl
-op_inside (struct-new-desc x) = refl
-op_inside (struct-new-default-desc x) = refl
+op_inside (struct_new_desc x) = refl
+op_inside (struct_new_default_desc x) = refl
 op_inside (ref_get_desc x) = refl
 op_inside (ref_cast_desc_eq n h) = refl
 op_inside (br_on_cast_desc_eq k) = refl

@@ -28,7 +28,7 @@ pub data Balanced : ℕ → Code → Type 0 where
   last : {at : ℕ} → Balanced 0 ((at, end) ∷ [])
   closing : {n at : ℕ} {code : Code} → Balanced n code → Balanced (suc n) ((at, end) ∷ code)
   opening_block : {n at : ℕ} {rs : List Val} {code : Code} → Balanced (suc n) code → Balanced n ((at, block rs) ∷ code)
-  opening-loop : {n at : ℕ} {rs : List Val} {code : Code} → Balanced (suc n) code → Balanced n ((at, loop rs) ∷ code)
+  opening_loop : {n at : ℕ} {rs : List Val} {code : Code} → Balanced (suc n) code → Balanced n ((at, loop rs) ∷ code)
   inside : {n at : ℕ} {o : Op} {code : Code} → Balanced n code → Balanced n ((at, op o) ∷ code)
 
 -- the places that are reached from the first by reading

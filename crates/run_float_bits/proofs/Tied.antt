@@ -223,17 +223,17 @@ both-infinite false true u v e h = refl
 both-infinite true false u v e h = sym (lt-ltb 0 (u + v) (omega arith))
 both-infinite true true u v e h = sym (le-ltb v u (le_of_eq e))
 
-first-infinite : (s t : Bool) (u v : ℕ) → v < u → s ≡ less_signed s u t v
-first-infinite false false u v h = sym (le-ltb u v (le_of_lt h))
-first-infinite false true u v h = refl
-first-infinite true false u v h = sym (lt-ltb 0 (u + v) (omega arith))
-first-infinite true true u v h = sym (lt-ltb v u h)
+first_infinite : (s t : Bool) (u v : ℕ) → v < u → s ≡ less_signed s u t v
+first_infinite false false u v h = sym (le-ltb u v (le_of_lt h))
+first_infinite false true u v h = refl
+first_infinite true false u v h = sym (lt-ltb 0 (u + v) (omega arith))
+first_infinite true true u v h = sym (lt-ltb v u h)
 
-second-infinite : (s t : Bool) (u v : ℕ) → u < v → not t ≡ less_signed s u t v
-second-infinite false false u v h = sym (lt-ltb u v h)
-second-infinite false true u v h = refl
-second-infinite true false u v h = sym (lt-ltb 0 (u + v) (omega arith))
-second-infinite true true u v h = sym (le-ltb v u (le_of_lt h))
+second_infinite : (s t : Bool) (u v : ℕ) → u < v → not t ≡ less_signed s u t v
+second_infinite false false u v h = sym (lt-ltb u v h)
+second_infinite false true u v h = refl
+second_infinite true false u v h = sym (lt-ltb 0 (u + v) (omega arith))
+second_infinite true true u v h = sym (le-ltb v u (le_of_lt h))
 
 same_sign_only : (s t : Bool) (u v : ℕ) → u ≡ v → 0 < u → beq s t ≡ same_signed s u t v
 same_sign_only s t u v e h = rw (eq-eqb u v e, ne_eqb u 0 (λ z. omega arith)) (or_false (beq s t))
@@ -264,10 +264,10 @@ module _ (f : Format) (a b : ℕ) where
   less_reads (reads_infinity n i) (reads_infinity k j) =
       rw (n, k) (both-infinite (negative (width_of f) a) (negative (width_of f) b) (A f a b) (B f a b) (top_is (magnitude (width_of f) a) i ∙ sym (top_is (magnitude (width_of f) b) j)) (top_pos (magnitude (width_of f) b) j))
   less_reads (reads_infinity n i) (reads_finite {t = t} {n = o} {e = q} k j g x) =
-      rw (n, k) (first-infinite (negative (width_of f) a) (negative (width_of f) b) (A f a b) (B f a b) (above (magnitude (width_of f) a) (magnitude (width_of f) b) i k j))
+      rw (n, k) (first_infinite (negative (width_of f) a) (negative (width_of f) b) (A f a b) (B f a b) (above (magnitude (width_of f) a) (magnitude (width_of f) b) i k j))
   less_reads (reads_finite n i e v) (reads_nan k) = rw (n, k)
   less_reads (reads_finite {t = s} {n = m} {e = p} n i e v) (reads_infinity k j) =
-      rw (n, k) (second-infinite (negative (width_of f) a) (negative (width_of f) b) (A f a b) (B f a b) (above (magnitude (width_of f) b) (magnitude (width_of f) a) j n i))
+      rw (n, k) (second_infinite (negative (width_of f) a) (negative (width_of f) b) (A f a b) (B f a b) (above (magnitude (width_of f) b) (magnitude (width_of f) a) j n i))
   less_reads (reads_finite {t = s} {n = m} {e = p} n i e v) (reads_finite {t = t} {n = o} {e = q} k j g x) =
       rw (n, k, ← e, ← g)
       (scaled_below s t (m * up p * down q) (o * up q * down p) (A f a b) (B f a b) (down p * down q) (2 ^ low f) (mul-pos (down_pos p) (down_pos q)) (pow_pos (low f))

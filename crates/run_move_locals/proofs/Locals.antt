@@ -6,7 +6,7 @@ use mathlib.Core.List.{List, ◌∷◌}
 use native.Mathlib.Omega.{arith}
 use lib.ListN.{length, get_elem?, set, drop}
 use Rattle.scope.specs.Reading.{given}
-use Rattle.scope.specs.Instructions.{local_get, local-set, local_tee}
+use Rattle.scope.specs.Instructions.{local_get, local_set, local_tee}
 use Rattle.scope.specs.Machine.{Value, Machine, Outcome, goes, stuck, with_operands, with_locals, on_set, do_op}
 use Rattle.run_values.specs.Values.{held_from}
 use Rattle.run_value.specs.declared.Value.{Value as Carrier}
@@ -56,7 +56,7 @@ local_inside : (locals : List ℕ) {count x : ℕ} (m : Machine) → m.locals �
 local_inside locals {count} m same h = rw (same, locals-length locals count) h
 
 module _ {locals : List ℕ} {count : ℕ} {first : Topmost} (x : ℕ) where
-  pub set_nothing : first ≡ Topmost.TheVariants.Nothing → LocalPlans locals count first (local-set x) Move.TheVariants.Astray
+  pub set_nothing : first ≡ Topmost.TheVariants.Nothing → LocalPlans locals count first (local_set x) Move.TheVariants.Astray
   unfolding do_op
   set_nothing e = record { is = λ p codes m same top. strays (on_none m.operands (no_top top e) _) }
 
@@ -65,7 +65,7 @@ module _ {locals : List ℕ} {count : ℕ} {first : Topmost} (x : ℕ) where
   tee_nothing e = record { is = λ p codes m same top. strays (on_none m.operands (no_top top e) _) }
 
   module _ {v : Carrier} (e : first ≡ Topmost.TheVariants.Is v) where
-    pub set-absent : count ≤ x → LocalPlans locals count first (local-set x) Move.TheVariants.Astray
+    pub set-absent : count ≤ x → LocalPlans locals count first (local_set x) Move.TheVariants.Astray
     unfolding do_op
     set-absent h =
         record { is = λ p codes m same top. strays (on_top_lem m.operands (value_top top e) _ ∙ set_past locals m same (decoded v) (λ after. goes (with_operands after (drop 1 m.operands))) h) }
@@ -75,7 +75,7 @@ module _ {locals : List ℕ} {count : ℕ} {first : Topmost} (x : ℕ) where
     tee_absent h =
         record { is = λ p codes m same top. strays (on_top_lem m.operands (value_top top e) _ ∙ set_past locals m same (decoded v) goes h) }
 
-    pub set_local : x < count → LocalPlans locals count first (local-set x) (Move.TheVariants.SetsLocal 1 x v)
+    pub set_local : x < count → LocalPlans locals count first (local_set x) (Move.TheVariants.SetsLocal 1 x v)
     unfolding do_op
     set_local h =
         record {

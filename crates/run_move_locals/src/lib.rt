@@ -1,7 +1,7 @@
 // The moves of the instructions that read or put a local.
 #![tactic(auto)]
 
-ghost use Rattle.scope.specs.Instructions.{local_get, local-set, local_tee};
+ghost use Rattle.scope.specs.Instructions.{local_get, local_set, local_tee};
 ghost use Rattle.run_state.specs.Planned.{HeldPlans, LocalPlans};
 
 use run_stack::{HeldLocal, Topmost};
@@ -21,7 +21,7 @@ pub fn get_move(locals: &[u64], count: u16, x: u64) -> Move
 
 // local.set
 pub fn set_move(locals: &[u64], count: u16, first: Topmost, x: u64) -> Move
-    ensures { LocalPlans locals.now count first (local-set x) result }
+    ensures { LocalPlans locals.now count first (local_set x) result }
 {
     match first {
         Topmost::Nothing => Move::Astray,

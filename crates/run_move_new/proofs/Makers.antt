@@ -13,7 +13,7 @@ use Rattle.scope.specs.Refusals.{trap_null_descriptor, trap_no_room}
 use Rattle.scope.specs.Sizes.{most_objects}
 use Rattle.scope.specs.Syntax.{Field}
 use Rattle.scope.specs.BodyRules.{fields_of, holds_of}
-use Rattle.scope.specs.Instructions.{Op, struct_new, struct-new-default, struct-new-desc, struct-new-default-desc}
+use Rattle.scope.specs.Instructions.{Op, struct_new, struct_new_default, struct_new_desc, struct_new_default_desc}
 use Rattle.scope.specs.Machine.{Value, Store, Machine, Program, traps, goes, stuck, has_room, make, make_given, make_default, do_op}
 use Rattle.lent_u16.specs.Words.{word_limit}
 use Rattle.type_table.specs.View.{view, link_at, field_at_code, codes_at}
@@ -185,7 +185,7 @@ module _ {rows codes : List ℕ} {n total height : ℕ} {first : Topmost} {x : �
   new_plan a =
       record { is = λ p m objects cells types long knows. a.is p m objects cells types long (omega arith) knows.heap knows.kept }
 
-  pub new_default_plan : MakesDefaults rows codes n total 0 x 0 r → MakePlans rows codes n total height first (struct-new-default x) r
+  pub new_default_plan : MakesDefaults rows codes n total 0 x 0 r → MakePlans rows codes n total height first (struct_new_default x) r
   unfolding do_op
   new_default_plan a =
       record { is = λ p m objects cells types long knows. a.is p m objects cells types (omega arith) knows.heap knows.kept }
@@ -197,20 +197,20 @@ link_is_lem : {d n : ℕ} → d < n → n ≤ most_objects → link_at ((d + 1) 
 link_is_lem {d} h few = let small : (d + 1) % word_limit ≡ d + 1 = mod-eq_of_lt (omega arith) in ap link_at small ∙ link_more d
 
 module _ {rows codes : List ℕ} {n total height : ℕ} {first : Topmost} (x : ℕ) {to : Reference} (is : to ≡ reference_at first) where
-  pub new_desc_wrong : to ≡ Reference.TheVariants.Wrong → MakePlans rows codes n total height first (struct-new-desc x) Move.TheVariants.Astray
+  pub new_desc_wrong : to ≡ Reference.TheVariants.Wrong → MakePlans rows codes n total height first (struct_new_desc x) Move.TheVariants.Astray
   unfolding do_op
   new_desc_wrong e = record { is = λ p m objects cells types long knows. strays (wrong_top knows.top is e _) }
 
-  pub new_default_desc_wrong : to ≡ Reference.TheVariants.Wrong → MakePlans rows codes n total height first (struct-new-default-desc x) Move.TheVariants.Astray
+  pub new_default_desc_wrong : to ≡ Reference.TheVariants.Wrong → MakePlans rows codes n total height first (struct_new_default_desc x) Move.TheVariants.Astray
   unfolding do_op
   new_default_desc_wrong e = record { is = λ p m objects cells types long knows. strays (wrong_top knows.top is e _) }
 
-  pub new_desc_null : to ≡ Reference.TheVariants.Null → MakePlans rows codes n total height first (struct-new-desc x) (Move.TheVariants.Traps trap_null_descriptor)
+  pub new_desc_null : to ≡ Reference.TheVariants.Null → MakePlans rows codes n total height first (struct_new_desc x) (Move.TheVariants.Traps trap_null_descriptor)
   unfolding do_op
   new_desc_null e =
       record { is = λ p m objects cells types long knows. trapping (on_top_lem m.operands (null_top knows.top is e) _) }
 
-  pub new_default_desc_null : to ≡ Reference.TheVariants.Null → MakePlans rows codes n total height first (struct-new-default-desc x) (Move.TheVariants.Traps trap_null_descriptor)
+  pub new_default_desc_null : to ≡ Reference.TheVariants.Null → MakePlans rows codes n total height first (struct_new_default_desc x) (Move.TheVariants.Traps trap_null_descriptor)
   unfolding do_op
   new_default_desc_null e =
       record { is = λ p m objects cells types long knows. trapping (on_top_lem m.operands (null_top knows.top is e) _) }
@@ -226,7 +226,7 @@ module _ {rows codes : List ℕ} {n total height : ℕ} {first : Topmost} (x : �
         }
 
     module _ (h : d < n) {r : Move} where
-      pub new_desc_plan : MakesGiven rows codes n total height 1 x ((d + 1) % word_limit) r → MakePlans rows codes n total height first (struct-new-desc x) r
+      pub new_desc_plan : MakesGiven rows codes n total height 1 x ((d + 1) % word_limit) r → MakePlans rows codes n total height first (struct_new_desc x) r
       unfolding do_op
       new_desc_plan a =
           record {
@@ -239,7 +239,7 @@ module _ {rows codes : List ℕ} {n total height : ℕ} {first : Topmost} (x : �
                 (a.is p m objects cells types long (omega arith) knows.heap knows.kept);
           }
 
-      pub new_default_desc_plan : MakesDefaults rows codes n total 1 x ((d + 1) % word_limit) r → MakePlans rows codes n total height first (struct-new-default-desc x) r
+      pub new_default_desc_plan : MakesDefaults rows codes n total 1 x ((d + 1) % word_limit) r → MakePlans rows codes n total height first (struct_new_default_desc x) r
       unfolding do_op
       new_default_desc_plan a =
           record {

@@ -2,7 +2,7 @@
 #![tactic(auto)]
 
 ghost use Rattle.std.specs.Prelude.{◌<◌};
-ghost use Rattle.scope.specs.Instructions.{struct_new, struct-new-default, struct-new-desc, struct-new-default-desc};
+ghost use Rattle.scope.specs.Instructions.{struct_new, struct_new_default, struct_new_desc, struct_new_default_desc};
 ghost use Rattle.lent_u16.specs.Words.{word_limit};
 ghost use Rattle.run_state.specs.Planned.{MakePlans};
 ghost use Rattle.run_move_new.specs.Makes.{MakesGiven, MakesDefaults};
@@ -104,7 +104,7 @@ pub fn new_default_move(
     x: u64,
 ) -> Move
     requires { x < word_limit }
-    ensures { MakePlans rows.now (both_codes shared.now codes.now) n total height first (struct-new-default x) result }
+    ensures { MakePlans rows.now (both_codes shared.now codes.now) n total height first (struct_new_default x) result }
 {
     default_move(rows, shared, codes, n, total, 0, x, 0)
 }
@@ -121,7 +121,7 @@ pub fn new_desc_move(
     x: u64,
 ) -> Move
     requires { x < word_limit }
-    ensures { MakePlans rows.now (both_codes shared.now codes.now) n total height first (struct-new-desc x) result }
+    ensures { MakePlans rows.now (both_codes shared.now codes.now) n total height first (struct_new_desc x) result }
 {
     let reference = run_state::reference_of(first);
     match reference {
@@ -158,7 +158,7 @@ pub fn new_default_desc_move(
     x: u64,
 ) -> Move
     requires { x < word_limit }
-    ensures { MakePlans rows.now (both_codes shared.now codes.now) n total height first (struct-new-default-desc x) result }
+    ensures { MakePlans rows.now (both_codes shared.now codes.now) n total height first (struct_new_default_desc x) result }
 {
     let reference = run_state::reference_of(first);
     match reference {

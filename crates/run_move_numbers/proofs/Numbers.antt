@@ -16,7 +16,7 @@ use Rattle.run_value.specs.declared.Value.{Value as Carrier}
 use Rattle.run_value.specs.Carried.{decoded}
 use Rattle.run_calculated.specs.declared.Calculated
 use Rattle.run_calculated.specs.declared.Calculated.{Calculated}
-use Rattle.run_calculated.specs.Calculations.{Comes, one-gives, two_give, other, wrong, bits_as, by_one, by_two, by_deed, comes_to, told, CalculatedIs}
+use Rattle.run_calculated.specs.Calculations.{Comes, one_gives, two_give, other, wrong, bits_as, by_one, by_two, by_deed, comes_to, told, CalculatedIs}
 use Rattle.run_calculated.proofs.Laws.{done, numeric_is}
 use Rattle.run_stack.specs.declared.Topmost.{Topmost}
 use Rattle.run_stack.specs.Pile.{head_of}
@@ -50,7 +50,7 @@ no-two : (k : Numeric) (deed : Deed) (v : Value) {r : Value} → two_give r ≡ 
 unfolding by_one by_two
 no-two k (of_one f) v {r} e = go (bits_as k.kind v) e
   where
-    go : (b : Option ℕ) → two_give r ≡ given b wrong (λ a. one-gives (number k.result (f a))) → ⊥
+    go : (b : Option ℕ) → two_give r ≡ given b wrong (λ a. one_gives (number k.result (f a))) → ⊥
     go none e = contradiction cc
     go (some a) e = contradiction cc
 no-two k (of_two f) v {r} e = go (bits_as k.kind v) e
@@ -71,7 +71,7 @@ by_a_deed code first second {want} e others wrongs deeds = go (deed_of code) (nu
     go (some d) none e = wrongs e
     go (some d) (some k) e = deeds k d e
 
-one-low : (vs : List Value) (code : ℕ) {r : Value} → one-gives r ≡ comes_to code (get_or vs 0 null) (get_or vs 1 null) → 1 ≤ length vs
+one-low : (vs : List Value) (code : ℕ) {r : Value} → one_gives r ≡ comes_to code (get_or vs 0 null) (get_or vs 1 null) → 1 ≤ length vs
 one-low [] code e =
     absurd (by_a_deed code null null e (λ q. contradiction cc) (λ q. contradiction cc) (λ k d q. let none_of = q ∙ no_result k d in contradiction cc))
 one-low (v ∷ vs) code e = omega arith

@@ -6,7 +6,7 @@ use mathlib.Core.List.{List, [], ◌∷◌}
 use native.Mathlib.Nat.{mod-eq_of_lt}
 use borrow.Author.Tests.{eq-eqb, ne_eqb}
 use Rattle.scope.specs.Syntax.{i32}
-use Rattle.scope.specs.Instructions.{drop_value, br-if}
+use Rattle.scope.specs.Instructions.{drop_value, br_if}
 use Rattle.scope.specs.Machine.{number, Outcome, stuck, on_i32, do_op}
 use Rattle.run_value.specs.declared.Value
 use Rattle.run_value.specs.declared.Value.{Value as Carrier}
@@ -46,18 +46,18 @@ no_i32 Value.TheVariants.Null h f = refl
 no_i32 (Value.TheVariants.Object o) h f = refl
 
 module _ {first : Topmost} (label : ℕ) where
-  pub branch_nothing : first ≡ Topmost.TheVariants.Nothing → TopPlans first (br-if label) Move.TheVariants.Astray
+  pub branch_nothing : first ≡ Topmost.TheVariants.Nothing → TopPlans first (br_if label) Move.TheVariants.Astray
   unfolding do_op
   branch_nothing e = record { is = λ p codes m top. strays (on_none m.operands (no_top top e) _) }
 
   module _ {v : Carrier} (e : first ≡ Topmost.TheVariants.Is v) where
-    pub branch_other : ((n : ℕ) → v ≡ Value.TheVariants.I32 n → ⊥) → TopPlans first (br-if label) Move.TheVariants.Astray
+    pub branch_other : ((n : ℕ) → v ≡ Value.TheVariants.I32 n → ⊥) → TopPlans first (br_if label) Move.TheVariants.Astray
     unfolding do_op
     branch_other h =
         record { is = λ p codes m top. strays (on_top_lem m.operands (value_top top e) _ ∙ no_i32 v h _) }
 
     module _ {n : ℕ} (i : v ≡ Value.TheVariants.I32 n) (small : n < 2 ^ 32) where
-      pub branch-zero : n ≡ 0 → TopPlans first (br-if label) (Move.TheVariants.Leaves 1)
+      pub branch-zero : n ≡ 0 → TopPlans first (br_if label) (Move.TheVariants.Leaves 1)
       unfolding do_op
       branch-zero z =
           record {
@@ -66,7 +66,7 @@ module _ {first : Topmost} (label : ℕ) where
                 leaving 1 (on_top_lem m.operands head _ ∙ rw (eq-eqb n 0 z)) (top_low m.operands head);
           }
 
-      pub branch_more : (n ≡ 0 → ⊥) → TopPlans first (br-if label) (Move.TheVariants.Branches 1 label)
+      pub branch_more : (n ≡ 0 → ⊥) → TopPlans first (br_if label) (Move.TheVariants.Branches 1 label)
       unfolding do_op
       branch_more z =
           record {

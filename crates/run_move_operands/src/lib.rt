@@ -1,7 +1,7 @@
 // The operand under the topmost, and the moves of the instructions that only take the topmost: drop and br_if.
 #![tactic(auto)]
 
-ghost use Rattle.scope.specs.Instructions.{drop_value, br-if};
+ghost use Rattle.scope.specs.Instructions.{drop_value, br_if};
 ghost use Rattle.run_state.specs.Planned.{TopPlans};
 ghost use Rattle.run_move_operands.specs.Seconds.{SecondIs};
 
@@ -31,7 +31,7 @@ pub fn drop_move(first: Topmost) -> Move
 
 // br_if
 pub fn branch_move(first: Topmost, label: u64) -> Move
-    ensures { TopPlans first (br-if label) result }
+    ensures { TopPlans first (br_if label) result }
 {
     match first {
         Topmost::Nothing => Move::Astray,

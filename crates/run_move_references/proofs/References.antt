@@ -10,7 +10,7 @@ use lib.Seq.{drop-drop}
 use borrow.Author.Tests.{eq-eqb, ne_eqb}
 use Rattle.scope.specs.Refusals.{trap_null}
 use Rattle.scope.specs.Syntax.{i32}
-use Rattle.scope.specs.Instructions.{ref-is-null, ref-eq, ref-as-non-null}
+use Rattle.scope.specs.Instructions.{ref_is_null, ref_eq, ref_as_non_null}
 use Rattle.scope.specs.Machine.{Value, number, null, object, Machine, Program, Outcome, goes, on_taken, on_reference, truth, same_reference, with_operands, do_op}
 use Rattle.run_value.specs.declared.Value
 use Rattle.run_stack.specs.declared.Topmost.{Topmost}
@@ -26,11 +26,11 @@ use Rattle.run_state.proofs.Moving.{strays, trapping, giving_i32, giving_object}
 -- ref.is_null and ref.as_non_null
 
 module _ {first : Topmost} {r : Reference} (is : r ≡ reference_at first) where
-  pub is_null_wrong : r ≡ Reference.TheVariants.Wrong → TopPlans first ref-is-null Move.TheVariants.Astray
+  pub is_null_wrong : r ≡ Reference.TheVariants.Wrong → TopPlans first ref_is_null Move.TheVariants.Astray
   unfolding do_op
   is_null_wrong e = record { is = λ p codes m top. strays (wrong_top top is e _) }
 
-  pub is_null_null : r ≡ Reference.TheVariants.Null → TopPlans first ref-is-null (Move.TheVariants.Gives 1 (Value.TheVariants.I32 1))
+  pub is_null_null : r ≡ Reference.TheVariants.Null → TopPlans first ref_is_null (Move.TheVariants.Gives 1 (Value.TheVariants.I32 1))
   unfolding do_op
   is_null_null e =
       record {
@@ -38,7 +38,7 @@ module _ {first : Topmost} {r : Reference} (is : r ≡ reference_at first) where
             let head = null_top top is e in giving_i32 1 1 (omega arith) (on_top_lem m.operands head _) (top_low m.operands head);
       }
 
-  pub is_null_object : {o : ℕ} → r ≡ Reference.TheVariants.To o → TopPlans first ref-is-null (Move.TheVariants.Gives 1 (Value.TheVariants.I32 0))
+  pub is_null_object : {o : ℕ} → r ≡ Reference.TheVariants.To o → TopPlans first ref_is_null (Move.TheVariants.Gives 1 (Value.TheVariants.I32 0))
   unfolding do_op
   is_null_object e =
       record {
@@ -46,15 +46,15 @@ module _ {first : Topmost} {r : Reference} (is : r ≡ reference_at first) where
             let head = object_top top is e in giving_i32 1 0 (omega arith) (on_top_lem m.operands head _) (top_low m.operands head);
       }
 
-  pub as_non_null_wrong : r ≡ Reference.TheVariants.Wrong → TopPlans first ref-as-non-null Move.TheVariants.Astray
+  pub as_non_null_wrong : r ≡ Reference.TheVariants.Wrong → TopPlans first ref_as_non_null Move.TheVariants.Astray
   unfolding do_op
   as_non_null_wrong e = record { is = λ p codes m top. strays (wrong_top top is e _) }
 
-  pub as_non_null_null : r ≡ Reference.TheVariants.Null → TopPlans first ref-as-non-null (Move.TheVariants.Traps trap_null)
+  pub as_non_null_null : r ≡ Reference.TheVariants.Null → TopPlans first ref_as_non_null (Move.TheVariants.Traps trap_null)
   unfolding do_op
   as_non_null_null e = record { is = λ p codes m top. trapping (on_top_lem m.operands (null_top top is e) _) }
 
-  pub as_non_null_object : {o : ℕ} → r ≡ Reference.TheVariants.To o → TopPlans first ref-as-non-null (Move.TheVariants.Gives 1 (Value.TheVariants.Object o))
+  pub as_non_null_object : {o : ℕ} → r ≡ Reference.TheVariants.To o → TopPlans first ref_as_non_null (Move.TheVariants.Gives 1 (Value.TheVariants.Object o))
   unfolding do_op
   as_non_null_object {o} e =
       record {
@@ -74,18 +74,18 @@ on-refer none f = refl
 on-refer (some o) f = refl
 
 module _ (p : Program) (codes : List ℕ) (m : Machine) (x : Option ℕ) (top : head_of m.operands ≡ some (refer x)) where
-  eq_next : do_op p m m.operands ref-eq ≡ on_taken (drop 1 m.operands) (λ w below. on_reference w (λ q. goes (with_operands m (truth (same_reference x q) ∷ below))))
+  eq_next : do_op p m m.operands ref_eq ≡ on_taken (drop 1 m.operands) (λ w below. on_reference w (λ q. goes (with_operands m (truth (same_reference x q) ∷ below))))
   unfolding do_op
   eq_next = looked_first m.operands _ ∙ on_top_lem m.operands top _ ∙ on-refer x _
 
   eq_missing :
       {second : Topmost} {other : Reference} → Seen (drop 1 m.operands) second → other ≡ reference_at second → other ≡ Reference.TheVariants.Wrong
-      → MoveIs p codes m (do_op p m m.operands ref-eq) Move.TheVariants.Astray
+      → MoveIs p codes m (do_op p m m.operands ref_eq) Move.TheVariants.Astray
   eq_missing next is e = strays (eq_next ∙ wrong_top next is e _)
 
   eq-told :
       (y : Option ℕ) {b : ℕ} → head_of (drop 1 m.operands) ≡ some (refer y) → cond (same_reference x y) 1 0 ≡ b → b < 2 ^ 32
-      → MoveIs p codes m (do_op p m m.operands ref-eq) (Move.TheVariants.Gives 2 (Value.TheVariants.I32 b))
+      → MoveIs p codes m (do_op p m m.operands ref_eq) (Move.TheVariants.Gives 2 (Value.TheVariants.I32 b))
   eq-told y {b} next e small =
       giving_i32 2 b small
       (eq_next
@@ -95,33 +95,33 @@ module _ (p : Program) (codes : List ℕ) (m : Machine) (x : Option ℕ) (top : 
       (two-low m.operands top next)
 
 module _ {first second : Topmost} {one other : Reference} (a : one ≡ reference_at first) (b : other ≡ reference_at second) where
-  pub eq_wrong : one ≡ Reference.TheVariants.Wrong → PairPlans first second ref-eq Move.TheVariants.Astray
+  pub eq_wrong : one ≡ Reference.TheVariants.Wrong → PairPlans first second ref_eq Move.TheVariants.Astray
   unfolding do_op
   eq_wrong e = record { is = λ p codes m top next. strays (looked_first m.operands _ ∙ wrong_top top a e _) }
 
   module _ (e : one ≡ Reference.TheVariants.Null) where
-    pub eq_null_wrong : other ≡ Reference.TheVariants.Wrong → PairPlans first second ref-eq Move.TheVariants.Astray
+    pub eq_null_wrong : other ≡ Reference.TheVariants.Wrong → PairPlans first second ref_eq Move.TheVariants.Astray
     eq_null_wrong f = record { is = λ p codes m top next. eq_missing p codes m none (null_top top a e) next b f }
 
-    pub eq_null_null : other ≡ Reference.TheVariants.Null → PairPlans first second ref-eq (Move.TheVariants.Gives 2 (Value.TheVariants.I32 1))
+    pub eq_null_null : other ≡ Reference.TheVariants.Null → PairPlans first second ref_eq (Move.TheVariants.Gives 2 (Value.TheVariants.I32 1))
     eq_null_null f = record { is = λ p codes m top next. eq-told p codes m none (null_top top a e) none (null_top next b f) refl (omega arith) }
 
-    pub eq_null_object : {q : ℕ} → other ≡ Reference.TheVariants.To q → PairPlans first second ref-eq (Move.TheVariants.Gives 2 (Value.TheVariants.I32 0))
+    pub eq_null_object : {q : ℕ} → other ≡ Reference.TheVariants.To q → PairPlans first second ref_eq (Move.TheVariants.Gives 2 (Value.TheVariants.I32 0))
     eq_null_object {q} f = record { is = λ p codes m top next. eq-told p codes m none (null_top top a e) (some q) (object_top next b f) refl (omega arith) }
 
   module _ {o : ℕ} (e : one ≡ Reference.TheVariants.To o) where
-    pub eq_object_wrong : other ≡ Reference.TheVariants.Wrong → PairPlans first second ref-eq Move.TheVariants.Astray
+    pub eq_object_wrong : other ≡ Reference.TheVariants.Wrong → PairPlans first second ref_eq Move.TheVariants.Astray
     eq_object_wrong f = record { is = λ p codes m top next. eq_missing p codes m (some o) (object_top top a e) next b f }
 
-    pub eq_object_null : other ≡ Reference.TheVariants.Null → PairPlans first second ref-eq (Move.TheVariants.Gives 2 (Value.TheVariants.I32 0))
+    pub eq_object_null : other ≡ Reference.TheVariants.Null → PairPlans first second ref_eq (Move.TheVariants.Gives 2 (Value.TheVariants.I32 0))
     eq_object_null f = record { is = λ p codes m top next. eq-told p codes m (some o) (object_top top a e) none (null_top next b f) refl (omega arith) }
 
     module _ {q : ℕ} (f : other ≡ Reference.TheVariants.To q) where
-      pub eq_same : o ≡ q → PairPlans first second ref-eq (Move.TheVariants.Gives 2 (Value.TheVariants.I32 1))
+      pub eq_same : o ≡ q → PairPlans first second ref_eq (Move.TheVariants.Gives 2 (Value.TheVariants.I32 1))
       eq_same h =
           record { is = λ p codes m top next. eq-told p codes m (some o) (object_top top a e) (some q) (object_top next b f) (rw (eq-eqb o q h)) (omega arith) }
 
-      pub eq_other : (o ≡ q → ⊥) → PairPlans first second ref-eq (Move.TheVariants.Gives 2 (Value.TheVariants.I32 0))
+      pub eq_other : (o ≡ q → ⊥) → PairPlans first second ref_eq (Move.TheVariants.Gives 2 (Value.TheVariants.I32 0))
       eq_other h =
           record { is = λ p codes m top next. eq-told p codes m (some o) (object_top top a e) (some q) (object_top next b f) (rw (ne_eqb o q h)) (omega arith) }
 

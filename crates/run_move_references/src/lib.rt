@@ -1,7 +1,7 @@
 // The moves of the instructions that look only at references among the operands: whether one is null, whether two are the same.
 #![tactic(auto)]
 
-ghost use Rattle.scope.specs.Instructions.{ref-is-null, ref-eq, ref-as-non-null};
+ghost use Rattle.scope.specs.Instructions.{ref_is_null, ref_eq, ref_as_non_null};
 ghost use Rattle.run_state.specs.Planned.{TopPlans, PairPlans};
 
 use run_stack::Topmost;
@@ -11,7 +11,7 @@ use scope::traps;
 
 // ref.is_null
 pub fn is_null_move(first: Topmost) -> Move
-    ensures { TopPlans first ref-is-null result }
+    ensures { TopPlans first ref_is_null result }
 {
     let reference = run_state::reference_of(first);
     match reference {
@@ -23,7 +23,7 @@ pub fn is_null_move(first: Topmost) -> Move
 
 // ref.eq: null is the same as null, an object as itself.
 pub fn eq_move(first: Topmost, second: Topmost) -> Move
-    ensures { PairPlans first second ref-eq result }
+    ensures { PairPlans first second ref_eq result }
 {
     let one = run_state::reference_of(first);
     let other = run_state::reference_of(second);
@@ -49,7 +49,7 @@ pub fn eq_move(first: Topmost, second: Topmost) -> Move
 
 // ref.as_non_null
 pub fn as_non_null_move(first: Topmost) -> Move
-    ensures { TopPlans first ref-as-non-null result }
+    ensures { TopPlans first ref_as_non_null result }
 {
     let reference = run_state::reference_of(first);
     match reference {

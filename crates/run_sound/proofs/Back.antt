@@ -11,7 +11,7 @@ use Rattle.scope.specs.Reading.{got}
 use Rattle.scope.specs.Lists.{joined}
 use Rattle.scope.specs.Syntax.{Val}
 use Rattle.scope.specs.TypeRules.{val_names}
-use Rattle.scope.specs.Instructions.{Op, unreachable, nop, return, drop_value, br, br-if, local_get, local-set, local_tee, i32_const, i64_const, f32_const, f64_const, numeric, ref_null, ref-is-null, ref-eq, ref-as-non-null, struct_new, struct-new-default, struct_get, struct_set, ref_test, ref_cast, br_on_cast, br_on_cast_fail, struct-new-desc, struct-new-default-desc, ref_get_desc, ref_cast_desc_eq, br_on_cast_desc_eq, br_on_cast_desc_eq_fail, Instr, block, loop, op, instr_at}
+use Rattle.scope.specs.Instructions.{Op, unreachable, nop, return, drop_value, br, br_if, local_get, local_set, local_tee, i32_const, i64_const, f32_const, f64_const, numeric, ref_null, ref_is_null, ref_eq, ref_as_non_null, struct_new, struct_new_default, struct_get, struct_set, ref_test, ref_cast, br_on_cast, br_on_cast_fail, struct_new_desc, struct_new_default_desc, ref_get_desc, ref_cast_desc_eq, br_on_cast_desc_eq, br_on_cast_desc_eq_fail, Instr, block, loop, op, instr_at}
 use Rattle.scope.specs.BodyRules.{Context, Scope, Ruled, reached, plan_of}
 use Rattle.scope.specs.Bodies.{State, scope_of, Code, Body, judge_instr}
 use Rattle.scope.specs.Machine.{Machine}
@@ -46,9 +46,9 @@ module _ (c : Context) (few : c.count ≤ most_types) where
   op_back here return = anyhow refl
   op_back here drop_value = anyhow refl
   op_back here (br l) = anyhow refl
-  op_back here (br-if l) = anyhow refl
+  op_back here (br_if l) = anyhow refl
   op_back here (local_get x) = anyhow refl
-  op_back here (local-set x) = anyhow refl
+  op_back here (local_set x) = anyhow refl
   op_back here (local_tee x) = anyhow refl
   op_back here (i32_const n) = anyhow refl
   op_back here (i64_const n) = anyhow refl
@@ -56,19 +56,19 @@ module _ (c : Context) (few : c.count ≤ most_types) where
   op_back here (f64_const n) = anyhow refl
   op_back here (numeric b) = anyhow refl
   op_back here (ref_null h) = in_reach (heap_read bound) (λ k. op (ref_null k)) h _
-  op_back here ref-is-null = anyhow refl
-  op_back here ref-eq = anyhow refl
-  op_back here ref-as-non-null = anyhow refl
+  op_back here ref_is_null = anyhow refl
+  op_back here ref_eq = anyhow refl
+  op_back here ref_as_non_null = anyhow refl
   op_back here (struct_new x) = in_reach (number_keeps bound) (λ y. op (struct_new y)) x _
-  op_back here (struct-new-default x) = in_reach (number_keeps bound) (λ y. op (struct-new-default y)) x _
+  op_back here (struct_new_default x) = in_reach (number_keeps bound) (λ y. op (struct_new_default y)) x _
   op_back here (struct_get x i) = in_reach (number_keeps bound) (λ y. op (struct_get y i)) x _
   op_back here (struct_set x i) = in_reach (number_keeps bound) (λ y. op (struct_set y i)) x _
   op_back here (ref_test n h) = in_reach (heap_read bound) (λ k. op (ref_test n k)) h _
   op_back here (ref_cast n h) = in_reach (heap_read bound) (λ k. op (ref_cast n k)) h _
   op_back here (br_on_cast k) = in_reach (cast_read bound) (λ j. op (br_on_cast j)) k _
   op_back here (br_on_cast_fail k) = in_reach (cast_read bound) (λ j. op (br_on_cast_fail j)) k _
-  op_back here (struct-new-desc x) = in_reach (number_keeps bound) (λ y. op (struct-new-desc y)) x _
-  op_back here (struct-new-default-desc x) = in_reach (number_keeps bound) (λ y. op (struct-new-default-desc y)) x _
+  op_back here (struct_new_desc x) = in_reach (number_keeps bound) (λ y. op (struct_new_desc y)) x _
+  op_back here (struct_new_default_desc x) = in_reach (number_keeps bound) (λ y. op (struct_new_default_desc y)) x _
   op_back here (ref_get_desc x) = in_reach (number_keeps bound) (λ y. op (ref_get_desc y)) x _
   op_back here (ref_cast_desc_eq n h) = in_reach (heap_read bound) (λ k. op (ref_cast_desc_eq n k)) h _
   op_back here (br_on_cast_desc_eq k) = in_reach (cast_read bound) (λ j. op (br_on_cast_desc_eq j)) k _

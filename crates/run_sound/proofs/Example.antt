@@ -8,7 +8,7 @@ use lib.ListN.{length, drop}
 use Rattle.scope.specs.Sizes.{most_types}
 use Rattle.scope.specs.Sections.{empty_library}
 use Rattle.scope.specs.Judging.{Judged, accepted, rejected}
-use Rattle.scope.specs.Instructions.{op, struct-new-default}
+use Rattle.scope.specs.Instructions.{op, struct_new_default}
 use Rattle.scope.specs.Bodies.{Body, judge_body}
 use Rattle.scope.specs.Machine.{open_loop, Machine, with_control, step}
 use Rattle.scope.specs.Running.{start_of, program_of}
@@ -57,6 +57,6 @@ maker-fits reaches = maker_sound.bounds reaches
 pub maker_goes : Astray looping (step (program_of maker) looping) → ⊥
 maker_goes astray = maker_sound.never maker_loops astray
 
-pub maker_reads : instr_of (instruction_of (op (struct-new-default 2))) ≡ op (struct-new-default 2)
+pub maker_reads : instr_of (instruction_of (op (struct_new_default 2))) ≡ op (struct_new_default 2)
 unfolding computes
 maker_reads = maker_sound.back {next = 6} {code = drop 2 maker.code} maker_loops refl refl

@@ -15,7 +15,7 @@ use Rattle.scope.specs.Syntax.{i32, i64, f32, f64, types_of}
 use Rattle.scope.specs.Order.{val_below}
 use Rattle.scope.specs.TypeRules.{heap_names}
 use Rattle.scope.specs.Numeric.{numeric_of}
-use Rattle.scope.specs.Instructions.{Op, unreachable, nop, return, drop_value, br, br-if, local_get, local-set, local_tee, i32_const, i64_const, f32_const, f64_const, numeric, ref_null, ref-is-null, ref-eq, ref-as-non-null, struct_new, struct-new-default, struct_get, struct_set, ref_test, ref_cast, br_on_cast, br_on_cast_fail, struct-new-desc, struct-new-default-desc, ref_get_desc, ref_cast_desc_eq, br_on_cast_desc_eq, br_on_cast_desc_eq_fail}
+use Rattle.scope.specs.Instructions.{Op, unreachable, nop, return, drop_value, br, br_if, local_get, local_set, local_tee, i32_const, i64_const, f32_const, f64_const, numeric, ref_null, ref_is_null, ref_eq, ref_as_non_null, struct_new, struct_new_default, struct_get, struct_set, ref_test, ref_cast, br_on_cast, br_on_cast_fail, struct_new_desc, struct_new_default_desc, ref_get_desc, ref_cast_desc_eq, br_on_cast_desc_eq, br_on_cast_desc_eq_fail}
 use Rattle.scope.specs.BodyRules.{Plan, plan_of, fields_of, holds_of, has_default, one_hierarchy, descriptor_for, last_of, target_of, rest_of}
 use Rattle.scope.specs.Bodies.{Operand, State, scope_of, after_plan, put, Body, start_state}
 use Rattle.scope.specs.Machine.{Value, Machine, do_op}
@@ -57,12 +57,12 @@ module _ {b : Body} (kept : Kept (types_of b.types)) (accepts : Accepts (context
   acting (br l) =
       after-need (get_elem? (labels_of b st) l) absent (λ rs label.
       this (record { acts = λ takes stands. branches_always m typed alive accepts l rs label takes stands refl }))
-  acting (br-if l) =
+  acting (br_if l) =
       after-need (get_elem? (labels_of b st) l) absent (λ rs label. this (record { acts = branches_if m typed alive accepts l rs label }))
   acting (local_get x) =
       after-need (get_elem? (context_for b).locals x) absent (λ t is.
       after_test (get_or st.is_set x false) not_set (λ set. this (record { acts = gets m typed alive x is set })))
-  acting (local-set x) =
+  acting (local_set x) =
       after-need (get_elem? (context_for b).locals x) absent (λ t is. this (record { acts = sets_local m typed alive x is }))
   acting (local_tee x) =
       after-need (get_elem? (context_for b).locals x) absent (λ t is. this (record { acts = tees_local m typed alive x is }))
@@ -73,15 +73,15 @@ module _ {b : Body} (kept : Kept (types_of b.types)) (accepts : Accepts (context
   acting (numeric code) =
       after-need (numeric_of code) not_listed (λ kinds is. this (record { acts = calculates m typed alive code kinds is }))
   acting (ref_null h) = after_test (in_reach b (heap_names h)) out_of_reach (λ reach. this (record { acts = nulls m typed alive h }))
-  acting ref-is-null = this (record { acts = asks_null m typed alive })
-  acting ref-eq = this (record { acts = compares m typed alive })
-  acting ref-as-non-null = this (record { acts = refuses_null m typed alive })
+  acting ref_is_null = this (record { acts = asks_null m typed alive })
+  acting ref_eq = this (record { acts = compares m typed alive })
+  acting ref_as_non_null = this (record { acts = refuses_null m typed alive })
   acting (struct_new x) =
       after_test (in_reach b (x ∷ [])) out_of_reach (λ reach.
       after-need (fields_of (types_of b.types x).form) bad_struct (λ fs declared.
       after_test (is_none (types_of b.types x).descriptor) bad_struct (λ bare.
       this (record { acts = news m typed alive x (reach_one x _ reach) declared (is_none_lem _ bare) }))))
-  acting (struct-new-default x) =
+  acting (struct_new_default x) =
       after_test (in_reach b (x ∷ [])) out_of_reach (λ reach.
       after-need (fields_of (types_of b.types x).form) bad_struct (λ fs declared.
       after_test (is_none (types_of b.types x).descriptor) bad_struct (λ bare.
@@ -114,12 +114,12 @@ module _ {b : Body} (kept : Kept (types_of b.types)) (accepts : Accepts (context
       after-need (last_of rs) bad_branch (λ split is.
       after_test (val_below (types_of b.types) (rest_of k) split.1) bad_branch (λ carried.
       this (record { acts = branches_cast_fail m typed alive kept accepts k rs label is carried }))))))
-  acting (struct-new-desc x) =
+  acting (struct_new_desc x) =
       after_test (in_reach b (x ∷ [])) out_of_reach (λ reach.
       after-need (fields_of (types_of b.types x).form) bad_struct (λ fs declared.
       after-need (types_of b.types x).descriptor bad_struct (λ y described.
       this (record { acts = news_desc m typed alive x (reach_one x _ reach) declared described }))))
-  acting (struct-new-default-desc x) =
+  acting (struct_new_default_desc x) =
       after_test (in_reach b (x ∷ [])) out_of_reach (λ reach.
       after-need (fields_of (types_of b.types x).form) bad_struct (λ fs declared.
       after-need (types_of b.types x).descriptor bad_struct (λ y described.

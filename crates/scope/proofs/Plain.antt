@@ -10,7 +10,7 @@ use lib.ListN.{get_elem?, get_or, set}
 use lib.Dec.{eqb}
 use Rattle.scope.specs.Abstract.{EQ}
 use Rattle.scope.specs.Syntax.{Heap, abstract, Number, i32, Val, num, nullable, types_of}
-use Rattle.scope.specs.Instructions.{Op, nop, return, drop_value, br, br-if, local_get, local-set, local_tee, ref_null, ref-is-null, ref-eq, ref-as-non-null}
+use Rattle.scope.specs.Instructions.{Op, nop, return, drop_value, br, br_if, local_get, local_set, local_tee, ref_null, ref_is_null, ref_eq, ref_as_non_null}
 use Rattle.scope.specs.BodyRules.{Wanted, value, any_value, any_reference, from_top, it_non_null}
 use Rattle.scope.specs.Bodies.{Operand, known, label_of, State, on_top, put, Body, start_state}
 use Rattle.scope.specs.Machine.{Value, number, Machine, goes, do_op, with_operands}
@@ -73,7 +73,7 @@ module _ {b : Body} {st : State} (m : Machine) (typed : Typed b st m) (alive : s
 
   pub sets_local :
       {taken left : List Operand} {vs below : List Value} (x : ℕ) {t : Val} → get_elem? (context_for b).locals x ≡ some t
-      → On b m (value t ∷ []) taken left vs below → Stands b (marking st x left) m.code → Does b m vs (local-set x)
+      → On b m (value t ∷ []) taken left vs below → Stands b (marking st x left) m.code → Does b m vs (local_set x)
   unfolding do_op
   sets_local x e (also (of_type h) is (done has)) stands =
       let (held, there, old) = at_second x typed.store.values e in
@@ -103,7 +103,7 @@ module _ {b : Body} {st : State} (m : Machine) (typed : Typed b st m) (alive : s
 
   pub asks_null :
       {taken left : List Operand} {vs below : List Value} → On b m (any_reference ∷ []) taken left vs below
-      → Stands b (leaving st (known (num i32) ∷ left)) m.code → Does b m vs ref-is-null
+      → Stands b (leaving st (known (num i32) ∷ left)) m.code → Does b m vs ref_is_null
   unfolding do_op
   asks_null (also a_null is (done has)) stands = stays m typed alive stands (Forall₂.cons (of_known of_number) has)
   asks_null (also (an_object e) is (done has)) stands = stays m typed alive stands (Forall₂.cons (of_known of_number) has)
@@ -111,7 +111,7 @@ module _ {b : Body} {st : State} (m : Machine) (typed : Typed b st m) (alive : s
   pub compares :
       {taken left : List Operand} {vs below : List Value}
       → On b m (value (nullable (abstract EQ)) ∷ value (nullable (abstract EQ)) ∷ []) taken left vs below
-      → Stands b (leaving st (known (num i32) ∷ left)) m.code → Does b m vs ref-eq
+      → Stands b (leaving st (known (num i32) ∷ left)) m.code → Does b m vs ref_eq
   unfolding do_op
   compares (also (of_type of_null) is (also (of_type of_null) too (done has))) stands = stays m typed alive stands (Forall₂.cons (of_known of_number) has)
   compares (also (of_type of_null) is (also (of_type (of_object f q)) too (done has))) stands = stays m typed alive stands (Forall₂.cons (of_known of_number) has)
@@ -121,7 +121,7 @@ module _ {b : Body} {st : State} (m : Machine) (typed : Typed b st m) (alive : s
   -- the reference that was taken, not null
   pub refuses_null :
       {taken left : List Operand} {vs below : List Value} → On b m (any_reference ∷ []) taken left vs below
-      → Stands b (leaving st (put (types_of b.types) it_non_null taken ++ left)) m.code → Does b m vs ref-as-non-null
+      → Stands b (leaving st (put (types_of b.types) it_non_null taken ++ left)) m.code → Does b m vs ref_as_non_null
   unfolding do_op put
   refuses_null (also a_null is (done has)) stands = is_trap is_null
   refuses_null (also (an_object e) (of_known (of_object f q)) (done has)) stands = stays m typed alive stands (Forall₂.cons (of_known (of_object f q)) has)
@@ -137,7 +137,7 @@ module _ {b : Body} {st : State} (m : Machine) (typed : Typed b st m) (alive : s
 
     pub branches_if :
         {taken left : List Operand} {vs below : List Value} (l : ℕ) (rs : List Val) → get_elem? (labels_of b st) l ≡ some rs
-        → On b m (value (num i32) ∷ from_top rs) taken left vs below → Stands b (leaving st (on_top rs ++ left)) m.code → Does b m vs (br-if l)
+        → On b m (value (num i32) ∷ from_top rs) taken left vs below → Stands b (leaving st (on_top rs ++ left)) m.code → Does b m vs (br_if l)
     unfolding do_op
     branches_if l rs e (also (of_type (of_number {n = n})) is more) stands =
         let tops = tops_of (reverse rs) more in

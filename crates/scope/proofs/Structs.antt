@@ -10,7 +10,7 @@ use mathlib.Core.List.{List, [], ◌∷◌, ◌++◌, reverse}
 use lib.ListN.{length, get_elem?}
 use Rattle.scope.specs.Lists.{every}
 use Rattle.scope.specs.Syntax.{defined, exact, nullable, non_null, Field, Definition, types_of}
-use Rattle.scope.specs.Instructions.{struct_new, struct-new-default, struct_get, struct_set, struct-new-desc, struct-new-default-desc, ref_get_desc}
+use Rattle.scope.specs.Instructions.{struct_new, struct_new_default, struct_get, struct_set, struct_new_desc, struct_new_default_desc, ref_get_desc}
 use Rattle.scope.specs.BodyRules.{value, from_top, fields_of, holds_of, has_default, its_descriptor}
 use Rattle.scope.specs.Bodies.{Operand, known, fits, put, State, Body}
 use Rattle.scope.specs.Machine.{Value, object, Object, Store, object_of, Machine, do_op}
@@ -51,14 +51,14 @@ module _ {b : Body} {st : State} (m : Machine) (typed : Typed b st m) (alive : s
 
     pub news_default :
         {taken left : List Operand} {vs below : List Value} → (types_of b.types x).descriptor ≡ none → every has_default (holds_of fs) ≡ true
-        → On b m [] taken left vs below → Stands b (leaving st (known (non_null (exact x)) ∷ left)) m.code → Does b m vs (struct-new-default x)
+        → On b m [] taken left vs below → Stands b (leaving st (known (non_null (exact x)) ∷ left)) m.code → Does b m vs (struct_new_default x)
     unfolding do_op
     news_default e have (done has) stands = makes_default m typed alive x none inside declared (undescribed e) have has stands
 
     pub news_desc :
         {taken left : List Operand} {vs below : List Value} {y : ℕ} → (types_of b.types x).descriptor ≡ some y
         → On b m (value (nullable (exact y)) ∷ from_top (holds_of fs)) taken left vs below
-        → Stands b (leaving st (known (non_null (exact x)) ∷ left)) m.code → Does b m vs (struct-new-desc x)
+        → Stands b (leaving st (known (non_null (exact x)) ∷ left)) m.code → Does b m vs (struct_new_desc x)
     unfolding do_op
     news_desc e (also (of_type of_null) is more) stands = is_trap is_null_descriptor
     news_desc e (also (of_type (of_object {o = o} q below)) is more) stands =
@@ -67,7 +67,7 @@ module _ {b : Body} {st : State} (m : Machine) (typed : Typed b st m) (alive : s
     pub news_default_desc :
         {taken left : List Operand} {vs below : List Value} {y : ℕ} → (types_of b.types x).descriptor ≡ some y → every has_default (holds_of fs) ≡ true
         → On b m (value (nullable (exact y)) ∷ []) taken left vs below → Stands b (leaving st (known (non_null (exact x)) ∷ left)) m.code
-        → Does b m vs (struct-new-default-desc x)
+        → Does b m vs (struct_new_default_desc x)
     unfolding do_op
     news_default_desc e have (also (of_type of_null) is (done has)) stands = is_trap is_null_descriptor
     news_default_desc e have (also (of_type (of_object {o = o} q below)) is (done has)) stands =

@@ -11,7 +11,7 @@ use Rattle.scope.specs.Syntax.{Heap, abstract, defined, exact, i32, i64, f32, f6
 use Rattle.scope.specs.Order.{kind_of, val_below}
 use Rattle.scope.specs.TypeRules.{heap_names}
 use Rattle.scope.specs.Numeric.{Numeric, numeric_of}
-use Rattle.scope.specs.Instructions.{Cast, Op, unreachable, nop, return, drop_value, br, br-if, local_get, local-set, local_tee, i32_const, i64_const, f32_const, f64_const, numeric, ref_null, ref-is-null, ref-eq, ref-as-non-null, struct_new, struct-new-default, struct_get, struct_set, ref_test, ref_cast, br_on_cast, br_on_cast_fail, struct-new-desc, struct-new-default-desc, ref_get_desc, ref_cast_desc_eq, br_on_cast_desc_eq, br_on_cast_desc_eq_fail}
+use Rattle.scope.specs.Instructions.{Cast, Op, unreachable, nop, return, drop_value, br, br_if, local_get, local_set, local_tee, i32_const, i64_const, f32_const, f64_const, numeric, ref_null, ref_is_null, ref_eq, ref_as_non_null, struct_new, struct_new_default, struct_get, struct_set, ref_test, ref_cast, br_on_cast, br_on_cast_fail, struct_new_desc, struct_new_default_desc, ref_get_desc, ref_cast_desc_eq, br_on_cast_desc_eq, br_on_cast_desc_eq_fail}
 
 -- what a body is checked against: the section's types and their count, the locals with the parameters, the results
 pub record Context : Type 0 where
@@ -201,10 +201,10 @@ plan_of c here return = takes_and_stops (from_top c.results)
 plan_of c here drop_value = takes (any_value ∷ []) (values [])
 plan_of c here (br l) = labelled here l (λ vs. takes_and_stops (from_top vs))
 -- values kept by br_if are read as the label's types afterwards
-plan_of c here (br-if l) = labelled here l (λ vs. takes (value (num i32) ∷ from_top vs) (values vs))
+plan_of c here (br_if l) = labelled here l (λ vs. takes (value (num i32) ∷ from_top vs) (values vs))
 -- "A local without a default must be set before it is read."
 plan_of c here (local_get x) = local_of c x (λ v. already_set here x (takes [] (values (v ∷ []))))
-plan_of c here (local-set x) = local_of c x (λ v. takes_and_sets x (value v ∷ []) (values []))
+plan_of c here (local_set x) = local_of c x (λ v. takes_and_sets x (value v ∷ []) (values []))
 plan_of c here (local_tee x) = local_of c x (λ v. takes_and_sets x (value v ∷ []) (values (v ∷ [])))
 plan_of c here (i32_const n) = takes [] (values (num i32 ∷ []))
 plan_of c here (i64_const n) = takes [] (values (num i64 ∷ []))
@@ -213,13 +213,13 @@ plan_of c here (f64_const n) = takes [] (values (num f64 ∷ []))
 -- "with the operand and result kinds of the core standard". 3 is a code's that is not listed, and none is read.
 plan_of c here (numeric b) = need (numeric_of b) not_listed (λ kinds. takes (operands_of kinds) (values (num kinds.result ∷ [])))
 plan_of c here (ref_null h) = reached c (heap_names h) (takes [] (values (nullable h ∷ [])))
-plan_of c here ref-is-null = takes (any_reference ∷ []) (values (num i32 ∷ []))
-plan_of c here ref-eq = takes (value (nullable (abstract EQ)) ∷ value (nullable (abstract EQ)) ∷ []) (values (num i32 ∷ []))
-plan_of c here ref-as-non-null = takes (any_reference ∷ []) it_non_null
+plan_of c here ref_is_null = takes (any_reference ∷ []) (values (num i32 ∷ []))
+plan_of c here ref_eq = takes (value (nullable (abstract EQ)) ∷ value (nullable (abstract EQ)) ∷ []) (values (num i32 ∷ []))
+plan_of c here ref_as_non_null = takes (any_reference ∷ []) it_non_null
 -- "struct.new and its default take only types with no descriptor. .. All give (ref (exact x))."
 plan_of c here (struct_new x) =
     reached c (x ∷ []) (struct_of c x (λ fs. undescribed c x (takes (from_top (holds_of fs)) (values (non_null (exact x) ∷ [])))))
-plan_of c here (struct-new-default x) =
+plan_of c here (struct_new_default x) =
     reached c (x ∷ []) (struct_of c x (λ fs. undescribed c x (defaulted fs (takes [] (values (non_null (exact x) ∷ []))))))
 plan_of c here (struct_get x i) =
     reached c (x ∷ []) (field_of c x i (λ f. takes (value (nullable (defined x)) ∷ []) (values (f.holds ∷ []))))
@@ -234,11 +234,11 @@ plan_of c here (ref_cast n h) =
 plan_of c here (br_on_cast k) = cast_reached c here k (branches c [] k (target_of k) (rest_of k))
 plan_of c here (br_on_cast_fail k) = cast_reached c here k (branches c [] k (rest_of k) (target_of k))
 -- "The _desc ones take the fields (default: none), then (ref null (exact y)) on top."
-plan_of c here (struct-new-desc x) =
+plan_of c here (struct_new_desc x) =
     reached c (x ∷ [])
     (struct_of c x (λ fs.
     described c x (λ y. takes (value (nullable (exact y)) ∷ from_top (holds_of fs)) (values (non_null (exact x) ∷ [])))))
-plan_of c here (struct-new-default-desc x) =
+plan_of c here (struct_new_default_desc x) =
     reached c (x ∷ [])
     (struct_of c x (λ fs.
     described c x (λ y. defaulted fs (takes (value (nullable (exact y)) ∷ []) (values (non_null (exact x) ∷ []))))))

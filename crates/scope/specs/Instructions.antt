@@ -19,19 +19,19 @@ pub record Cast : Type 0 where
 -- what an instruction does inside its block. A flag says "null" where an instruction has both forms.
 pub data Op : Type 0 where
   unreachable nop return drop_value : Op
-  br br-if : ℕ → Op
-  local_get local-set local_tee : ℕ → Op
+  br br_if : ℕ → Op
+  local_get local_set local_tee : ℕ → Op
   -- by the bits
   i32_const i64_const f32_const f64_const : ℕ → Op
   -- by the code, 45 to C4
   numeric : ℕ → Op
   ref_null : Heap → Op
-  ref-is-null ref-eq ref-as-non-null : Op
-  struct_new struct-new-default : ℕ → Op
+  ref_is_null ref_eq ref_as_non_null : Op
+  struct_new struct_new_default : ℕ → Op
   struct_get struct_set : ℕ → ℕ → Op
   ref_test ref_cast : Bool → Heap → Op
   br_on_cast br_on_cast_fail : Cast → Op
-  struct-new-desc struct-new-default-desc : ℕ → Op
+  struct_new_desc struct_new_default_desc : ℕ → Op
   ref_get_desc : ℕ → Op
   ref_cast_desc_eq : Bool → Heap → Op
   br_on_cast_desc_eq br_on_cast_desc_eq_fail : Cast → Op
@@ -86,27 +86,27 @@ first_bytes =
     ∷ (0x03, opening loop)
     ∷ (0x0B, closing)
     ∷ (0x0C, having u32 br)
-    ∷ (0x0D, having u32 br-if)
+    ∷ (0x0D, having u32 br_if)
     ∷ (0x0F, bare return)
     ∷ (0x1A, bare drop_value)
     ∷ (0x20, having u32 local_get)
-    ∷ (0x21, having u32 local-set)
+    ∷ (0x21, having u32 local_set)
     ∷ (0x22, having u32 local_tee)
     ∷ (0x41, having s32 (λ n. i32_const (bits32 n)))
     ∷ (0x42, having s64 (λ n. i64_const (bits64 n)))
     ∷ (0x43, having float32 f32_const)
     ∷ (0x44, having float64 f64_const)
     ∷ (0xD0, having heap_at ref_null)
-    ∷ (0xD1, bare ref-is-null)
-    ∷ (0xD3, bare ref-eq)
-    ∷ (0xD4, bare ref-as-non-null)
+    ∷ (0xD1, bare ref_is_null)
+    ∷ (0xD3, bare ref_eq)
+    ∷ (0xD4, bare ref_as_non_null)
     ∷ []
 
 -- after FB, a u32 in LEB
 abbrev pub after_fb : List (ℕ × Reader Instr)
 after_fb =
     (0x00, having u32 struct_new)
-    ∷ (0x01, having u32 struct-new-default)
+    ∷ (0x01, having u32 struct_new_default)
     ∷ (0x02, having_two struct_get)
     ∷ (0x05, having_two struct_set)
     ∷ (0x14, having heap_at (ref_test false))
@@ -115,8 +115,8 @@ after_fb =
     ∷ (0x17, having heap_at (ref_cast true))
     ∷ (0x18, having cast_at br_on_cast)
     ∷ (0x19, having cast_at br_on_cast_fail)
-    ∷ (0x20, having u32 struct-new-desc)
-    ∷ (0x21, having u32 struct-new-default-desc)
+    ∷ (0x20, having u32 struct_new_desc)
+    ∷ (0x21, having u32 struct_new_default_desc)
     ∷ (0x22, having u32 ref_get_desc)
     ∷ (0x23, having heap_at (ref_cast_desc_eq false))
     ∷ (0x24, having heap_at (ref_cast_desc_eq true))

@@ -17,7 +17,7 @@ stands_for n a = cond (ltb a (2 ^ (n - 1))) (plus a) (minus (2 ^ n - a))
 
 -- whole numbers in their order; minus 0 is plus 0
 pub data WholeLess : Whole → Whole → Type 0 where
-  both-above : {m n : ℕ} → m < n → WholeLess (plus m) (plus n)
+  both_above : {m n : ℕ} → m < n → WholeLess (plus m) (plus n)
   both_below : {m n : ℕ} → n < m → WholeLess (minus m) (minus n)
   across_zero : {m n : ℕ} → 0 < m + n → WholeLess (minus m) (plus n)
 

@@ -11,7 +11,7 @@ use Rattle.scope.specs.Syntax.{Heap, exact, Number, i32, i64, f32, f64, Val, num
 use Rattle.scope.specs.Order.{same_number, heap_below}
 use Rattle.scope.specs.Numeric.{Numeric, numeric_of}
 use Rattle.scope.specs.Arithmetic.{as_bits, Deed, of_one, of_two, deed_of}
-use Rattle.scope.specs.Instructions.{Op, unreachable, nop, return, drop_value, br, br-if, local_get, local-set, local_tee, i32_const, i64_const, f32_const, f64_const, numeric, ref_null, ref-is-null, ref-eq, ref-as-non-null, struct_new, struct-new-default, struct_get, struct_set, ref_test, ref_cast, br_on_cast, br_on_cast_fail, struct-new-desc, struct-new-default-desc, ref_get_desc, ref_cast_desc_eq, br_on_cast_desc_eq, br_on_cast_desc_eq_fail, Instr, block, loop, end, op}
+use Rattle.scope.specs.Instructions.{Op, unreachable, nop, return, drop_value, br, br_if, local_get, local_set, local_tee, i32_const, i64_const, f32_const, f64_const, numeric, ref_null, ref_is_null, ref_eq, ref_as_non_null, struct_new, struct_new_default, struct_get, struct_set, ref_test, ref_cast, br_on_cast, br_on_cast_fail, struct_new_desc, struct_new_default_desc, ref_get_desc, ref_cast_desc_eq, br_on_cast_desc_eq, br_on_cast_desc_eq_fail, Instr, block, loop, end, op}
 use Rattle.scope.specs.BodyRules.{fields_of, holds_of}
 use Rattle.scope.specs.Bodies.{Code}
 
@@ -258,11 +258,11 @@ do_op p m vs nop = goes m
 do_op p m vs return = finish p m vs
 do_op p m vs drop_value = on_taken vs (λ v below. goes (with_operands m below))
 do_op p m vs (br l) = branch p m l vs
-do_op p m vs (br-if l) =
+do_op p m vs (br_if l) =
     on_taken vs (λ v below. on_i32 v (λ n. cond (eqb n 0) (goes (with_operands m below)) (branch p m l below)))
 do_op p m vs (local_get x) =
     given (get_elem? m.locals x) stuck (λ held. given held stuck (λ v. goes (with_operands m (v ∷ vs))))
-do_op p m vs (local-set x) = on_taken vs (λ v below. on_set m x v (λ after. goes (with_operands after below)))
+do_op p m vs (local_set x) = on_taken vs (λ v below. on_set m x v (λ after. goes (with_operands after below)))
 do_op p m vs (local_tee x) = on_taken vs (λ v below. on_set m x v goes)
 do_op p m vs (i32_const n) = goes (with_operands m (number i32 n ∷ vs))
 do_op p m vs (i64_const n) = goes (with_operands m (number i64 n ∷ vs))
@@ -270,15 +270,15 @@ do_op p m vs (f32_const n) = goes (with_operands m (number f32 n ∷ vs))
 do_op p m vs (f64_const n) = goes (with_operands m (number f64 n ∷ vs))
 do_op p m vs (numeric b) = do_numeric m vs b
 do_op p m vs (ref_null h) = goes (with_operands m (null ∷ vs))
-do_op p m vs ref-is-null = on_taken vs (λ v below. on_reference v (λ r. goes (with_operands m (truth (is_none r) ∷ below))))
-do_op p m vs ref-eq =
+do_op p m vs ref_is_null = on_taken vs (λ v below. on_reference v (λ r. goes (with_operands m (truth (is_none r) ∷ below))))
+do_op p m vs ref_eq =
     on_taken vs (λ v others.
     on_taken others (λ w below.
     on_reference v (λ r. on_reference w (λ q. goes (with_operands m (truth (same_reference r q) ∷ below))))))
-do_op p m vs ref-as-non-null =
+do_op p m vs ref_as_non_null =
     on_taken vs (λ v below. on_reference v (λ r. given r (traps trap_null) (λ o. goes (with_operands m (object o ∷ below)))))
 do_op p m vs (struct_new x) = make_given p m x none vs
-do_op p m vs (struct-new-default x) = make_default p m x none vs
+do_op p m vs (struct_new_default x) = make_default p m x none vs
 do_op p m vs (struct_get x i) =
     on_taken vs (λ v below.
     on_object m.heap trap_null v (λ o it.
@@ -298,8 +298,8 @@ do_op p m vs (br_on_cast k) =
 do_op p m vs (br_on_cast_fail k) =
     on_taken vs (λ v below.
     cast_passes p.types m.heap k.target_null k.target v (λ b. cond b (goes m) (branch p m k.label vs)))
-do_op p m vs (struct-new-desc x) = on_descriptor vs (λ d below. make_given p m x (some d) below)
-do_op p m vs (struct-new-default-desc x) = on_descriptor vs (λ d below. make_default p m x (some d) below)
+do_op p m vs (struct_new_desc x) = on_descriptor vs (λ d below. make_given p m x (some d) below)
+do_op p m vs (struct_new_default_desc x) = on_descriptor vs (λ d below. make_default p m x (some d) below)
 do_op p m vs (ref_get_desc x) =
     on_taken vs (λ v below.
     on_object m.heap trap_null v (λ o it. given it.descriptor stuck (λ d. goes (with_operands m (object d ∷ below)))))

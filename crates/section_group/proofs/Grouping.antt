@@ -61,9 +61,9 @@ grouped_first {s} {rows} {codes} {at} {first} {used} reach n lent =
       behind = omega (arith, lent.behind);
     }
 
-pub one-row : (used : ℕ) (d : Definition) → rows_of used (kept_definition d ∷ []) ≡ row used (kept_definition d)
+pub one_row : (used : ℕ) (d : Definition) → rows_of used (kept_definition d ∷ []) ≡ row used (kept_definition d)
 unfolding rows_of
-one-row used d = append-nil (row used (kept_definition d))
+one_row used d = append-nil (row used (kept_definition d))
 
 pub one-codes : (d : Definition) → codes_of (kept_definition d ∷ []) ≡ form_codes (kept_form d.form)
 unfolding codes_of kept_definition
@@ -73,7 +73,7 @@ more_rows : (used : ℕ) (ds : List Definition) (d : Definition) → map low (ro
 more_rows used ds d =
     let kept = kept_all ds in
     ap (λ es. map low (rows_of used es)) (map-append kept_definition ds (d ∷ []))
-    ∙ ap (map low) (rows_append used kept (kept_definition d ∷ []) ∙ ap (λ rs. rows_of used kept ++ rs) (one-row (used + length (codes_of kept)) d))
+    ∙ ap (map low) (rows_append used kept (kept_definition d ∷ []) ∙ ap (λ rs. rows_of used kept ++ rs) (one_row (used + length (codes_of kept)) d))
     ∙ map-append low (rows_of used kept) (row (used + length (codes_of kept)) (kept_definition d))
 
 more_codes : (ds : List Definition) (d : Definition) → codes_of (kept_all (ds ++ d ∷ [])) ≡ codes_of (kept_all ds) ++ form_codes (kept_form d.form)

@@ -32,7 +32,7 @@ use Rattle.section_definition.proofs.Defining.{definition_ahead, definition_inv,
 use Rattle.section_group.specs.declared.GroupRead.{GroupRead}
 use Rattle.section_group.specs.declared.GroupRead
 use Rattle.section_group.specs.Lent.{Lent, entries_at, several_at, alone_at, group_is, GroupPut}
-use Rattle.section_group.proofs.Grouping.{one-row, one-codes}
+use Rattle.section_group.proofs.Grouping.{one_row, one-codes}
 
 -- a reader that answers as another does leaves the same
 
@@ -104,7 +104,7 @@ module _ {s : List ℕ} {at first : ℕ} {rows rows' codes codes' : List ℕ} {u
       let none : used + 0 ≡ used = omega arith in
       record {
         answer = rw (whole, one-codes d, fills);
-        rows_put = λ ds stop f. let same : d ∷ [] ≡ ds = cc in rw (← same, one-row used d) (rw none at (a.row_put d next read));
+        rows_put = λ ds stop f. let same : d ∷ [] ≡ ds = cc in rw (← same, one_row used d) (rw none at (a.row_put d next read));
         codes_put = λ ds stop f. let same : d ∷ [] ≡ ds = cc in rw (← same, one-codes d) (a.codes_put d next read);
         rows_kept = a.rows_kept;
         codes_kept = a.codes_kept;

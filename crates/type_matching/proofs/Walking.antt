@@ -35,11 +35,11 @@ module _ (ts : Types) (a b : ℕ) where
   unfolding field_at_code
   second_mutable p q = rw (ne_eqb (a % 2) 1 p, eq-eqb (b % 2) 1 q)
 
-  pub both-fixed : {r : Bool} → (a % 2 ≡ 1 → ⊥) → (b % 2 ≡ 1 → ⊥) → r ≡ val_below ts (val_at_code (a / 2)) (val_at_code (b / 2)) → r ≡ field_matches ts (field_at_code a) (field_at_code b)
+  pub both_fixed : {r : Bool} → (a % 2 ≡ 1 → ⊥) → (b % 2 ≡ 1 → ⊥) → r ≡ val_below ts (val_at_code (a / 2)) (val_at_code (b / 2)) → r ≡ field_matches ts (field_at_code a) (field_at_code b)
   unfolding field_at_code
-  both-fixed p q e = rw (ne_eqb (a % 2) 1 p, ne_eqb (b % 2) 1 q) e
+  both_fixed p q e = rw (ne_eqb (a % 2) 1 p, ne_eqb (b % 2) 1 q) e
 
-pub ruleset field_exits = (both_mutable, first_mutable, second_mutable, both-fixed)
+pub ruleset field_exits = (both_mutable, first_mutable, second_mutable, both_fixed)
 
 module _ (fields : Bool) (ts : Types) (a b : ℕ) {r : Bool} where
   pub field_code_lem : r ≡ field_matches ts (field_at_code a) (field_at_code b) → fields ≡ true → r ≡ code_matches fields ts a b

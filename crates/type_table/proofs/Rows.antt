@@ -30,8 +30,8 @@ use Rattle.type_table.specs.Answers.{link_is, supers_list, shape_form}
 abbrev pub no_row : ℕ
 no_row = 2 ^ 59
 
-pub no-row : (rows : List ℕ) (x k : ℕ) → length rows * 2 < 2 ^ 63 → no_row ≤ x → WordAt rows (row_span * x + k) 0
-no-row rows x k room h = word_past (let r : length rows * 2 < 2 ^ 63 = room in omega arith)
+pub no_row_lem : (rows : List ℕ) (x k : ℕ) → length rows * 2 < 2 ^ 63 → no_row ≤ x → WordAt rows (row_span * x + k) 0
+no_row_lem rows x k room h = word_past (let r : length rows * 2 < 2 ^ 63 = room in omega arith)
 
 -- links
 
@@ -121,4 +121,4 @@ module _ (rows codes : List ℕ) (x : ℕ) where
     unfolding view form_at_words
     shape_struct e = rw (a.is, b.is, ne_eqb _ func_form (λ q. e (k.is ∙ q)))
 
-pub ruleset row_exits = (no-row, link_nothing, link_to, open_is, describes_is, descriptor_is_lem, from_is, to_is, reach_is, supers_none, supers_first, supers_second, supers_both, super_first, super_second, function_is_no_struct, struct_is, shape_func, shape_struct)
+pub ruleset row_exits = (no_row_lem, link_nothing, link_to, open_is, describes_is, descriptor_is_lem, from_is, to_is, reach_is, supers_none, supers_first, supers_second, supers_both, super_first, super_second, function_is_no_struct, struct_is, shape_func, shape_struct)

@@ -1,7 +1,7 @@
 -- `body_plans::act_of` meets its contract: each arm's instruction is the one whose rule its plan follows.
 use Rattle.body_plan_branches.specs.Branches.{cast_op, desc_op}
 use Rattle.body_decoded.specs.Decoded.{instr_of}
-use Rattle.body_plans.proofs.Arms.{stops_unreachable, takes_nop, opens_block, opens-loop, closes, goes, stops_return, takes-drop, uses, sets, takes_const, takes_i64, takes_f32, takes_f64, everywhere, anywhere, takes_is_null, takes-eq, non_null_lem, follows, tests, branches}
+use Rattle.body_plans.proofs.Arms.{stops_unreachable, takes_nop, opens_block, opens_loop, closes, goes, stops_return, takes-drop, uses, sets, takes_const, takes_i64, takes_f32, takes_f64, everywhere, anywhere, takes_is_null, takes-eq, non_null_lem, follows, tests, branches}
 use Rattle.body_plans.proofs.act_of.Goals as goal
 
 pub returns-in-Unreachable : goal.returns-in-Unreachable
@@ -14,7 +14,7 @@ pub returns-in-Block : goal.returns-in-Block
 returns-in-Block c = search opens_block
 
 pub returns-in-Loop : goal.returns-in-Loop
-returns-in-Loop c = search opens-loop
+returns-in-Loop c = search opens_loop
 
 pub returns-in-End : goal.returns-in-End
 returns-in-End c = search closes
