@@ -13,7 +13,7 @@ use Rattle.body_state.specs.State.{val_at_word, sets_at}
 use Rattle.body_start.specs.declared.Started.{Started}
 use Rattle.body_start.specs.declared.Started
 
--- how a body begins (scope's bodyAt): the count of the entries, and the entries
+-- how a body begins (scope's body_at): the count of the entries, and the entries
 unfoldable pub locals_first : ℕ → ℕ → List ℕ → Read (List Val)
 locals_first types params s = then (u32 s 0) (λ n entries. locals_at types n params s entries)
 
