@@ -1,5 +1,7 @@
 // The loader's public call for trial runs. It trusts no caller to have looked first: any bytes, numbers and buffers may be
 // handed in. run_prepare judges and reads with the scratch; only then is the state's memory lent, and the scratch is read only.
+#![tactic(auto)]
+
 ghost use Rattle.scope.specs.Answers.{RunTried};
 ghost use Rattle.run_buffers.specs.States.{state_of, memory};
 ghost use Rattle.run_call.specs.Trial.{Startable, RunStarted, Placed, RunPlaced, Waiting, RunPrepared};
