@@ -1,5 +1,7 @@
 // The answers of the loader's public calls, as document 01 has them. specs/Answers.antt gives the paper's number and
 // values for each case.
+#![tactic(auto)]
+
 pub mod refusals;
 pub mod sizes;
 pub mod traps;
