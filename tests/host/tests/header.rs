@@ -318,7 +318,7 @@ fn words_of_a_row_are_the_layouts() {
 #[test]
 fn calls_are_the_exported_ones() {
     let source =
-        std::fs::read_to_string(root().join("crates/chelbugan/src/lib.rt")).expect("the crate");
+        std::fs::read_to_string(root().join("crates/chelbugan_c/src/lib.rt")).expect("the crate");
     let exported: Vec<&str> = called(&source, "pub extern \"C\" fn ");
     let header = header();
     let declared: Vec<&str> = called(&header, "\nuint64_t ");
