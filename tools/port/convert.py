@@ -4,8 +4,8 @@
 usage: python3 tools/port/convert.py CRATE..      (at the top of the repository; the crates below CRATE prove)
 
 rt check --generated FOLDER --old-names says of each function which goal has which name now. A goal that was answered by the search
-alone gets no answer; one that names lemmas keeps them; a term over the walk's facts is written to left.txt beside the proof's
-crate in /tmp/left, for a new one by hand.
+alone gets no answer; one that names lemmas keeps them; of a term over the walk's facts its lemma is kept and the rest is left to the
+search, and the term is printed, for a new one by hand where the search does not find it.
 """
 import glob
 import json
@@ -13,6 +13,7 @@ import os
 import re
 import subprocess
 import sys
+import tempfile
 
 WORD = re.compile(r'[^\s(){}.;,@"«»]+')
 
@@ -22,16 +23,15 @@ def norm(n):
 
 
 def names_of(crate):
-    folder = f"/tmp/names/{crate}"
-    subprocess.run(["rm", "-rf", folder])
-    os.makedirs("/tmp/names", exist_ok=True)
-    r = subprocess.run(["rt", "check", "--generated", folder, "--old-names"], cwd=f"crates/{crate}", stdout=subprocess.PIPE, stderr=subprocess.STDOUT, text=True)
-    p = f"{folder}/names.json"
-    if not os.path.isfile(p):
-        print(r.stdout[-1500:])
-        raise SystemExit(f"convert: {crate}: no names")
-    with open(p) as f:
-        return json.load(f)
+    with tempfile.TemporaryDirectory() as top:
+        folder = os.path.join(top, "names")
+        r = subprocess.run(["rt", "check", "--generated", folder, "--old-names"], cwd=f"crates/{crate}", stdout=subprocess.PIPE, stderr=subprocess.STDOUT, text=True)
+        p = os.path.join(folder, "names.json")
+        if not os.path.isfile(p):
+            print(r.stdout[-1500:])
+            raise SystemExit(f"convert: {crate}: no names")
+        with open(p) as f:
+            return json.load(f)
 
 
 def definitions(text):
@@ -102,7 +102,6 @@ def convert(crate, key, path, lts, left):
                 continue
             sub = dict(zip(args, want))
             new = WORD.sub(lambda w: sub.get(w.group(0), w.group(0)), body)
-            # a projection of a variable that became a projection needs no brackets; of an application it keeps them
             invariants.append(f"abbrev pub {what}-{pair[1]} : goal.{what}-{pair[1]}\n{what}-{pair[1]} l = {new}")
             continue
         order.append((name, goal, unf, args, body))
@@ -119,8 +118,8 @@ def convert(crate, key, path, lts, left):
         if body == "search rules" and not unf:
             continue
         if new.startswith("shape_of-"):
-            if "c.before" in (body or "") or True:
-                continue
+            # that a lent slice keeps its length is known today
+            continue
         if body is None:
             left.append(f"{path}: {new} (was {old}): no body")
             continue
@@ -146,7 +145,6 @@ def convert(crate, key, path, lts, left):
             keep = []
             for item in m.group(2).split(", "):
                 n = item.split(" as ")[-1]
-                sign = n.strip("◌")
                 if n in words or ("◌" in n and any(x in words for x in re.split("◌", n) if x)):
                     keep.append(item)
             if keep:
@@ -198,12 +196,9 @@ def main(crates):
                 convert(crate, key, path, data[key], left)
         auto(crate)
         subprocess.run(["rt", "fmt"], cwd=f"crates/{crate}", stdout=subprocess.DEVNULL)
-        os.makedirs("/tmp/left", exist_ok=True)
-        with open(f"/tmp/left/{crate}.txt", "w") as f:
-            f.write("\n".join(left) + "\n")
-        print(f"convert: {crate}: {len(paths)} proofs, {len(left)} places left (/tmp/left/{crate}.txt)")
+        print(f"convert: {crate}: {len(paths)} proofs, {len(left)} places to look at")
         for l in left:
-            print("  " + l[:300])
+            print("  " + l)
 
 
 main(sys.argv[1:])
