@@ -1,6 +1,6 @@
 // What the programs with cases in a file share. Bytes that are written as text: words of hexadecimal digits, with a space
-// between two; `512*4100` is 512 times 41 00, and `63*5001++5F00` counts: 50 01 00 5F 00, 50 01 01 5F 00 and so on. Nothing
-// here fails: what does not fit is left out, and a sign that is no digit counts as 0. And whether lent words are zero, the
+// between two; `512*4100` is 512 times 41 00, and `63*5001++5F00` counts: 50 01 00 5F 00, 50 01 01 5F 00 and so on. Only reading
+// and printing can fail: what does not fit is left out, and a sign that is no digit counts as 0. And whether lent words are zero, the
 // line that sets a library, a refusal as text, and the reading of the cases.
 #![tactic(auto)]
 
