@@ -1,5 +1,4 @@
--- `run_call::try_run` meets its contract: each part is lent its own memory. With eleven lent slices a search breaks off, so what the
--- laws take is named by its place.
+-- `run_call::try_run` meets its contract: each part is lent its own memory.
 use borrow.Author.Rules.{rules}
 use Rattle.run_call.proofs.Outer.{tried_whole, may_wait}
 use Rattle.run_call.proofs.try_run.Goals as goal
