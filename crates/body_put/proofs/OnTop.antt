@@ -1,22 +1,19 @@
--- Putting operands on top: one word, and then the loop over a list, which has put the first i of its types.
-use Prim.Native.Nat.{ℕ, suc, ◌+◌, ◌%◌, ◌≤◌, ◌<◌}
+-- Putting operands on top: one word, and a turn of the loop over a list, which has put the first i of its types.
+use Prim.Native.Nat.{ℕ, suc, ◌+◌, ◌%◌, ◌<◌}
 use mathlib.Core.Path.{◌≡◌, ap, ap₂, ◌∙◌}
 use mathlib.Core.List.{List, [], ◌∷◌, map}
 use native.Mathlib.Omega.{arith}
 use lib.ListN.{length, get_or, set, take, length-set}
-use lib.Seq.{get_or-set_same, get_or-set_other, take_all}
-use mir.Syntax.{w32}
-use mir.Val.{Fits}
-use Rattle.scope.specs.Syntax.{Val}
+use lib.Seq.{get_or-set_same, get_or-set_other}
 use Rattle.scope.specs.Bodies.{Operand, known, on_top}
 use Rattle.type_table.specs.View.{val_at_code}
 use Rattle.body_state.specs.declared.Values.{Values}
 use Rattle.body_state.specs.Layout.{operands_from, word_bound}
-use Rattle.body_state.specs.State.{operand_at_code, values_of, LengthOf, CodeOf}
+use Rattle.body_state.specs.State.{operand_at_code, values_of, CodeOf}
 use Rattle.body_state.proofs.Alike.{stack_same}
 use Rattle.body_words.proofs.Laws.{known_kept, reverse_there, stack_more}
 use Rattle.body_put.specs.Putting.{Room, Pushed}
-use Rattle.body_put.proofs.Laws.{pushed_none, pushed_more}
+use Rattle.body_put.proofs.Laws.{pushed_more}
 
 -- one
 
@@ -36,44 +33,10 @@ pushed_one {work} {work'} {base} {height} o e room =
 
 -- a list
 
-pub record FirstOn (work₀ work : List ℕ) (base height : ℕ) (vs : List Val) (n i : ℕ) : Type 0 where
-  pub long : length vs ≡ n
-  pub up_to : i ≤ n
-  pub pushed : Pushed work₀ work base height (height + i) (on_top (take i vs))
-
-pub on-first : (work : List ℕ) (base height : ℕ) (codes : List ℕ) {list : Values} {n : ℕ} → LengthOf list n → FirstOn work work base height (values_of codes list) n 0
-on-first work base height codes a =
-    let same : height + 0 ≡ height = omega arith in
-    record { long = a.is codes; up_to = omega arith; pushed = rw same (pushed_none work base height) }
-
-module _ {work₀ work : List ℕ} {base height : ℕ} {vs : List Val} {n i : ℕ} (p : FirstOn work₀ work base height vs n i) where
-  pub on_size : length work ≡ length work₀
-  on_size = p.pushed.size
-
-  pub on_all : n ≤ i → Pushed work₀ work base height (height + length vs) (on_top vs)
-  on_all h =
-      let all : i ≡ length vs = omega (arith, p.up_to, p.long) in
-      let done : take i vs ≡ vs = take_all i vs (omega arith) in
-      let top : on_top (take i vs) ≡ on_top vs = ap on_top done in
-      rw (← all, ← top) p.pushed
-
-  module _ (h : i < n) (room : Room work₀ base height (length vs)) where
-    pub place_fits : Fits w32 (height + i)
-    place_fits = record { fits = omega (arith, room.few, p.long) }
-
-    pub on_room : Room work base (height + i) 1
-    on_room = record { room = omega (arith, room.room, p.pushed.size); few = omega (arith, room.few, p.long) }
-
-pub on_turn : {work₀ work : List ℕ} {base height : ℕ} {codes : List ℕ} {list : Values} {n i : ℕ} → FirstOn work₀ work base height (values_of codes list) n i → i < n → {c : ℕ} → CodeOf codes list i c → {work' : List ℕ} → Pushed work work' base (height + i) (height + i + 1) (operand_at_code ((c + 2) % word_bound) ∷ []) → FirstOn work₀ work' base height (values_of codes list) n (i + 1)
+pub on_turn : {work₀ work : List ℕ} {base height : ℕ} {codes : List ℕ} {list : Values} {i : ℕ} → Pushed work₀ work base height (height + i) (on_top (take i (values_of codes list))) → i < length (values_of codes list) → {c : ℕ} → CodeOf codes list i c → {work' : List ℕ} → Pushed work work' base (height + i) (height + i + 1) (operand_at_code ((c + 2) % word_bound) ∷ []) → Pushed work₀ work' base height (height + (i + 1)) (on_top (take (i + 1) (values_of codes list)))
 on_turn {height = height} {codes = codes} {list = list} {i = i} p h {c} a q =
     let vs = values_of codes list in
     let place : height + (i + 1) ≡ height + i + 1 = omega arith in
     let more : i + 1 ≡ suc i = omega arith in
-    let last : on_top (take (i + 1) vs) ≡ known (val_at_code c) ∷ on_top (take i vs) = ap (λ (k : ℕ). on_top (take k vs)) more ∙ ap (map known) (reverse_there vs i (a.is (omega (arith, p.long)))) in
-    record {
-      long = p.long;
-      up_to = omega arith;
-      pushed = rw (place, last, ← known_kept a.small) (pushed_more (omega arith) p.pushed q);
-    }
-
-pub ruleset on_exits = (pushed_one, on-first, on_size, on_all, place_fits, on_room, on_turn)
+    let last : on_top (take (i + 1) vs) ≡ known (val_at_code c) ∷ on_top (take i vs) = ap (λ (k : ℕ). on_top (take k vs)) more ∙ ap (map known) (reverse_there vs i (a.is h)) in
+    rw (place, last, ← known_kept a.small) (pushed_more (omega arith) p q)

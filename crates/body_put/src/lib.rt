@@ -37,11 +37,8 @@ pub fn push_list(
     ensures { let vs = values_of (both_codes shared.now codes.now) list in
         Pushed work.old work.new base height (height + length vs) (on_top vs) }
 {
-    let n = body_state::length_of(list);
-    let mut i: u32 = 0;
-    while i < n {
+    for i in 0..body_state::length_of(list) {
         let code = body_state::code_of(shared, codes, list, i);
         push(work, base, height + i, code + KNOWN);
-        i = i + 1;
     }
 }

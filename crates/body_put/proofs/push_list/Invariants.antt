@@ -1,11 +1,10 @@
-use Prim.Native.Nat.{◌-◌}
-use Rattle.body_state.specs.State.{values_of}
-use Rattle.body_put.proofs.OnTop.{FirstOn}
+use Prim.Native.Nat.{◌+◌}
+use lib.ListN.{take}
+use Rattle.scope.specs.Bodies.{on_top}
 use Rattle.type_table.specs.View.{both_codes}
+use Rattle.body_state.specs.State.{values_of}
+use Rattle.body_put.specs.Putting.{Pushed}
 use Rattle.body_put.proofs.push_list.Given as goal
 
 abbrev pub invariant-loop-i : goal.invariant-loop-i
-invariant-loop-i l = FirstOn l.initial.work l.work l.base l.height (values_of (both_codes l.shared l.codes) l.list) l.n l.i
-
-abbrev pub decreases-loop-i : goal.decreases-loop-i
-decreases-loop-i l = l.n - l.i
+invariant-loop-i l = Pushed l.initial.work l.work l.base l.height (l.height + l.i) (on_top (take l.i (values_of (both_codes l.shared l.codes) l.list)))
