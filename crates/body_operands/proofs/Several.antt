@@ -7,12 +7,11 @@ use mathlib.Core.Option.{some}
 use mathlib.Core.List.{List, [], ◌∷◌, ◌++◌, map}
 use native.Mathlib.Omega.{arith}
 use lib.ListN.{length, get_elem?, take}
-use lib.Seq.{take_all as take_whole}
 use Rattle.scope.specs.Syntax.{Types, Val}
 use Rattle.scope.specs.BodyRules.{Wanted, value, Ruled, and_ruled, from_top}
 use Rattle.scope.specs.Bodies.{Operand, take_all}
 use Rattle.body_state.specs.declared.Values.{Values}
-use Rattle.body_state.specs.State.{wanted_at_code, values_of, stack, LengthOf, CodeOf}
+use Rattle.body_state.specs.State.{wanted_at_code, values_of, stack, CodeOf}
 use Rattle.body_words.proofs.Laws.{value_code, reverse_there}
 use Rattle.body_take.specs.declared.Take.{Take}
 use Rattle.body_take.specs.declared.Take
@@ -25,13 +24,7 @@ use Rattle.body_operands.proofs.Laws.{left-append}
 -- a list
 
 pub record FromTop (ts : Types) (dead : Bool) (work : List ℕ) (base height : ℕ) (vs : List Val) (left i : ℕ) : Type 0 where
-  pub up_to : i ≤ length vs
   pub same : left_in (take_all ts dead (from_top vs) (stack work base height)) ≡ left_in (take_all ts dead (from_top (take i vs)) (stack work base left))
-
-pub list_first : (ts : Types) (dead : Bool) (work : List ℕ) (base height : ℕ) (codes : List ℕ) {list : Values} {n : ℕ} → LengthOf list n → FromTop ts dead work base height (values_of codes list) height n
-list_first ts dead work base height codes {list} {n} a =
-    let long : length (values_of codes list) ≡ n = a.is codes in
-    record { up_to = omega arith; same = rw (take_whole n (values_of codes list) (omega arith)) }
 
 module _ {ts : Types} {dead : Bool} {work : List ℕ} {base height : ℕ} {vs : List Val} {left i : ℕ} (p : FromTop ts dead work base height vs left i) where
   pub list_done : i ≤ 0 → left_of work base (Left.TheVariants.Is left) ≡ left_in (take_all ts dead (from_top vs) (stack work base height))
@@ -47,15 +40,15 @@ module _ {ts : Types} {dead : Bool} {work : List ℕ} {base height : ℕ} {vs : 
       ∙ ap (λ (ws : List Wanted). left_in (take_all ts dead ws (stack work base left))) last
       ∙ left-append ts dead (value v ∷ []) (from_top (take (i - 1) vs)) (stack work base left)
 
-module _ {ts : Types} {dead : Bool} {work : List ℕ} {base height : ℕ} {codes : List ℕ} {list : Values} {left i : ℕ} (p : FromTop ts dead work base height (values_of codes list) left i) (h : 0 < i) {c : ℕ} (a : CodeOf codes list (i - 1) c) where
+module _ {ts : Types} {dead : Bool} {work : List ℕ} {base height : ℕ} {codes : List ℕ} {list : Values} {left i : ℕ} (p : FromTop ts dead work base height (values_of codes list) left i) (h : 0 < i) (l : i ≤ length (values_of codes list)) {c : ℕ} (a : CodeOf codes list (i - 1) c) where
   list_one : (r : Take) → took_of work base r ≡ take_all ts dead (wanted_at_code (c + 2) ∷ []) (stack work base left) → left_in (take_all ts dead (from_top (values_of codes list)) (stack work base height)) ≡ and_ruled (left_in (took_of work base r)) (λ more. left_in (take_all ts dead (from_top (take (i - 1) (values_of codes list))) more))
-  list_one r b = list_next p h (a.is (omega (arith, p.up_to))) ∙ rw (b, value_code c)
+  list_one r b = list_next p h (a.is (omega arith)) ∙ rw (b, value_code c)
 
   pub list_missed : {r : Take} {number : ℕ} → r ≡ Take.TheVariants.Fault number → took_of work base r ≡ take_all ts dead (wanted_at_code (c + 2) ∷ []) (stack work base left) → left_of work base (Left.TheVariants.Fault number) ≡ left_in (take_all ts dead (from_top (values_of codes list)) (stack work base height))
   list_missed {r} e b = sym (rw e at (list_one r b))
 
   pub list_turn : {r : Take} {o fewer : ℕ} → r ≡ Take.TheVariants.Took o fewer → took_of work base r ≡ take_all ts dead (wanted_at_code (c + 2) ∷ []) (stack work base left) → FromTop ts dead work base height (values_of codes list) fewer (i - 1)
-  list_turn {r} e b = record { up_to = omega (arith, p.up_to); same = rw e at (list_one r b) }
+  list_turn {r} e b = record { same = rw e at (list_one r b) }
 
 -- a plan
 
@@ -66,4 +59,4 @@ module _ (ts : Types) (dead : Bool) (work : List ℕ) (base : ℕ) (ws vs : List
   pub part_got : {h : ℕ} → r ≡ Left.TheVariants.Is h → left_of work base r ≡ left_in (take_all ts dead ws os) → {x : Ruled (List Operand)} → x ≡ left_in (take_all ts dead vs (stack work base h)) → x ≡ left_in (take_all ts dead (ws ++ vs) os)
   part_got e a b = rw (left-append ts dead ws vs os, ← a, e) b
 
-pub ruleset several_exits = (list_first, list_done, list_missed, list_turn, part_missed, part_got)
+pub ruleset several_exits = (list_done, list_missed, list_turn, part_missed, part_got)

@@ -64,11 +64,9 @@ pub fn take_list(
         let wants = from_top (values_of (both_codes shared.now codes.now) list) in
         left_of words base result ≡ left_in (take_all types dead wants (stack words base height)) }
 {
-    let mut i = body_state::length_of(list);
     let mut left = height;
-    while 0 < i {
-        let last = i - 1;
-        let code = body_state::code_of(shared, codes, list, last);
+    for i in (0..body_state::length_of(list)).rev() {
+        let code = body_state::code_of(shared, codes, list, i);
         let taken = body_take::take_one(rows, shared, codes, work, code + KNOWN, base, left, dead);
         match taken {
             Take::Fault(number) => {
@@ -76,7 +74,6 @@ pub fn take_list(
             }
             Take::Took(_, fewer) => {
                 left = fewer;
-                i = last;
             }
         }
     }
