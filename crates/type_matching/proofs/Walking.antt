@@ -1,24 +1,22 @@
--- The loops over two lists of codes and the two tests over lists walk the same codes: where a pair matches, the test of the whole is
+-- The loop over two lists of codes and the two tests over lists walk the same codes: where a pair matches, the test of the whole is
 -- that of the rest, and where it does not, the test fails.
-use Prim.Native.Nat.{ℕ, zero, suc, ◌+◌, ◌-◌, ◌/◌, ◌%◌, ◌≤◌, ◌<◌, ◌^◌}
+use Prim.Native.Nat.{ℕ, zero, suc, ◌+◌, ◌-◌, ◌/◌, ◌%◌, ◌≤◌, ◌<◌}
 use mathlib.Core.Path.{◌≡◌, refl, sym, ap, ◌∙◌}
 use mathlib.Core.Bool.{Bool, true, false, not, ◌&&◌}
-use mathlib.Core.List.{List, [], ◌∷◌}
+use mathlib.Core.List.{List, ◌∷◌}
 use native.Mathlib.Omega.{arith}
-use borrow.Author.Tests.{eq-eqb, ne_eqb, not-true, not-false}
-use lib.Dec.{eqb}
-use mir.Syntax.{w32, w64}
-use mir.Val.{Fits}
+use Rattle.std.proofs.Math.Bool.{and-false}
+use borrow.Author.Tests.{eq-eqb, ne_eqb, eqb-true, eqb-false, leb-true, leb-false, not-true, not-false}
 use Rattle.scope.specs.Lists.{pairwise, prefixwise}
-use Rattle.scope.specs.Syntax.{Field, Types}
+use Rattle.scope.specs.Syntax.{Types}
 use Rattle.scope.specs.Order.{val_below, same_val}
 use Rattle.scope.specs.TypeRules.{field_matches}
 use Rattle.scope.specs.Layout.{codes_size}
 use Rattle.lent_u16.specs.Words.{WordAt}
 use Rattle.type_table.specs.View.{val_at_code, field_at_code, codes_at, both_codes}
-use Rattle.type_table.proofs.Laws.{no-codes, first_code}
+use Rattle.type_table.proofs.Laws.{first_code}
 use Rattle.type_table.proofs.Sides.{own_codes, shared-codes}
-use Rattle.type_matching.specs.Lists.{code_matches, codes_match}
+use Rattle.type_matching.specs.Lists.{code_matches, enough, codes_match}
 
 -- one field against another: by the four cases of mutability
 
@@ -67,76 +65,69 @@ module _ (fields : Bool) (ts : Types) (codes : List ℕ) {at left up more a b : 
       go true = taken (prefixwise (field_matches ts)) (field_matches ts) (λ x y xs ys. refl) field_at_code codes l m p q
       go false = taken (pairwise (val_below ts)) (val_below ts) (λ x y xs ys. refl) val_at_code codes l m p q
 
--- the ends
+-- too few, or not as many
 
-too_few : (fields : Bool) (ts : Types) (codes : List ℕ) (at left up more : ℕ) → left ≤ 0 → 0 < more → codes_match fields ts codes at left up more ≡ false
+too_few : (ts : Types) (codes : List ℕ) (i n j m : ℕ) → n < m → codes_match true ts codes i n j m ≡ false
 unfolding codes_match codes_at
-too_few fields ts codes at left up zero l m = absurd (omega arith)
-too_few true ts codes at left up (suc more) l m = rw (no-codes field_at_code codes at left l)
-too_few false ts codes at left up (suc more) l m = rw (no-codes val_at_code codes at left l)
+too_few ts codes i n j zero h = absurd (omega arith)
+too_few ts codes i zero j (suc m) h = refl
+too_few ts codes i (suc n) j (suc m) h = rw (too_few ts codes (i + 1) n (j + 1) m (omega arith)) (and-false _)
 
-no_more_fields : (ts : Types) (codes : List ℕ) (at left up more : ℕ) → more ≤ 0 → codes_match true ts codes at left up more ≡ true
-unfolding codes_match
-no_more_fields ts codes at left up more m = rw (no-codes field_at_code codes up more m) (go (codes_at field_at_code codes at left))
-  where
-    go : (fs : List Field) → prefixwise (field_matches ts) fs [] ≡ true
-    go [] = refl
-    go (f ∷ fs) = refl
-
-no_more_values : (ts : Types) (codes : List ℕ) (at left up more : ℕ) → more ≤ 0 → codes_match false ts codes at left up more ≡ eqb left 0
+not_as_many : (ts : Types) (codes : List ℕ) (i n j m : ℕ) → (n ≡ m → ⊥) → codes_match false ts codes i n j m ≡ false
 unfolding codes_match codes_at
-no_more_values ts codes at zero up more m = rw (no-codes val_at_code codes up more m)
-no_more_values ts codes at (suc left) up more m = rw (no-codes val_at_code codes up more m) (sym (ne_eqb (suc left) 0 (λ e. omega arith)))
+not_as_many ts codes i zero j zero h = absurd (h refl)
+not_as_many ts codes i zero j (suc m) h = refl
+not_as_many ts codes i (suc n) j zero h = refl
+not_as_many ts codes i (suc n) j (suc m) h = rw (not_as_many ts codes (i + 1) n (j + 1) m (λ e. omega arith)) (and-false _)
 
--- what the loop holds
+-- and none left to match
 
-pub record Walk (fields : Bool) (ts : Types) (codes : List ℕ) (i n j m at left up more : ℕ) : Type 0 where
-  pub same : codes_match fields ts codes i n j m ≡ codes_match fields ts codes at left up more
-  pub near : at + left < 2 ^ 33
-  pub near_up : up + more < 2 ^ 33
+fields_done : (ts : Types) (codes : List ℕ) (i n j : ℕ) → codes_match true ts codes i n j 0 ≡ true
+unfolding codes_match codes_at
+fields_done ts codes i zero j = refl
+fields_done ts codes i (suc n) j = refl
 
-pub walk_first : (fields : Bool) (ts : Types) (codes : List ℕ) (i n j m : ℕ) → Fits w32 i → Fits w32 n → Fits w32 j → Fits w32 m → Walk fields ts codes i n j m i n j m
-walk_first fields ts codes i n j m a b c d =
-    let p : i < 2 ^ 32 = a.fits in
-    let q : n < 2 ^ 32 = b.fits in
-    let r : j < 2 ^ 32 = c.fits in
-    let s : m < 2 ^ 32 = d.fits in
-    record { same = refl; near = omega arith; near_up = omega arith }
+ample_more : (fields : Bool) (n m : ℕ) → enough fields n m ≡ true → m ≤ n
+ample_more true n m e = leb-true m n e
+ample_more false n m e = let same = eqb-true n m e in omega arith
 
-module _ {fields : Bool} {ts : Types} {codes : List ℕ} {i n j m at left up more : ℕ} (w : Walk fields ts codes i n j m at left up more) where
-  pub walk_short : 0 < more → left ≡ 0 → false ≡ codes_match fields ts codes i n j m
-  walk_short h e = sym (w.same ∙ too_few fields ts codes at left up more (omega arith) h)
+all_matched : (fields : Bool) (ts : Types) (codes : List ℕ) (at n up m k : ℕ) → enough fields n m ≡ true → m ≤ k → codes_match fields ts codes at (n - k) up (m - k) ≡ true
+unfolding codes_match codes_at
+all_matched true ts codes at n up m k e h = let none : m - k ≡ 0 = omega arith in rw none (fields_done ts codes at (n - k) up)
+all_matched false ts codes at n up m k e h = let same = eqb-true n m e in let none : m - k ≡ 0 = omega arith in rw (same, none)
 
-  pub walk_fields_done : more ≤ 0 → fields ≡ true → true ≡ codes_match fields ts codes i n j m
-  walk_fields_done h t = sym (w.same ∙ ap (λ (f : Bool). codes_match f ts codes at left up more) t ∙ no_more_fields ts codes at left up more h)
+-- what the loop holds after k pairs
 
-  pub walk_values-done : more ≤ 0 → fields ≡ false → eqb left 0 ≡ codes_match fields ts codes i n j m
-  walk_values-done h t = sym (w.same ∙ ap (λ (f : Bool). codes_match f ts codes at left up more) t ∙ no_more_values ts codes at left up more h)
+pub record Walk (fields : Bool) (ts : Types) (codes : List ℕ) (i n j m k : ℕ) : Type 0 where
+  pub same : codes_match fields ts codes i n j m ≡ codes_match fields ts codes (i + k) (n - k) (j + k) (m - k)
+  pub ample : enough fields n m ≡ true
 
-  pub next_fits : Fits w64 (at + 1)
-  next_fits = let h : at + left < 2 ^ 33 = w.near in record { fits = omega arith }
+module _ (ts : Types) (codes : List ℕ) (i n j m : ℕ) where
+  pub walk_short : {r : Bool} (fields : Bool) → r ≡ enough fields n m → not r ≡ true → false ≡ codes_match fields ts codes i n j m
+  walk_short {r} true e t = sym (too_few ts codes i n j m (leb-false m n (sym e ∙ not-true r t)))
+  walk_short {r} false e t = sym (not_as_many ts codes i n j m (eqb-false n m (sym e ∙ not-true r t)))
 
-  pub next_up_fits : Fits w64 (up + 1)
-  next_up_fits = let h : up + more < 2 ^ 33 = w.near_up in record { fits = omega arith }
+module _ {fields : Bool} {ts : Types} {codes : List ℕ} {i n j m k : ℕ} (w : Walk fields ts codes i n j m k) where
+  pub walk_done : m ≤ k → true ≡ codes_match fields ts codes i n j m
+  walk_done h = sym (w.same ∙ all_matched fields ts codes (i + k) n (j + k) m k w.ample h)
 
-  module _ (h : 0 < more) (k : left ≡ 0 → ⊥) {a b : ℕ} (p : WordAt codes at a) (q : WordAt codes up b) {r : Bool} (e : r ≡ code_matches fields ts a b) where
-    whole : codes_match fields ts codes i n j m ≡ (r && codes_match fields ts codes (at + 1) (left - 1) (up + 1) (more - 1))
-    whole = w.same ∙ pair-taken fields ts codes (omega arith) h p q ∙ ap (λ (t : Bool). t && codes_match fields ts codes (at + 1) (left - 1) (up + 1) (more - 1)) (sym e)
+  module _ (h : k < m) {a b : ℕ} (p : WordAt codes (i + k) a) (q : WordAt codes (j + k) b) {r : Bool} (e : r ≡ code_matches fields ts a b) where
+    whole : codes_match fields ts codes i n j m ≡ (r && codes_match fields ts codes (i + (k + 1)) (n - (k + 1)) (j + (k + 1)) (m - (k + 1)))
+    whole =
+        let more = ample_more fields n m w.ample in
+        let at : i + k + 1 ≡ i + (k + 1) = omega arith in
+        let up : j + k + 1 ≡ j + (k + 1) = omega arith in
+        let left : n - k - 1 ≡ n - (k + 1) = omega arith in
+        let rest : m - k - 1 ≡ m - (k + 1) = omega arith in
+        w.same ∙ rw (← at, ← up, ← left, ← rest, e) (pair-taken fields ts codes (omega arith) (omega arith) p q)
 
     pub walk_stopped : not r ≡ true → false ≡ codes_match fields ts codes i n j m
-    walk_stopped t = sym (whole ∙ ap (λ (s : Bool). s && codes_match fields ts codes (at + 1) (left - 1) (up + 1) (more - 1)) (not-true r t))
+    walk_stopped t = sym (whole ∙ ap (λ (s : Bool). s && codes_match fields ts codes (i + (k + 1)) (n - (k + 1)) (j + (k + 1)) (m - (k + 1))) (not-true r t))
 
-    pub walk_turn : not r ≡ false → Walk fields ts codes i n j m (at + 1) (left - 1) (up + 1) (more - 1)
-    walk_turn t =
-        let c : at + left < 2 ^ 33 = w.near in
-        let d : up + more < 2 ^ 33 = w.near_up in
-        record {
-          same = whole ∙ ap (λ (s : Bool). s && codes_match fields ts codes (at + 1) (left - 1) (up + 1) (more - 1)) (not-false r t);
-          near = omega arith;
-          near_up = omega arith;
-        }
+    pub walk_turn : not r ≡ false → Walk fields ts codes i n j m (k + 1)
+    walk_turn t = record { same = whole ∙ ap (λ (s : Bool). s && codes_match fields ts codes (i + (k + 1)) (n - (k + 1)) (j + (k + 1)) (m - (k + 1))) (not-false r t); ample = w.ample }
 
-pub ruleset walk_exits = (walk_first, walk_short, walk_fields_done, walk_values-done, next_fits, next_up_fits, walk_stopped, walk_turn)
+pub ruleset walk_exits = (walk_short, walk_done, walk_stopped, walk_turn)
 
 -- codes that all lie in one part
 

@@ -2,12 +2,13 @@
 // other in the table; each answer is the rule's (scope's TypeRules.antt) over what the table says, for any words.
 #![tactic(auto)]
 
-ghost use Rattle.std.specs.Prelude.{◌≡◌};
+ghost use Rattle.std.specs.Prelude.{◌≡◌, ℕ, List};
 ghost use Rattle.scope.specs.Syntax.{struct, func};
 ghost use Rattle.scope.specs.Order.{val_below};
 ghost use Rattle.scope.specs.TypeRules.{field_matches, form_matches, matches_super};
 ghost use Rattle.type_table.specs.View.{val_at_code, field_at_code, codes_at, view, both_codes};
-ghost use Rattle.type_matching.specs.Lists.{code_matches, codes_match};
+ghost use Rattle.lent_u16.specs.Words.{WordAt};
+ghost use Rattle.type_matching.specs.Lists.{code_matches, enough, codes_match};
 ghost use Rattle.type_hierarchy.specs.Ranged.{Ranged};
 
 use type_fit::Fit;
@@ -62,88 +63,47 @@ fn code_matches(rows: &[u16], shared: &[u16], codes: &[u16], fields: bool, a: u6
     }
 }
 
-// The n codes from i on of one section's against its m codes from j on.
-fn list_matches(
+// Of fields a subtype has at least as many, of value types just as many.
+fn enough(fields: bool, n: u32, m: u32) -> bool
+    ensures { result ≡ enough fields n m }
+{
+    if fields { m <= n } else { n == m }
+}
+
+// The n codes from i on against the m codes from j on, one by one, each as `word` reads it from the list.
+fn list_matches<W: Fn(u64) -> u64>(
     rows: &[u16],
     shared: &[u16],
     codes: &[u16],
-    list: &[u16],
+    word: W,
     fields: bool,
     i: u32,
     n: u32,
     j: u32,
     m: u32,
 ) -> bool
-    requires { Ranged rows.now (both_codes shared.now codes.now) }
+    ghost list: { List ℕ }
+    requires ranged { Ranged rows.now (both_codes shared.now codes.now) }
+    requires callable { W.IsAlwaysCallable word }
+    requires reads { (at r : ℕ) → W.post word at r → WordAt list at r }
     ensures { let types = view rows.now (both_codes shared.now codes.now) in
-        result ≡ codes_match fields types list.now i n j m }
+        result ≡ codes_match fields types list i n j m }
 {
-    let mut at = i as u64;
-    let mut left = n as u64;
-    let mut up = j as u64;
-    let mut more = m as u64;
-    while 0 < more {
-        if left == 0 {
-            return false;
-        }
-        let a = lent_u16::word(list, at);
-        let b = lent_u16::word(list, up);
+    if !enough(fields, n, m) {
+        return false;
+    }
+    for k in 0..m as u64 {
+        let a = word(i as u64 + k);
+        let b = word(j as u64 + k);
         if !code_matches(rows, shared, codes, fields, a, b) {
             return false;
         }
-        at = at + 1;
-        left = left - 1;
-        up = up + 1;
-        more = more - 1;
     }
-    if fields {
-        return true;
-    }
-    left == 0
+    true
 }
 
-// The n codes from i on against the m codes from j on, each looked up by its place: those of an add-on's type against those of a
-// library's, say.
-fn any_match(
-    rows: &[u16],
-    shared: &[u16],
-    codes: &[u16],
-    fields: bool,
-    i: u32,
-    n: u32,
-    j: u32,
-    m: u32,
-) -> bool
-    requires { Ranged rows.now (both_codes shared.now codes.now) }
-    ensures { let both = both_codes shared.now codes.now in
-        result ≡ codes_match fields (view rows.now both) both i n j m }
-{
-    let mut at = i as u64;
-    let mut left = n as u64;
-    let mut up = j as u64;
-    let mut more = m as u64;
-    while 0 < more {
-        if left == 0 {
-            return false;
-        }
-        let a = type_table::code_word(shared, codes, at);
-        let b = type_table::code_word(shared, codes, up);
-        if !code_matches(rows, shared, codes, fields, a, b) {
-            return false;
-        }
-        at = at + 1;
-        left = left - 1;
-        up = up + 1;
-        more = more - 1;
-    }
-    if fields {
-        return true;
-    }
-    left == 0
-}
-
-// The n codes from i on against the m codes from j on, one by one. Of fields there are at least as many, of value types
-// just as many. A type has all of its codes in one buffer: where both types are of one section, the walk does not ask which at each.
+// The n codes from i on against the m codes from j on. A type has all of its codes in one buffer: where both types are of one section,
+// the walk does not ask which at each; an add-on's type against a library's, say, has each code looked up by its place.
 fn codes_match(
     rows: &[u16],
     shared: &[u16],
@@ -160,19 +120,18 @@ fn codes_match(
 {
     let end = i as u64 + n as u64;
     let up_end = j as u64 + m as u64;
-    if end <= type_table::SHARED {
-        if up_end <= type_table::SHARED {
-            return list_matches(rows, shared, codes, codes, fields, i, n, j, m);
-        }
+    if end <= type_table::SHARED && up_end <= type_table::SHARED {
+        let word = |at: u64| lent_u16::word(codes, at);
+        return list_matches(rows, shared, codes, word, fields, i, n, j, m);
     }
-    if SHARED <= i {
-        if SHARED <= j {
-            let at = i - SHARED;
-            let up = j - SHARED;
-            return list_matches(rows, shared, codes, shared, fields, at, n, up, m);
-        }
+    if SHARED <= i && SHARED <= j {
+        let word = |at: u64| lent_u16::word(shared, at);
+        let at = i - SHARED;
+        let up = j - SHARED;
+        return list_matches(rows, shared, codes, word, fields, at, n, up, m);
     }
-    any_match(rows, shared, codes, fields, i, n, j, m)
+    let word = |at: u64| type_table::code_word(shared, codes, at);
+    list_matches(rows, shared, codes, word, fields, i, n, j, m)
 }
 
 // A struct of n fields from i on against the form of p.

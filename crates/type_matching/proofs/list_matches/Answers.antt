@@ -3,44 +3,14 @@ use borrow.Author.Rules.{rules}
 use Rattle.type_matching.proofs.Walking.{walk_exits}
 use Rattle.type_matching.proofs.list_matches.Goals as goal
 
-pub loop-more-init : goal.loop-more-init
-loop-more-init c = search (walk_exits, rules)
-
-pub returns-then-left-eq0 : goal.returns-then-left-eq0
-returns-then-left-eq0 c = search (walk_exits, rules)
-
-pub word-a-requires : goal.word-a-requires
-word-a-requires c = search (walk_exits, rules)
-
-pub word-b-requires : goal.word-b-requires
-word-b-requires c = search (walk_exits, rules)
-
-pub code_matches-requires : goal.code_matches-requires
-code_matches-requires c = search (walk_exits, rules)
+pub returns-then-not-enough : goal.returns-then-not-enough
+returns-then-not-enough g c = search (walk_exits, rules)
 
 pub returns-then-not-code_matches : goal.returns-then-not-code_matches
-returns-then-not-code_matches c = search (walk_exits, rules)
+returns-then-not-code_matches g c = search (walk_exits, c.requires.1.1.1, rules)
 
-pub overflow_add-at : goal.overflow_add-at
-overflow_add-at c = search (walk_exits, rules)
-
-pub overflow_sub-left : goal.overflow_sub-left
-overflow_sub-left c = search (walk_exits, rules)
-
-pub overflow_add-up : goal.overflow_add-up
-overflow_add-up c = search (walk_exits, rules)
-
-pub overflow_sub-more : goal.overflow_sub-more
-overflow_sub-more c = search (walk_exits, rules)
-
-pub loop-more-smaller : goal.loop-more-smaller
-loop-more-smaller c = search (walk_exits, rules)
-
-pub loop-more-preserved : goal.loop-more-preserved
-loop-more-preserved c = search (walk_exits, rules)
-
-pub returns-then-fields : goal.returns-then-fields
-returns-then-fields c = search (walk_exits, rules)
+pub loop-k-preserved : goal.loop-k-preserved
+loop-k-preserved g c = search (walk_exits, c.requires.1.1.1, rules)
 
 pub returns : goal.returns
-returns c = search (walk_exits, rules)
+returns g c = search (walk_exits, rules)
