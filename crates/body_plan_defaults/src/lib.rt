@@ -12,8 +12,7 @@ use type_table::ValKind;
 fn has_default(code: u64) -> bool
     ensures { result ≡ has_default (val_at_code code) }
 {
-    let val = type_table::val_of(code);
-    match val {
+    match type_table::val_of(code) {
         ValKind::Number(_) => true,
         ValKind::Ref(null, _) => null,
     }
@@ -23,26 +22,16 @@ fn has_default(code: u64) -> bool
 fn type_of(fields: bool, word: u64) -> u64
     ensures { result ≡ type_of fields word }
 {
-    if fields {
-        return word / 2;
-    }
-    word
+    if fields { word / 2 } else { word }
 }
 
 // Whether each of n fields, or of n types, whose codes start at `first` has a default.
 pub fn all_default(shared: &[u16], codes: &[u16], first: u32, n: u32, fields: bool) -> bool
     ensures { result ≡ all_default fields (both_codes shared.now codes.now) first n }
 {
-    let mut at = first as u64;
-    let mut left = n as u64;
-    while 0 < left {
+    let start = first as u64;
+    (start..start + n as u64).all(|at| {
         let word = type_table::code_word(shared, codes, at);
-        let code = type_of(fields, word);
-        if !has_default(code) {
-            return false;
-        }
-        at = at + 1;
-        left = left - 1;
-    }
-    true
+        has_default(type_of(fields, word))
+    })
 }
