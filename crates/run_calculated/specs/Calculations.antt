@@ -1,6 +1,6 @@
 -- What a numeric code comes to on the two topmost operands alone: the machine's `calculate` (scope's Machine.antt) without the
 -- rest of the machine. proofs/Laws.antt says that it is the machine's `do_numeric`.
-use Rattle.std.specs.Prelude.{ℕ, ◌≡◌, Bool, cond}
+use Rattle.std.specs.Prelude.{ℕ, ◌≡◌, Bool, cond, Option as Perhaps, Some, None}
 use Rattle.std.proofs.Math.Option.{Option, none, some}
 use Rattle.scope.specs.Reading.{given}
 use Rattle.scope.specs.Syntax.{Number, i32}
@@ -46,6 +46,11 @@ told (Calculated.TheVariants.OfOne v) = one_gives (decoded v)
 told (Calculated.TheVariants.OfTwo v) = two_give (decoded v)
 told Calculated.TheVariants.Other = other
 told Calculated.TheVariants.Wrong = wrong
+
+-- what the code may have none of, as the definitions write it
+abbrev pub perhaps : {A : Type 0} → Perhaps A → Option A
+perhaps (Some a) = some a
+perhaps None = none
 
 -- the answers
 

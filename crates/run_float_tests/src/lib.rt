@@ -9,8 +9,6 @@ ghost use Rattle.run_calculated.specs.Calculations.{TwoIs};
 ghost use Rattle.run_float_tests.specs.FloatTests.{holds_of, float_test_bits};
 
 use run_calculated::Calculated;
-use run_floats_32::Single32;
-use run_floats_64::Double64;
 use run_value::Value;
 
 // eq, ne, lt, gt, le, ge.
@@ -43,10 +41,10 @@ pub fn compared_32(test: FloatTest, first: Value, second: Value) -> Calculated
     let below = run_floats_32::single_of(second);
     let top = run_floats_32::single_of(first);
     match top {
-        Single32::Wrong => Calculated::Wrong,
-        Single32::Is(y) => match below {
-            Single32::Wrong => Calculated::Wrong,
-            Single32::Is(x) => {
+        None => Calculated::Wrong,
+        Some(y) => match below {
+            None => Calculated::Wrong,
+            Some(x) => {
                 let holds = holds_32(test, x, y);
                 let v = run_calculated::truth(holds);
                 Calculated::OfTwo(v)
@@ -74,10 +72,10 @@ pub fn compared_64(test: FloatTest, first: Value, second: Value) -> Calculated
     let below = run_floats_64::double_of(second);
     let top = run_floats_64::double_of(first);
     match top {
-        Double64::Wrong => Calculated::Wrong,
-        Double64::Is(y) => match below {
-            Double64::Wrong => Calculated::Wrong,
-            Double64::Is(x) => {
+        None => Calculated::Wrong,
+        Some(y) => match below {
+            None => Calculated::Wrong,
+            Some(x) => {
                 let holds = holds_64(test, x, y);
                 let v = run_calculated::truth(holds);
                 Calculated::OfTwo(v)

@@ -1,5 +1,6 @@
 -- Each way out of the f32 instructions that give a float.
 use Rattle.std.proofs.Common.{◌≡◌, ℕ, ◌+◌, ◌%◌, ◌^◌, ◌<◌, Bool, true, List, [], ◌∷◌, refl, ap, ◌∙◌, inl, inr, mod-eq_of_lt, arith, le-leb}
+use Rattle.std.specs.Prelude.{Option as Perhaps, Some, None}
 use mathlib.Core.Option.{some}
 use types.Run.{OneOf, miss}
 use lib.Ieee.{Float, binary32, fits, nan_bits, of_bits, to_bits, ne, div}
@@ -17,31 +18,29 @@ use Rattle.run_value.specs.contracts.Value.{the_type}
 use Rattle.run_value.specs.Carried.{SingleIs}
 use Rattle.run_value.proofs.Exits.{number_32, nan_bits_32}
 use Rattle.run_calculated.specs.declared.Calculated
-use Rattle.run_calculated.specs.Calculations.{OneIs, TwoIs}
+use Rattle.run_calculated.specs.Calculations.{perhaps, OneIs, TwoIs}
 use Rattle.run_calculated.proofs.Exits.{one_is, one_wrong, first_wrong, second_wrong}
 use Rattle.run_float_deeds.specs.declared.FloatDeed.{FloatDeed}
 use Rattle.run_float_deeds.specs.FloatDeeds.{operated, deed_bits}
 use Rattle.run_float_deeds.proofs.Bits.{zero_number, read_back, no_number, none_of, bits_of, reckoned}
-use Rattle.run_floats_32.specs.declared.Single32
-use Rattle.run_floats_32.specs.declared.Single32.{Single32}
-use Rattle.run_floats_32.specs.Singles.{single32, Single32Read}
+use Rattle.run_floats_32.specs.Singles.{Single32Read}
 
 -- the other cases of a value
 abbrev other_tags_32 : List ℕ
 other_tags_32 = 0 ∷ 1 ∷ 3 ∷ 5 ∷ 6 ∷ 7 ∷ []
 
 module _ {v : Carrier} where
-  pub read_32 : {x : Float} → v ≡ Value.TheVariants.F32 x → fits binary32 x ≡ true → Single32Read v (Single32.TheVariants.Is x)
+  pub read_32 : {x : Float} → v ≡ Value.TheVariants.F32 x → fits binary32 x ≡ true → Single32Read v (Some x)
   read_32 {x} e h = record { is = rw e (ap some (read_back binary32 x h)) }
 
   module _ {b : ℕ} (e : v ≡ Value.TheVariants.Nan32 b) (h : b < 2 ^ 32) where
-    pub read_nan_32 : {r : Bool} → r ≡ nan_bits binary32 b → r ≡ true → Single32Read v (Single32.TheVariants.Is (div binary32 (of_bits binary32 0) (of_bits binary32 0)))
+    pub read_nan_32 : {r : Bool} → r ≡ nan_bits binary32 b → r ≡ true → Single32Read v (Some (div binary32 (of_bits binary32 0) (of_bits binary32 0)))
     read_nan_32 t z = record { is = rw (e, mod-eq_of_lt h) (ap some (no_number binary32 b t z)) }
 
-    pub read_bits_32 : Single32Read v (Single32.TheVariants.Is (of_bits binary32 b))
+    pub read_bits_32 : Single32Read v (Some (of_bits binary32 b))
     read_bits_32 = record { is = rw (e, mod-eq_of_lt h) refl }
 
-pub read_wrong_32 : (v : Carrier) → OneOf other_tags_32 (tag_of the_type v) → Single32Read v Single32.TheVariants.Wrong
+pub read_wrong_32 : (v : Carrier) → OneOf other_tags_32 (tag_of the_type v) → Single32Read v None
 read_wrong_32 (Value.TheVariants.I32 n) h = record { is = refl }
 read_wrong_32 (Value.TheVariants.I64 n) h = record { is = refl }
 read_wrong_32 (Value.TheVariants.F32 x) h = absurd (miss other_tags_32 2 tt h)
@@ -57,16 +56,16 @@ result_nan_32 x e = record { is = ap (λ (n : ℕ). number f32 (within f32 n)) (
 pub result_32 : (x : Float) → SingleIs (to_bits binary32 x) (Value.TheVariants.F32 x)
 result_32 x = record { is = refl }
 
-module _ {first : Carrier} {y : Single32} (read : Single32Read first y) where
-  pub top_wrong_32 : y ≡ Single32.TheVariants.Wrong → (j : Number) (f : ℕ → ℕ → ℕ) {second : Carrier} → TwoIs f32 j f first second Calculated.TheVariants.Wrong
-  top_wrong_32 e j f = first_wrong f32 j f (none_of binary32 first (read.is ∙ ap single32 e))
+module _ {first : Carrier} {y : Perhaps Float} (read : Single32Read first y) where
+  pub top_wrong_32 : y ≡ None → (j : Number) (f : ℕ → ℕ → ℕ) {second : Carrier} → TwoIs f32 j f first second Calculated.TheVariants.Wrong
+  top_wrong_32 e j f = first_wrong f32 j f (none_of binary32 first (read.is ∙ ap perhaps e))
 
-  module _ {b : Float} (e : y ≡ Single32.TheVariants.Is b) {second : Carrier} {x : Single32} (below : Single32Read second x) where
-    pub below_wrong_32 : x ≡ Single32.TheVariants.Wrong → (j : Number) (f : ℕ → ℕ → ℕ) → TwoIs f32 j f first second Calculated.TheVariants.Wrong
-    below_wrong_32 g j f = second_wrong f32 j f (bits_of binary32 first (read.is ∙ ap single32 e)).are (none_of binary32 second (below.is ∙ ap single32 g))
+  module _ {b : Float} (e : y ≡ Some b) {second : Carrier} {x : Perhaps Float} (below : Single32Read second x) where
+    pub below_wrong_32 : x ≡ None → (j : Number) (f : ℕ → ℕ → ℕ) → TwoIs f32 j f first second Calculated.TheVariants.Wrong
+    below_wrong_32 g j f = second_wrong f32 j f (bits_of binary32 first (read.is ∙ ap perhaps e)).are (none_of binary32 second (below.is ∙ ap perhaps g))
 
-    pub reckoned_32_lem : (deed : FloatDeed) {a z : Float} {r : Carrier} → x ≡ Single32.TheVariants.Is a → z ≡ operated binary32 deed a b → SingleIs (to_bits binary32 z) r → TwoIs f32 f32 (deed_bits deed single) first second (Calculated.TheVariants.OfTwo r)
-    reckoned_32_lem deed g h is = reckoned binary32 deed (read.is ∙ ap single32 e) (below.is ∙ ap single32 g) h is.is
+    pub reckoned_32_lem : (deed : FloatDeed) {a z : Float} {r : Carrier} → x ≡ Some a → z ≡ operated binary32 deed a b → SingleIs (to_bits binary32 z) r → TwoIs f32 f32 (deed_bits deed single) first second (Calculated.TheVariants.OfTwo r)
+    reckoned_32_lem deed g h is = reckoned binary32 deed (read.is ∙ ap perhaps e) (below.is ∙ ap perhaps g) h is.is
 
 -- the sign's bit turned: half of all patterns further, and round
 

@@ -16,27 +16,20 @@ use run_calculated::Calculated;
 use run_float_deeds::FloatDeed;
 use run_value::Value;
 
-// An operand as the language's float, or one of another kind.
-#[derive(Clone, Copy)]
-pub enum Single32 {
-    Is(f32),
-    Wrong,
-}
-
-// A float that is no number is read as the language's one such: none of its bits is asked for again.
-pub fn single_of(v: Value) -> Single32
+// An operand as the language's float, if it is of the kind. A float that is no number is read as the language's one such: none of its bits is asked for again.
+pub fn single_of(v: Value) -> Option<f32>
     ensures { Single32Read v result }
 {
     match v {
-        Value::F32(x) => Single32::Is(x),
+        Value::F32(x) => Some(x),
         Value::Nan32(bits) => {
             if run_value::is_nan_32(bits) {
                 let zero = f32::from_bits(0);
-                return Single32::Is(zero / zero);
+                return Some(zero / zero);
             }
-            Single32::Is(f32::from_bits(bits))
+            Some(f32::from_bits(bits))
         }
-        _ => Single32::Wrong,
+        _ => None,
     }
 }
 
@@ -67,10 +60,10 @@ pub fn reckoned_32(deed: FloatDeed, first: Value, second: Value) -> Calculated
     let below = single_of(second);
     let top = single_of(first);
     match top {
-        Single32::Wrong => Calculated::Wrong,
-        Single32::Is(y) => match below {
-            Single32::Wrong => Calculated::Wrong,
-            Single32::Is(x) => {
+        None => Calculated::Wrong,
+        Some(y) => match below {
+            None => Calculated::Wrong,
+            Some(x) => {
                 let z = operated_32(deed, x, y);
                 let v = result_32(z);
                 Calculated::OfTwo(v)

@@ -1,5 +1,6 @@
 -- Each way out of the f64 instructions that give a float.
 use Rattle.std.proofs.Common.{◌≡◌, ℕ, ◌+◌, ◌%◌, ◌^◌, ◌<◌, Bool, true, List, [], ◌∷◌, refl, ap, ◌∙◌, inl, inr, mod-eq_of_lt, arith, le-leb}
+use Rattle.std.specs.Prelude.{Option as Perhaps, Some, None}
 use mathlib.Core.Option.{some}
 use types.Run.{OneOf, miss}
 use lib.Ieee.{Float, binary64, fits, nan_bits, of_bits, to_bits, ne, div}
@@ -17,31 +18,29 @@ use Rattle.run_value.specs.contracts.Value.{the_type}
 use Rattle.run_value.specs.Carried.{DoubleIs}
 use Rattle.run_value.proofs.Exits.{number_64, nan_bits_64}
 use Rattle.run_calculated.specs.declared.Calculated
-use Rattle.run_calculated.specs.Calculations.{OneIs, TwoIs}
+use Rattle.run_calculated.specs.Calculations.{perhaps, OneIs, TwoIs}
 use Rattle.run_calculated.proofs.Exits.{one_is, one_wrong, first_wrong, second_wrong}
 use Rattle.run_float_deeds.specs.declared.FloatDeed.{FloatDeed}
 use Rattle.run_float_deeds.specs.FloatDeeds.{operated, deed_bits}
 use Rattle.run_float_deeds.proofs.Bits.{zero_number, read_back, no_number, none_of, bits_of, reckoned}
-use Rattle.run_floats_64.specs.declared.Double64
-use Rattle.run_floats_64.specs.declared.Double64.{Double64}
-use Rattle.run_floats_64.specs.Doubles.{double64, Double64Read}
+use Rattle.run_floats_64.specs.Doubles.{Double64Read}
 
 -- the other cases of a value
 abbrev other_tags_64 : List ℕ
 other_tags_64 = 0 ∷ 1 ∷ 2 ∷ 4 ∷ 6 ∷ 7 ∷ []
 
 module _ {v : Carrier} where
-  pub read_64 : {x : Float} → v ≡ Value.TheVariants.F64 x → fits binary64 x ≡ true → Double64Read v (Double64.TheVariants.Is x)
+  pub read_64 : {x : Float} → v ≡ Value.TheVariants.F64 x → fits binary64 x ≡ true → Double64Read v (Some x)
   read_64 {x} e h = record { is = rw e (ap some (read_back binary64 x h)) }
 
   module _ {b : ℕ} (e : v ≡ Value.TheVariants.Nan64 b) (h : b < 2 ^ 64) where
-    pub read_nan_64 : {r : Bool} → r ≡ nan_bits binary64 b → r ≡ true → Double64Read v (Double64.TheVariants.Is (div binary64 (of_bits binary64 0) (of_bits binary64 0)))
+    pub read_nan_64 : {r : Bool} → r ≡ nan_bits binary64 b → r ≡ true → Double64Read v (Some (div binary64 (of_bits binary64 0) (of_bits binary64 0)))
     read_nan_64 t z = record { is = rw (e, mod-eq_of_lt h) (ap some (no_number binary64 b t z)) }
 
-    pub read_bits_64 : Double64Read v (Double64.TheVariants.Is (of_bits binary64 b))
+    pub read_bits_64 : Double64Read v (Some (of_bits binary64 b))
     read_bits_64 = record { is = rw (e, mod-eq_of_lt h) refl }
 
-pub read_wrong_64 : (v : Carrier) → OneOf other_tags_64 (tag_of the_type v) → Double64Read v Double64.TheVariants.Wrong
+pub read_wrong_64 : (v : Carrier) → OneOf other_tags_64 (tag_of the_type v) → Double64Read v None
 read_wrong_64 (Value.TheVariants.I32 n) h = record { is = refl }
 read_wrong_64 (Value.TheVariants.I64 n) h = record { is = refl }
 read_wrong_64 (Value.TheVariants.F32 n) h = record { is = refl }
@@ -57,16 +56,16 @@ result_nan_64 x e = record { is = ap (λ (n : ℕ). number f64 (within f64 n)) (
 pub result_64 : (x : Float) → DoubleIs (to_bits binary64 x) (Value.TheVariants.F64 x)
 result_64 x = record { is = refl }
 
-module _ {first : Carrier} {y : Double64} (read : Double64Read first y) where
-  pub top_wrong_64 : y ≡ Double64.TheVariants.Wrong → (j : Number) (f : ℕ → ℕ → ℕ) {second : Carrier} → TwoIs f64 j f first second Calculated.TheVariants.Wrong
-  top_wrong_64 e j f = first_wrong f64 j f (none_of binary64 first (read.is ∙ ap double64 e))
+module _ {first : Carrier} {y : Perhaps Float} (read : Double64Read first y) where
+  pub top_wrong_64 : y ≡ None → (j : Number) (f : ℕ → ℕ → ℕ) {second : Carrier} → TwoIs f64 j f first second Calculated.TheVariants.Wrong
+  top_wrong_64 e j f = first_wrong f64 j f (none_of binary64 first (read.is ∙ ap perhaps e))
 
-  module _ {b : Float} (e : y ≡ Double64.TheVariants.Is b) {second : Carrier} {x : Double64} (below : Double64Read second x) where
-    pub below_wrong_64 : x ≡ Double64.TheVariants.Wrong → (j : Number) (f : ℕ → ℕ → ℕ) → TwoIs f64 j f first second Calculated.TheVariants.Wrong
-    below_wrong_64 g j f = second_wrong f64 j f (bits_of binary64 first (read.is ∙ ap double64 e)).are (none_of binary64 second (below.is ∙ ap double64 g))
+  module _ {b : Float} (e : y ≡ Some b) {second : Carrier} {x : Perhaps Float} (below : Double64Read second x) where
+    pub below_wrong_64 : x ≡ None → (j : Number) (f : ℕ → ℕ → ℕ) → TwoIs f64 j f first second Calculated.TheVariants.Wrong
+    below_wrong_64 g j f = second_wrong f64 j f (bits_of binary64 first (read.is ∙ ap perhaps e)).are (none_of binary64 second (below.is ∙ ap perhaps g))
 
-    pub reckoned_64_lem : (deed : FloatDeed) {a z : Float} {r : Carrier} → x ≡ Double64.TheVariants.Is a → z ≡ operated binary64 deed a b → DoubleIs (to_bits binary64 z) r → TwoIs f64 f64 (deed_bits deed double) first second (Calculated.TheVariants.OfTwo r)
-    reckoned_64_lem deed g h is = reckoned binary64 deed (read.is ∙ ap double64 e) (below.is ∙ ap double64 g) h is.is
+    pub reckoned_64_lem : (deed : FloatDeed) {a z : Float} {r : Carrier} → x ≡ Some a → z ≡ operated binary64 deed a b → DoubleIs (to_bits binary64 z) r → TwoIs f64 f64 (deed_bits deed double) first second (Calculated.TheVariants.OfTwo r)
+    reckoned_64_lem deed g h is = reckoned binary64 deed (read.is ∙ ap perhaps e) (below.is ∙ ap perhaps g) h is.is
 
 -- the sign's bit turned: half of all patterns further, and round
 

@@ -16,27 +16,20 @@ use run_calculated::Calculated;
 use run_float_deeds::FloatDeed;
 use run_value::Value;
 
-// An operand as the language's float, or one of another kind.
-#[derive(Clone, Copy)]
-pub enum Double64 {
-    Is(f64),
-    Wrong,
-}
-
-// A float that is no number is read as the language's one such: none of its bits is asked for again.
-pub fn double_of(v: Value) -> Double64
+// An operand as the language's float, if it is of the kind. A float that is no number is read as the language's one such: none of its bits is asked for again.
+pub fn double_of(v: Value) -> Option<f64>
     ensures { Double64Read v result }
 {
     match v {
-        Value::F64(x) => Double64::Is(x),
+        Value::F64(x) => Some(x),
         Value::Nan64(bits) => {
             if run_value::is_nan_64(bits) {
                 let zero = f64::from_bits(0);
-                return Double64::Is(zero / zero);
+                return Some(zero / zero);
             }
-            Double64::Is(f64::from_bits(bits))
+            Some(f64::from_bits(bits))
         }
-        _ => Double64::Wrong,
+        _ => None,
     }
 }
 
@@ -67,10 +60,10 @@ pub fn reckoned_64(deed: FloatDeed, first: Value, second: Value) -> Calculated
     let below = double_of(second);
     let top = double_of(first);
     match top {
-        Double64::Wrong => Calculated::Wrong,
-        Double64::Is(y) => match below {
-            Double64::Wrong => Calculated::Wrong,
-            Double64::Is(x) => {
+        None => Calculated::Wrong,
+        Some(y) => match below {
+            None => Calculated::Wrong,
+            Some(x) => {
                 let z = operated_64(deed, x, y);
                 let v = result_64(z);
                 Calculated::OfTwo(v)

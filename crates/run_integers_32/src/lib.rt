@@ -13,22 +13,16 @@ use run_calculated::Calculated;
 use run_integer_tests::IntegerTest;
 use run_value::Value;
 
-// The bits of an operand, or one of another kind.
-#[derive(Clone, Copy)]
-pub enum Word32 {
-    Is(u32),
-    Wrong,
-}
-
 // The highest bit. With it turned, patterns stand in the order of the signed numbers.
 const TOP_32: u32 = 0x8000_0000;
 
-fn word_32(v: Value) -> Word32
+// The bits of an operand, if it is of the kind.
+fn word_32(v: Value) -> Option<u32>
     ensures { Word32Is v result }
 {
     match v {
-        Value::I32(n) => Word32::Is(n),
-        _ => Word32::Wrong,
+        Value::I32(n) => Some(n),
+        _ => None,
     }
 }
 
@@ -59,10 +53,10 @@ pub fn compared_32(test: IntegerTest, first: Value, second: Value) -> Calculated
     let x = word_32(second);
     let y = word_32(first);
     match y {
-        Word32::Wrong => Calculated::Wrong,
-        Word32::Is(b) => match x {
-            Word32::Wrong => Calculated::Wrong,
-            Word32::Is(a) => {
+        None => Calculated::Wrong,
+        Some(b) => match x {
+            None => Calculated::Wrong,
+            Some(a) => {
                 let holds = holds_32(test, a, b);
                 let v = run_calculated::truth(holds);
                 Calculated::OfTwo(v)
@@ -77,8 +71,8 @@ pub fn tested_zero_32(first: Value) -> Calculated
 {
     let x = word_32(first);
     match x {
-        Word32::Wrong => Calculated::Wrong,
-        Word32::Is(a) => {
+        None => Calculated::Wrong,
+        Some(a) => {
             let holds = a == 0;
             let v = run_calculated::truth(holds);
             Calculated::OfOne(v)
@@ -93,10 +87,10 @@ pub fn added_32(first: Value, second: Value) -> Calculated
     let x = word_32(second);
     let y = word_32(first);
     match y {
-        Word32::Wrong => Calculated::Wrong,
-        Word32::Is(b) => match x {
-            Word32::Wrong => Calculated::Wrong,
-            Word32::Is(a) => {
+        None => Calculated::Wrong,
+        Some(b) => match x {
+            None => Calculated::Wrong,
+            Some(a) => {
                 let n = std::num::wrapping_add_u32(a, b);
                 Calculated::OfTwo(Value::I32(n))
             }
@@ -111,10 +105,10 @@ pub fn subtracted_32(first: Value, second: Value) -> Calculated
     let x = word_32(second);
     let y = word_32(first);
     match y {
-        Word32::Wrong => Calculated::Wrong,
-        Word32::Is(b) => match x {
-            Word32::Wrong => Calculated::Wrong,
-            Word32::Is(a) => {
+        None => Calculated::Wrong,
+        Some(b) => match x {
+            None => Calculated::Wrong,
+            Some(a) => {
                 let n = std::num::wrapping_sub_u32(a, b);
                 Calculated::OfTwo(Value::I32(n))
             }

@@ -13,22 +13,16 @@ use run_calculated::Calculated;
 use run_integer_tests::IntegerTest;
 use run_value::Value;
 
-// The bits of an operand, or one of another kind.
-#[derive(Clone, Copy)]
-pub enum Word64 {
-    Is(u64),
-    Wrong,
-}
-
 // The highest bit. With it turned, patterns stand in the order of the signed numbers.
 const TOP_64: u64 = 0x8000_0000_0000_0000;
 
-fn word_64(v: Value) -> Word64
+// The bits of an operand, if it is of the kind.
+fn word_64(v: Value) -> Option<u64>
     ensures { Word64Is v result }
 {
     match v {
-        Value::I64(n) => Word64::Is(n),
-        _ => Word64::Wrong,
+        Value::I64(n) => Some(n),
+        _ => None,
     }
 }
 
@@ -59,10 +53,10 @@ pub fn compared_64(test: IntegerTest, first: Value, second: Value) -> Calculated
     let x = word_64(second);
     let y = word_64(first);
     match y {
-        Word64::Wrong => Calculated::Wrong,
-        Word64::Is(b) => match x {
-            Word64::Wrong => Calculated::Wrong,
-            Word64::Is(a) => {
+        None => Calculated::Wrong,
+        Some(b) => match x {
+            None => Calculated::Wrong,
+            Some(a) => {
                 let holds = holds_64(test, a, b);
                 let v = run_calculated::truth(holds);
                 Calculated::OfTwo(v)
@@ -77,8 +71,8 @@ pub fn tested_zero_64(first: Value) -> Calculated
 {
     let x = word_64(first);
     match x {
-        Word64::Wrong => Calculated::Wrong,
-        Word64::Is(a) => {
+        None => Calculated::Wrong,
+        Some(a) => {
             let holds = a == 0;
             let v = run_calculated::truth(holds);
             Calculated::OfOne(v)
@@ -93,10 +87,10 @@ pub fn added_64(first: Value, second: Value) -> Calculated
     let x = word_64(second);
     let y = word_64(first);
     match y {
-        Word64::Wrong => Calculated::Wrong,
-        Word64::Is(b) => match x {
-            Word64::Wrong => Calculated::Wrong,
-            Word64::Is(a) => {
+        None => Calculated::Wrong,
+        Some(b) => match x {
+            None => Calculated::Wrong,
+            Some(a) => {
                 let n = std::num::wrapping_add_u64(a, b);
                 Calculated::OfTwo(Value::I64(n))
             }
@@ -111,10 +105,10 @@ pub fn subtracted_64(first: Value, second: Value) -> Calculated
     let x = word_64(second);
     let y = word_64(first);
     match y {
-        Word64::Wrong => Calculated::Wrong,
-        Word64::Is(b) => match x {
-            Word64::Wrong => Calculated::Wrong,
-            Word64::Is(a) => {
+        None => Calculated::Wrong,
+        Some(b) => match x {
+            None => Calculated::Wrong,
+            Some(a) => {
                 let n = std::num::wrapping_sub_u64(a, b);
                 Calculated::OfTwo(Value::I64(n))
             }
