@@ -9,11 +9,6 @@ use Rattle.scope.specs.Memory.{filled}
 use Rattle.run_state.specs.declared.Stage.{Stage}
 use Rattle.run_settle.specs.Counts.{counts_of, CountRoom}
 
-pub three-put :
-    (m : List ℕ) {m₁ m₂ m₃ : List ℕ} (at a b c : ℕ) → m₁ ≡ set m at a → m₂ ≡ set m₁ (at + 1) b → m₃ ≡ set m₂ (at + 2) c
-    → m₃ ≡ set (set (set m at a) (at + 1) b) (at + 2) c
-three-put m at a b c e f g = rw (g, f, e)
-
 abbrev six : List ℕ → ℕ → ℕ → ℕ → ℕ → ℕ → ℕ → List ℕ
 six m a b c d e f = set (set (set (set (set (set m 0 a) 1 b) 2 c) 3 d) 4 e) 5 f
 
@@ -33,4 +28,4 @@ module _ {st : Stage} {m : List ℕ} (room : CountRoom st m) (count : ℕ) where
   counts-put a b c =
       rw (c, b, a) (six-filled m st.place st.objects st.cells count (st.base + st.height) st.depth room.room)
 
-pub ruleset count_exits = (three-put, counts-put)
+pub ruleset count_exits = (counts-put)

@@ -20,6 +20,7 @@ fn put_three(m: &mut [u64], at: u8, a: u64, b: u64, c: u64)
 }
 
 // The counts, and zero after them.
+#[tactic(auto, using(crate::proofs::Counting::count_exits))]
 pub fn put_counts(counts: &mut [u64], stage: Stage, count: u16)
     requires { CountRoom stage counts.old }
     ensures { counts.new ≡ filled counts.old (counts_of count stage) }
@@ -31,7 +32,7 @@ pub fn put_counts(counts: &mut [u64], stage: Stage, count: u16)
     let depth = stage.depth;
     put_three(counts, 0, place as u64, objects as u64, cells as u64);
     put_three(counts, 3, count as u64, operands as u64, depth as u64);
-    run_values::wipe_from64(counts, sizes::COUNTS as u64);
+    run_values::fill_from(counts, sizes::COUNTS as u64, 0);
 }
 
 // The heap: zero beyond its objects and their cells.
@@ -41,8 +42,8 @@ pub fn settle_heap(objects: &mut [u16], cells: &mut [u64], stage: Stage)
 {
     let many = stage.objects;
     let total = stage.cells;
-    run_values::wipe_from16(objects, sizes::OBJECT * many as u64);
-    run_values::wipe_from64(cells, sizes::VALUE * total as u64);
+    run_values::fill_from(objects, sizes::OBJECT * many as u64, 0);
+    run_values::fill_from(cells, sizes::VALUE * total as u64, 0);
 }
 
 // Locals and operands: zero beyond them.
@@ -51,8 +52,8 @@ pub fn settle_values(locals: &mut [u64], operands: &mut [u64], stage: Stage, cou
     ensures { ValuesSettled count stage locals.old operands.old locals.new operands.new }
 {
     let high = stage.base + stage.height;
-    run_values::wipe_from64(locals, sizes::VALUE * count as u64);
-    run_values::wipe_from64(operands, sizes::VALUE * high as u64);
+    run_values::fill_from(locals, sizes::VALUE * count as u64, 0);
+    run_values::fill_from(operands, sizes::VALUE * high as u64, 0);
 }
 
 // The open blocks: zero beyond them.
@@ -62,5 +63,5 @@ pub fn settle_blocks(blocks: &mut [u16], stage: Stage)
         blocks.new ≡ filled before (take (block_span * stage.depth) before) }
 {
     let depth = stage.depth;
-    run_values::wipe_from16(blocks, sizes::BLOCK * depth as u64);
+    run_values::fill_from(blocks, sizes::BLOCK * depth as u64, 0);
 }

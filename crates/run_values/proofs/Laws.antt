@@ -6,8 +6,8 @@ use mathlib.Core.Bool.{true, false}
 use mathlib.Core.Option.{none, some}
 use mathlib.Core.List.{List, [], ◌∷◌, ◌++◌, map}
 use native.Mathlib.Omega.{arith}
-use lib.ListN.{length, get_or, set, take, replicate, length-set}
-use lib.Seq.{get_or-set_same, get_or-set_other, length-take-le}
+use lib.ListN.{length, get_or, set, take, length-set}
+use lib.Seq.{get_or-set_same, get_or-set_other}
 use lib.Dec.{eqb}
 use borrow.Author.Tests.{ne_eqb, eqb-true, eqb-false}
 use Rattle.scope.specs.Layout.{value_span}
@@ -15,7 +15,7 @@ use Rattle.scope.specs.Lists.{joined}
 use Rattle.scope.specs.Syntax.{Number, i32, i64, f32, f64}
 use Rattle.scope.specs.Order.{number_code}
 use Rattle.scope.specs.Machine.{number, null, object}
-use Rattle.scope.specs.Memory.{filled, value_words, local_words}
+use Rattle.scope.specs.Memory.{value_words, local_words}
 use Rattle.scope.proofs.Truths.{decided}
 use Rattle.scope.proofs.Impossible.{contradiction}
 use Rattle.run_values.specs.Layout.{kind_place, bits_place, no_value, i32_kind, null_kind, object_kind}
@@ -101,11 +101,6 @@ canon_words {m} {n} c room = pairs_are (entry_in value_at m) value_words m n roo
 pub held_canon_words : {m : List ℕ} {n : ℕ} → AllHeldCanon m n → value_span * n ≤ length m → joined (map local_words (held_from m 0 n)) ≡ take (value_span * n) m
 unfolding entry_in
 held_canon_words {m} {n} c room = pairs_are (entry_in held_at m) local_words m n room (λ j h. sym (c.each j h).is)
-
--- what is kept of memory that is wiped from a place on, in scope's words
-pub wiped-filled : (m : List ℕ) {n : ℕ} {words : List ℕ} → n ≤ length m → take n m ≡ words → take n m ++ replicate (length m - n) 0 ≡ filled m words
-wiped-filled m {n} {words} h e =
-    let long : length words ≡ n = sym (ap length e) ∙ length-take-le n m h in rw (long, e)
 
 -- fewer entries, and words that are the same
 

@@ -32,32 +32,16 @@ pub fn put64(m: &mut [u64], at: u64, v: u64)
 pub fn wipe64(m: &mut [u64])
     ensures { m.new ≡ replicate (length m.old) 0 }
 {
-    let mut i: usize = 0;
-    while i < m.len() {
-        m[i] = 0;
-        i += 1;
-    }
+    m.fill(0);
 }
 
-// Zero in every word from a place on.
-pub fn wipe_from64(m: &mut [u64], from: u64)
-    ensures { m.new ≡ take from m.old ++ replicate (length m.old - from) 0 }
+// A value in every word from a place on, whatever the width of the words.
+pub fn fill_from<W: Copy>(m: &mut [W], from: u64, value: W)
+    ensures { m.new ≡ take from m.old ++ replicate (length m.old - from) value }
 {
-    let mut i = from as usize;
-    while i < m.len() {
-        m[i] = 0;
-        i += 1;
-    }
-}
-
-// The same in memory of 16-bit words.
-pub fn wipe_from16(m: &mut [u16], from: u64)
-    ensures { m.new ≡ take from m.old ++ replicate (length m.old - from) 0 }
-{
-    let mut i = from as usize;
-    while i < m.len() {
-        m[i] = 0;
-        i += 1;
+    let start = m.len().min(from as usize);
+    for word in &mut m[start..] {
+        *word = value;
     }
 }
 
@@ -75,6 +59,7 @@ pub fn bits_of(m: &[u64], j: u32) -> u64
 }
 
 // Value j, by its kind and its bits.
+#[tactic(auto, unfolding(crate::specs::Values::set_value))]
 pub fn put_value(m: &mut [u64], j: u32, kind: u64, bits: u64)
     ensures { m.new ≡ set_value m.old j kind bits }
 {
