@@ -1,17 +1,16 @@
--- The marks, one local after the other: after i turns the first i have theirs. No type is touched, so what a local starts
--- as is what it started as before.
+-- The marks, one local after the other: a turn gives the next one its own. No type is touched, so what a local starts as is
+-- what it started as before.
 use Prim.Native.Nat.{ℕ, ◌+◌, ◌%◌, ◌≤◌, ◌<◌}
-use mathlib.Core.Path.{◌≡◌, refl, ◌∙◌}
-use mathlib.Core.Logic.{◌⊎◌, inl, inr}
+use mathlib.Core.Path.{◌≡◌, ◌∙◌}
 use mathlib.Core.Bool.{Bool, true, false, ◌||◌}
 use mathlib.Core.List.{List}
 use native.Mathlib.Omega.{arith}
-use lib.ListN.{length, set, get_or}
-use lib.Dec.{eqb, ltb}
-use borrow.Author.Tests.{eqb-true, eqb-false, lt-ltb, le-ltb}
+use lib.ListN.{set, get_or}
+use lib.Dec.{ltb}
+use borrow.Author.Count.{below_more}
+use borrow.Author.Tests.{lt-ltb, le-ltb}
 use Rattle.scope.specs.Memory.{flag}
 use Rattle.scope.specs.BodyRules.{has_default}
-use Rattle.scope.proofs.Truths.{decided}
 use Rattle.lent_u32.specs.Scratch.{Word32At}
 use Rattle.type_table.specs.View.{val_at_code}
 use Rattle.type_table.specs.declared.ValKind.{ValKind}
@@ -49,53 +48,19 @@ pub ruleset mark_exits = (parameter_mark, number_mark, nullable_mark, unset_mark
 
 -- all of them
 
-pub record MarkedSoFar (work₀ work : List ℕ) (params count i : ℕ) : Type 0 where
-  pub most : i ≤ count
-  pub done : MarksPut work₀ work params i
-
-pub marked-first : (work : List ℕ) (params count : ℕ) → MarkedSoFar work work params count 0
-marked-first work params count =
+pub marked_turn : {work₀ work : List ℕ} {params i : ℕ} → MarksPut work₀ work params i → {r : ℕ} → r ≡ flag (starts_set work params i) → {work' : List ℕ} → work' ≡ set work (marks_from + i) (r % word_bound) → {count : ℕ} → i < count → MarkRoom work₀ count → MarksPut work₀ work' params (i + 1)
+unfolding starts_set
+marked_turn {work₀} {work} {params} {i} p {r} a {work'} e h room =
+    let f = flag_small (ltb i params || has_default (val_at_word (get_or work i 0))) in
+    let low : r < word_bound = rw a (omega arith) in
+    let store : Stored work work' (marks_from + i) r = stored word_bound e low (omega (arith, p.size, room.room, room.few)) in
+    let before : get_or work i 0 ≡ get_or work₀ i 0 = p.types i (omega (arith, room.few)) in
     record {
-      most = omega arith;
-      done = record { marks = λ i h. absurd (omega arith); types = λ i h. refl; beyond = λ i h. refl; size = refl };
+      marks =
+          below_more (λ k. get_or work' (marks_from + k) 0 ≡ flag (ltb k params || has_default (val_at_word (get_or work₀ k 0)))) i
+          (λ k l. store.others (marks_from + k) (λ y. omega arith) ∙ p.marks k l)
+          (rw (store.here, a, before));
+      types = λ k l. store.others k (λ z. omega arith) ∙ p.types k l;
+      beyond = λ k l. store.others k (λ z. omega arith) ∙ p.beyond k (omega arith);
+      size = store.size ∙ p.size;
     }
-
-module _ {work₀ work : List ℕ} {params count i : ℕ} (p : MarkedSoFar work₀ work params count i) where
-  pub marked_all : count ≤ i → MarksPut work₀ work params count
-  marked_all h = let same : count ≡ i = omega (arith, p.most) in rw same p.done
-
-  pub marked_size : length work ≡ length work₀
-  marked_size = p.done.size
-
-  module _ (h : i < count) where
-    pub marked_turn : {r : ℕ} → r ≡ flag (starts_set work params i) → {work' : List ℕ} → work' ≡ set work (marks_from + i) (r % word_bound) → MarkRoom work₀ count → MarkedSoFar work₀ work' params count (i + 1)
-    unfolding starts_set
-    marked_turn {r} a {work'} e room =
-        record {
-          most = omega arith;
-          done =
-              record {
-                marks = marks;
-                types = λ k l. store.others k (λ z. omega arith) ∙ p.done.types k l;
-                beyond = λ k l. store.others k (λ z. omega arith) ∙ p.done.beyond k (omega arith);
-                size = store.size ∙ p.done.size;
-              };
-        }
-      where
-        low : r < word_bound
-        low = let f = flag_small (ltb i params || has_default (val_at_word (get_or work i 0))) in rw a (omega arith)
-
-        store : Stored work work' (marks_from + i) r
-        store = stored word_bound e low (omega (arith, p.done.size, room.room, room.few))
-
-        before : get_or work i 0 ≡ get_or work₀ i 0
-        before = p.done.types i (omega (arith, room.few))
-
-        marks : (k : ℕ) → k < i + 1 → get_or work' (marks_from + k) 0 ≡ flag (ltb k params || has_default (val_at_word (get_or work₀ k 0)))
-        marks k l = go (decided (eqb k i))
-          where
-            go : (eqb k i ≡ true) ⊎ (eqb k i ≡ false) → get_or work' (marks_from + k) 0 ≡ flag (ltb k params || has_default (val_at_word (get_or work₀ k 0)))
-            go (inl z) = let same : k ≡ i = eqb-true k i z in rw (same, store.here, a, before)
-            go (inr z) = let g = eqb-false k i z in store.others (marks_from + k) (λ y. g (omega arith)) ∙ p.done.marks k (omega arith)
-
-pub ruleset marking_exits = (marked-first, marked_all, marked_size, marked_turn)

@@ -16,15 +16,14 @@ fn put_parameters(shared: &[u16], codes: &[u16], work: &mut [u32], first: u32, n
     requires { n ≤ length work.old }
     ensures { ParametersPut (both_codes shared.now codes.now) work.old work.new first n }
 {
-    let mut i: u64 = 0;
-    while i < n as u64 {
+    for i in 0..n as u64 {
         let code = type_table::code_word(shared, codes, first as u64 + i);
         lent_u32::put32(work, i, code);
-        i = i + 1;
     }
 }
 
 // The mark of local i: 1, the function's own frame, for a parameter and for a local with a default; else 0.
+#[tactic(auto, using(crate::proofs::Marking::mark_exits))]
 fn start_mark(work: &[u32], params: u32, i: u64) -> u64
     ensures { result ≡ flag (starts_set work.now params i) }
 {
@@ -44,11 +43,9 @@ fn mark_start(work: &mut [u32], params: u32, count: u64)
     requires { MarkRoom work.old count }
     ensures { MarksPut work.old work.new params count }
 {
-    let mut i: u64 = 0;
-    while i < count {
+    for i in 0..count {
         let mark = start_mark(work, params, i);
         lent_u32::put32(work, body_state::MARKS + i, mark);
-        i = i + 1;
     }
 }
 
