@@ -1,13 +1,11 @@
 -- Cells that are filled, one after the other: copies of values, and the defaults of fields.
-use Prim.Native.Nat.{ℕ, zero, suc, ◌+◌, ◌/◌, ◌≤◌, ◌<◌}
+use Prim.Native.Nat.{ℕ, zero, suc, ◌+◌, ◌/◌, ◌<◌}
 use mathlib.Core.Path.{◌≡◌, refl, sym, ap, ap₂, ◌∙◌}
 use mathlib.Core.Bool.{Bool, true, false}
 use mathlib.Core.Option.{none, some}
 use mathlib.Core.List.{List, [], ◌∷◌, ◌++◌, map, map-append}
 use native.Mathlib.Omega.{arith}
 use lib.ListN.{length, get_or}
-use mir.Syntax.{w32, w64}
-use mir.Val.{Fits}
 use Rattle.scope.specs.Syntax.{Number, i32, i64, f32, f64, Val, num, ref}
 use Rattle.scope.specs.Order.{number_code}
 use Rattle.scope.specs.Lists.{every}
@@ -46,47 +44,30 @@ canon_more {cells} total i k b room e c all =
     let next : total + (i + 1) ≡ total + i + 1 = omega arith in
     rw (next, e) (put_all_more cells (total + i) k b room c all)
 
-pub place_fits : {cells : List ℕ} {total k : ℕ} → CellRoom cells total k → (i : ℕ) → i < k → Fits w32 (total + i)
-place_fits room i h = record { fits = omega (arith, room.few) }
-
 -- copies
 
-pub record CopiedSoFar (from cells₀ cells : List ℕ) (at total k i : ℕ) : Type 0 where
-  pub most : i ≤ k
-  pub done : CellsCopied from cells₀ cells at total i
-
-pub copied-first : (from cells : List ℕ) (at total k : ℕ) → CopiedSoFar from cells cells at total k 0
+pub copied_none : (from cells : List ℕ) (at total : ℕ) → CellsCopied from cells cells at total 0
 unfolding numbered
-copied-first from cells at total k =
-    let same : total + 0 ≡ total = omega arith in
-    record { most = omega arith; done = record { filled = filled_none cells total; canon = λ a c. rw same c } }
+copied_none from cells at total =
+    let same : total + 0 ≡ total = omega arith in record { filled = filled_none cells total; canon = λ a c. rw same c }
 
-module _ {from cells₀ cells : List ℕ} {at total k i : ℕ} (p : CopiedSoFar from cells₀ cells at total k i) where
-  pub copied_all : k ≤ i → CellsCopied from cells₀ cells at total k
-  copied_all h = let same : k ≡ i = omega (arith, p.most) in rw same p.done
+pub copied_more :
+    {from cells₀ cells cells' : List ℕ} {at total i k kind bits : ℕ} → CellsCopied from cells₀ cells at total i → CellRoom cells₀ total k → i < k
+    → Word64At from (kind_place (at + i)) kind → Word64At from (bits_place (at + i)) bits → cells' ≡ set_value cells (total + i) kind bits
+    → CellsCopied from cells₀ cells' at total (i + 1)
+unfolding entry_in
+copied_more {from} {at = at} {total = total} {i = i} {kind = kind} {bits = bits} p room h a b e =
+    let one : value_at kind bits ≡ entry_in value_at from (at + i) = ap₂ value_at a.is b.is in
+    let more : values_from from at (i + 1) ≡ values_from from at i ++ (value_at kind bits ∷ []) =
+    numbered_more (entry_in value_at from) at i ∙ ap (λ (v : Value). values_from from at i ++ (v ∷ [])) (sym one) in
+    record {
+      filled = rw more (filled_more p.filled kind bits (omega (arith, room.room, room.few)) e);
+      canon = λ all c.
+          let word : Canon kind bits = rw (a.is, b.is) (all.each (at + i) (omega arith)) in
+          canon_more total i kind bits (omega (arith, room.room, room.few, p.filled.size)) e word (p.canon (all_less all (omega arith)) c);
+    }
 
-  pub copied_size : length cells ≡ length cells₀
-  copied_size = p.done.filled.size
-
-  module _ (h : i < k) where
-    pub copied_turn : {kind bits : ℕ} → Word64At from (kind_place (at + i)) kind → Word64At from (bits_place (at + i)) bits → {cells' : List ℕ} → cells' ≡ set_value cells (total + i) kind bits → CellRoom cells₀ total k → CopiedSoFar from cells₀ cells' at total k (i + 1)
-    unfolding entry_in
-    copied_turn {kind} {bits} a b {cells'} e room =
-        let one : value_at kind bits ≡ entry_in value_at from (at + i) = ap₂ value_at a.is b.is in
-        let more : values_from from at (i + 1) ≡ values_from from at i ++ (value_at kind bits ∷ []) =
-        numbered_more (entry_in value_at from) at i ∙ ap (λ (v : Value). values_from from at i ++ (v ∷ [])) (sym one) in
-        record {
-          most = omega arith;
-          done =
-              record {
-                filled = rw more (filled_more p.done.filled kind bits (omega (arith, room.room, room.few)) e);
-                canon = λ all c.
-                    let word : Canon kind bits = rw (a.is, b.is) (all.each (at + i) (omega arith)) in
-                    canon_more total i kind bits (omega (arith, room.room, room.few, p.done.filled.size)) e word (p.done.canon (all_less all (omega arith)) c);
-              };
-        }
-
-pub ruleset copy_exits = (copied-first, copied_all, copied_size, place_fits, copied_turn)
+pub ruleset copy_exits = (copied_none, copied_more)
 
 -- the default of one type
 
@@ -100,21 +81,17 @@ default_number : (c k : ℕ) (n : Number) → val_at_code c ≡ num n → k ≡ 
 default_number c k n e f = rw (e, f) (zero_of_code n)
 
 module _ (c : ℕ) {r : ValKind} (v : r ≡ val_is (val_at_code c)) where
-  module _ {k : ℕ} (e : r ≡ ValKind.TheVariants.Number k) where
-    pub kind_fits : Fits w64 (k + 1)
-    kind_fits = let (n, same, code) = is_number (val_at_code c) v e in let small = code-small n in record { fits = omega arith }
-
-    pub number_kind : DefaultKind c (k + 1)
-    number_kind =
-        let (n, same, code) = is_number (val_at_code c) v e in
-        let small = code-small n in
-        record { is = default_number c k n same code; canon = canon_zero {k = k + 1} (omega arith) (omega arith) }
+  pub number_kind : {k : ℕ} → r ≡ ValKind.TheVariants.Number k → DefaultKind c (k + 1)
+  number_kind {k} e =
+      let (n, same, code) = is_number (val_at_code c) v e in
+      let small = code-small n in
+      record { is = default_number c k n same code; canon = canon_zero {k = k + 1} (omega arith) (omega arith) }
 
   pub reference_kind : {n : Bool} {h : ℕ} → r ≡ ValKind.TheVariants.Ref n h → DefaultKind c null_kind
   reference_kind e =
       let same = is_ref (val_at_code c) v e in record { is = rw same (value_null {k = null_kind} 0 refl); canon = canon_null }
 
-pub ruleset kind_exits = (kind_fits, number_kind, reference_kind)
+pub ruleset kind_exits = (number_kind, reference_kind)
 
 -- the defaults of all fields
 
@@ -154,36 +131,22 @@ some_without (num k ∷ vs) e = rw (some_without vs e)
 some_without (ref true h ∷ vs) e = rw (some_without vs e)
 some_without (ref false h ∷ vs) e = refl
 
-pub record DefaultSoFar (codes cells₀ cells : List ℕ) (first k total i : ℕ) : Type 0 where
-  pub most : i ≤ k
-  pub done : CellsDefault codes cells₀ cells first i total
-
-pub default_first : (codes cells : List ℕ) (first k total : ℕ) → DefaultSoFar codes cells cells first k total 0
+pub default_none : (codes cells : List ℕ) (first total : ℕ) → CellsDefault codes cells cells first 0 total
 unfolding codes_at
-default_first codes cells first k total =
-    let same : total + 0 ≡ total = omega arith in
-    record { most = omega arith; done = record { filled = filled_none cells total; canon = λ c. rw same c } }
+default_none codes cells first total =
+    let same : total + 0 ≡ total = omega arith in record { filled = filled_none cells total; canon = λ c. rw same c }
 
-module _ {codes cells₀ cells : List ℕ} {first k total i : ℕ} (p : DefaultSoFar codes cells₀ cells first k total i) where
-  pub default_all : k ≤ i → CellsDefault codes cells₀ cells first k total
-  default_all h = let same : k ≡ i = omega (arith, p.most) in rw same p.done
+pub default_more :
+    {codes cells₀ cells cells' : List ℕ} {first i k total w kind : ℕ} → CellsDefault codes cells₀ cells first i total → CellRoom cells₀ total k → i < k
+    → WordAt codes (first + i) w → DefaultKind (w / 2) kind → cells' ≡ set_value cells (total + i) kind 0
+    → CellsDefault codes cells₀ cells' first (i + 1) total
+default_more {codes} {first = first} {i = i} {total = total} {kind = kind} p room h a b e =
+    let one : start_of (val_at_code (get_or codes (first + i) 0 / 2)) ≡ value_at kind 0 = ap (λ (c : ℕ). start_of (val_at_code (c / 2))) (sym a.is) ∙ sym b.is in
+    let more : starts codes first (i + 1) ≡ starts codes first i ++ (value_at kind 0 ∷ []) =
+    starts_more codes first i ∙ ap (λ (v : Value). starts codes first i ++ (v ∷ [])) one in
+    record {
+      filled = rw more (filled_more p.filled kind 0 (omega (arith, room.room, room.few)) e);
+      canon = λ c. canon_more total i kind 0 (omega (arith, room.room, room.few, p.filled.size)) e b.canon (p.canon c);
+    }
 
-  pub default_size : length cells ≡ length cells₀
-  default_size = p.done.filled.size
-
-  module _ (h : i < k) where
-    pub default_turn : {w : ℕ} → WordAt codes (first + i) w → {kind : ℕ} → DefaultKind (w / 2) kind → {cells' : List ℕ} → cells' ≡ set_value cells (total + i) kind 0 → CellRoom cells₀ total k → DefaultSoFar codes cells₀ cells' first k total (i + 1)
-    default_turn {w} a {kind} b {cells'} e room =
-        let one : start_of (val_at_code (get_or codes (first + i) 0 / 2)) ≡ value_at kind 0 = ap (λ (c : ℕ). start_of (val_at_code (c / 2))) (sym a.is) ∙ sym b.is in
-        let more : starts codes first (i + 1) ≡ starts codes first i ++ (value_at kind 0 ∷ []) =
-        starts_more codes first i ∙ ap (λ (v : Value). starts codes first i ++ (v ∷ [])) one in
-        record {
-          most = omega arith;
-          done =
-              record {
-                filled = rw more (filled_more p.done.filled kind 0 (omega (arith, room.room, room.few)) e);
-                canon = λ c. canon_more total i kind 0 (omega (arith, room.room, room.few, p.done.filled.size)) e b.canon (p.done.canon c);
-              };
-        }
-
-pub ruleset default_exits = (default_first, default_all, default_size, place_fits, default_turn)
+pub ruleset default_exits = (default_none, default_more)

@@ -13,13 +13,11 @@ pub fn copy_cells(cells: &mut [u64], from: &[u64], at: u32, total: u32, k: u32)
     requires { CellRoom cells.old total k }
     ensures { CellsCopied from.now cells.old cells.new at total k }
 {
-    let mut i: u32 = 0;
-    while i < k {
+    for i in 0..k {
         let place = sizes::VALUE * (at as u64 + i as u64);
         let kind = run_values::word64(from, place);
         let bits = run_values::word64(from, place + 1);
         run_values::put_value(cells, total + i, kind, bits);
-        i = i + 1;
     }
 }
 
@@ -46,11 +44,9 @@ pub fn default_cells(
     requires { CellRoom cells.old total k }
     ensures { CellsDefault (both_codes shared.now codes.now) cells.old cells.new first k total }
 {
-    let mut i: u32 = 0;
-    while i < k {
+    for i in 0..k {
         let field = type_table::code_word(shared, codes, first as u64 + i as u64);
         let kind = default_kind(field / 2);
         run_values::put_value(cells, total + i, kind, 0);
-        i = i + 1;
     }
 }
