@@ -1,4 +1,3 @@
-pub mod Filling
 pub mod OneEntry
 pub mod Listing
 pub mod Laws

@@ -1,6 +1,6 @@
 -- The loop of `locals_at` and the definition `locals_at` walk the same entries: the locals that are done, put before what the
 -- definition reads from here, are what it reads from the start; and the words that were put are the codes of those done.
-use Prim.Native.Nat.{ℕ, zero, suc, ◌+◌, ◌-◌, ◌^◌, ◌≤◌, ◌<◌}
+use Prim.Native.Nat.{ℕ, zero, suc, ◌+◌, ◌-◌, ◌≤◌, ◌<◌}
 use mathlib.Core.Path.{◌≡◌, refl, ap, ap₂, ◌∙◌}
 use mathlib.Core.Bool.{Bool, true, false, cond}
 use mathlib.Core.List.{List, [], ◌∷◌, ◌++◌, map, append_assoc, append-nil, map-append}
@@ -8,8 +8,6 @@ use native.Mathlib.Omega.{arith}
 use lib.ListN.{length, replicate, length-append, length-map, length-replicate}
 use lib.Dec.{ltb, leb}
 use borrow.Author.Tests.{leb-true}
-use mir.Syntax.{w64}
-use mir.Val.{Fits}
 use Rattle.scope.specs.Sizes.{most_locals}
 use Rattle.scope.specs.Refusals.{oversize, out_of_reach}
 use Rattle.scope.specs.Reading.{Read, got, refused, then}
@@ -20,15 +18,15 @@ use Rattle.scope.specs.Sections.{val_at}
 use Rattle.scope.specs.TypeRules.{val_names}
 use Rattle.scope.specs.Bodies.{locals_at}
 use Rattle.scope.proofs.Impossible.{impossible}
-use Rattle.type_table.proofs.Puts.{Puts, puts_none, puts_more, puts_length}
+use Rattle.type_table.proofs.Puts.{Puts, puts_more, puts_length}
 use Rattle.type_table.proofs.CodesBack.{val_code-small}
 use Rattle.type_read.specs.Codes.{val_code_kept}
-use Rattle.section_forms.proofs.Lists.{onto, onto-none}
+use Rattle.section_forms.proofs.Lists.{onto}
 use Rattle.body_locals.specs.declared.Entry.{Entry}
 use Rattle.body_locals.specs.declared.Entry
 use Rattle.body_locals.specs.declared.LocalsRead.{LocalsRead}
 use Rattle.body_locals.specs.declared.LocalsRead
-use Rattle.body_locals.specs.Entries.{Limits, Space, Lent, entry_at, entry_is, LocalsPut}
+use Rattle.body_locals.specs.Entries.{Space, Lent, entry_at, entry_is, LocalsPut}
 
 -- an entry, taken apart
 
@@ -131,16 +129,6 @@ pub record Listed (types n before : ℕ) (s : List ℕ) (at : ℕ) (work₀ work
   pub same : locals_at types n before s at ≡ onto done (locals_at types left count s next)
   pub puts : Puts work₀ work (first + before) (map val_code_kept done)
 
-pub listed-first : {work : List ℕ} {types before first : ℕ} (n : ℕ) (s : List ℕ) (at : ℕ) → Lent work types before first → Listed types n before s at work work first at n before
-listed-first {work} {types} {before} {first} n s at lent =
-    record {
-      done = [];
-      counted = omega arith;
-      few = lent.fewer;
-      same = onto-none (locals_at types n before s at);
-      puts = puts_none work (first + before) (omega (arith, lent.room, lent.fewer));
-    }
-
 module _ {types n before : ℕ} {s : List ℕ} {at : ℕ} {work₀ work : List ℕ} {first next left count : ℕ} (p : Listed types n before s at work₀ work first next left count) where
   pub listed-done : left ≤ 0 → LocalsPut types n before s at work₀ work first (LocalsRead.TheVariants.Got count next)
   listed-done h =
@@ -151,15 +139,6 @@ module _ {types n before : ℕ} {s : List ℕ} {at : ℕ} {work₀ work : List �
         memory = λ vs stop f. let q : p.done ++ [] ≡ vs = cc in rw (← q, append-nil) p.puts;
         size = puts_length p.puts;
       }
-
-  pub listed_size : length work ≡ length work₀
-  listed_size = puts_length p.puts
-
-  pub listed_limits : Lent work₀ types before first → Limits types count
-  listed_limits lent = record { few = lent.few; fewer = p.few }
-
-  pub place_fits : length work₀ < 2 ^ 64 → Lent work₀ types before first → Fits w64 (first + count)
-  place_fits l lent = record { fits = omega (arith, lent.room, p.few) }
 
   module _ (more : 0 < left) {r : Entry} (a : r ≡ entry_is (entry_at types count s next)) where
     pub listed_refused : {k place : ℕ} → r ≡ Entry.TheVariants.Refused k place → LocalsPut types n before s at work₀ work first (LocalsRead.TheVariants.Refused k place)
@@ -174,9 +153,6 @@ module _ {types n before : ℕ} {s : List ℕ} {at : ℕ} {work₀ work : List �
     module _ {k code following : ℕ} (e : r ≡ Entry.TheVariants.Is k code following) where
       entry_most : count + k ≤ most_locals
       entry_most = let (v, read, c) = entry_inv (entry_at types count s next) a e in entry_few (entry_few_read types count s next) read
-
-      pub count_fits : Fits w64 (count + k)
-      count_fits = let h = entry_most in record { fits = omega arith }
 
       pub listed_space : Lent work₀ types before first → Space work (first + count) k code
       listed_space lent =
@@ -205,5 +181,3 @@ module _ {types n before : ℕ} {s : List ℕ} {at : ℕ} {work₀ work : List �
 
       pub listed_turn : {work' : List ℕ} → Puts work work' (first + count) (replicate k code) → Listed types n before s at work₀ work' first following (left - 1) (count + k)
       listed_turn q = let (v, read, c) = entry_inv (entry_at types count s next) a e in turn v read c q
-
-pub ruleset list_exits = (listed-first, listed-done, listed_size, listed_limits, place_fits, listed_refused, count_fits, listed_space, listed_turn)

@@ -48,11 +48,7 @@ fn fill(work: &mut [u32], at: u64, k: u64, code: u64)
     requires { Space work.old at k code }
     ensures { Puts work.old work.new at (replicate k code) }
 {
-    let mut done: u64 = 0;
-    while done < k {
-        lent_u32::put32(work, at + done, code);
-        done = done + 1;
-    }
+    work[at as usize..(at + k) as usize].fill(code as u32);
 }
 
 // How many locals there are with the parameters, and the place after the list; or a refusal's number and place.
@@ -76,9 +72,8 @@ pub fn locals_at(
     ensures { LocalsPut types n before s.now at work.old work.new first result }
 {
     let mut next = at;
-    let mut left = n;
     let mut count = before;
-    while 0 < left {
+    for _ in 0..n {
         let read = entry_at(s, next, types, count);
         match read {
             Entry::Refused(number, place) => {
@@ -88,7 +83,6 @@ pub fn locals_at(
                 fill(work, first + count, k, code);
                 count = count + k;
                 next = following;
-                left = left - 1;
             }
         }
     }
