@@ -1,16 +1,15 @@
 -- A turn of each walk, as its stores leave the rows.
-use Prim.Native.Nat.{ℕ, zero, suc, ◌+◌, ◌*◌, ◌%◌, ◌≤◌, ◌<◌}
+use Prim.Native.Nat.{ℕ, zero, suc, ◌+◌, ◌*◌, ◌%◌, ◌<◌}
 use native.Mathlib.Omega.{arith}
 use native.Mathlib.Numerals.{add-one}
 use mathlib.Core.Path.{◌≡◌, refl, sym, ◌∙◌, ap}
 use mathlib.Core.Option.{Option, none, some}
 use mathlib.Core.List.{List}
-use lib.ListN.{length, set}
+use lib.ListN.{set}
 use Rattle.scope.specs.Layout.{row_span}
 use Rattle.scope.specs.Syntax.{super_of}
 use Rattle.scope.specs.Memory.{or_zero}
 use Rattle.lent_u16.specs.Words.{word_limit, WordAt}
-use Rattle.type_forest.specs.Walks.{Grown, Placed}
 use Rattle.type_table.specs.View.{word_of, view}
 use Rattle.type_table.specs.declared.Link.{Link}
 use Rattle.type_table.specs.declared.Link

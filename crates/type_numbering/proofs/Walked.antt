@@ -1,19 +1,18 @@
 -- The loops: turns of the walks over a forest, with the words of the rows as its sizes, starts and ends.
-use Prim.Native.Nat.{ℕ, zero, suc, ◌+◌, ◌-◌, ◌*◌, ◌%◌, ◌≤◌, ◌<◌}
+use Prim.Native.Nat.{ℕ, suc, ◌+◌, ◌-◌, ◌*◌, ◌%◌, ◌≤◌, ◌<◌}
 use native.Mathlib.Omega.{arith}
 use native.Mathlib.Numerals.{add-one}
-use mathlib.Core.Path.{◌≡◌, refl, sym, ◌∙◌, ap, subst, fun_ext}
+use mathlib.Core.Path.{◌≡◌, refl, ◌∙◌, ap, subst, fun_ext}
 use mathlib.Core.Bool.{Bool, true, false}
 use mathlib.Core.List.{List}
 use borrow.Author.Tests.{eqb-true, eqb-false}
 use lib.Dec.{eqb}
-use lib.ListN.{length, set}
+use lib.ListN.{set}
 use Rattle.scope.specs.Layout.{row_span}
 use Rattle.scope.specs.Syntax.{Types, super_of}
 use Rattle.scope.specs.Memory.{or_zero}
 use Rattle.lent_u16.specs.Words.{word_limit}
 use Rattle.scope.specs.Ranges.{size_in, start_in}
-use Rattle.type_forest.specs.Forest.{Lower, Sizes, Starts}
 use Rattle.type_forest.specs.Walks.{Sizing, Grown, Placing, Placed}
 use Rattle.type_forest.proofs.Sizing.{sizing_first, sizing_small, sizing_turn, sizing_last, sizing_all}
 use Rattle.type_forest.proofs.Placing.{placing_first, placing_small, placing_next, placing_turn, placing_starts, placing_ends}
@@ -44,29 +43,22 @@ beside_numbered {n} {codes} {rows} {rows₁} {rows₂} b t =
 -- ends, cleared
 
 pub record EndsSoFar (n : ℕ) (rows₀ rows : List ℕ) (x : ℕ) : Type 0 where
-  pub room : row_span * n ≤ length rows₀
-  pub most : x ≤ n
   pub beside : Beside n rows₀ rows
   pub fresh : (y : ℕ) → y < x → end_at rows y ≡ 0
 
-pub ends_first : {n : ℕ} {rows : List ℕ} → Clearable n rows → EndsSoFar n rows rows 0
-ends_first {n} {rows} ok = record { room = ok.room; most = omega arith; beside = beside_none n rows; fresh = λ y less. absurd (omega arith) }
+pub ends_first : (n : ℕ) (rows : List ℕ) → EndsSoFar n rows rows 0
+ends_first n rows = record { beside = beside_none n rows; fresh = λ y less. absurd (omega arith) }
 
 module _ {n : ℕ} {rows₀ rows : List ℕ} {x : ℕ} (s : EndsSoFar n rows₀ rows x) where
-  pub ends_long : length rows ≡ length rows₀
-  ends_long = s.beside.size
-
   pub ends_last : n ≤ x → Emptied n rows₀ rows
   ends_last h = record { beside = s.beside; fresh = λ y less. s.fresh y (omega arith) }
 
-  pub ends_turn : {rows' : List ℕ} → x < n → rows' ≡ set rows (row_span * x + end_word) (0 % word_limit) → EndsSoFar n rows₀ rows' (x + 1)
-  ends_turn {rows'} inside e =
+  pub ends_turn : {rows' : List ℕ} → Clearable n rows₀ → x < n → rows' ≡ set rows (row_span * x + end_word) (0 % word_limit) → EndsSoFar n rows₀ rows' (x + 1)
+  ends_turn {rows'} ok inside e =
       let long = s.beside.size in
-      let room = s.room in
+      let room = ok.room in
       let t : Set rows rows' x end_word 0 = set_is x end_word e (omega arith) (omega arith) (omega arith) in
       record {
-        room = s.room;
-        most = omega arith;
         beside = beside_more s.beside (t.beside n inside (omega arith)) n (omega arith) (omega arith);
         fresh = λ y less. one y (eqb y x) refl less t;
       }
@@ -75,7 +67,7 @@ module _ {n : ℕ} {rows₀ rows : List ℕ} {x : ℕ} (s : EndsSoFar n rows₀ 
       one y true q less t = rw (eqb-true y x q) t.here
       one y false q less t = let other = eqb-false y x q in t.row y end_word other (omega arith) ∙ s.fresh y (omega arith)
 
-pub ruleset ends_exits = (ends_first, ends_long, ends_last, ends_turn)
+pub ruleset ends_exits = (ends_first, ends_last, ends_turn)
 
 -- sizes
 
@@ -89,9 +81,6 @@ sizes-first {n} {codes} {rows} ok =
     record { ok = ok.ok; beside = beside_none n rows; sizing = sizing_first (parent_of rows codes) n (end_at rows) ok.fresh }
 
 module _ {n : ℕ} {codes rows₀ rows : List ℕ} {k : ℕ} (s : SizesSoFar n codes rows₀ rows k) where
-  pub sizes_long : length rows ≡ length rows₀
-  sizes_long = s.beside.size
-
   pub sizes_last : k ≤ 0 → Sized n codes rows₀ rows
   sizes_last h =
       let z : k ≡ 0 = omega arith in
@@ -128,7 +117,7 @@ module _ {n : ℕ} {codes rows₀ rows : List ℕ} {k : ℕ} (s : SizesSoFar n c
           sizing = sizing_turn before here_lower grown;
         }
 
-pub ruleset sizes_exits = (sizes-first, sizes_long, sizes_last, sizes-need, sizes_turn)
+pub ruleset sizes_exits = (sizes-first, sizes_last, sizes-need, sizes_turn)
 
 -- starts
 
@@ -142,9 +131,6 @@ starts_first {n} {codes} {rows} ok =
     record { ok = ok; beside = beside_none n rows; placing = placing_first (parent_of rows codes) n (end_at rows) (start_at rows) }
 
 module _ {n : ℕ} {codes rows₀ rows : List ℕ} {x next : ℕ} (s : StartsSoFar n codes rows₀ rows x next) where
-  pub starts_long : length rows ≡ length rows₀
-  starts_long = s.beside.size
-
   pub starts_last : n ≤ x → Numbered n codes rows₀ rows
   starts_last h =
       let m = s.placing.most in
@@ -189,7 +175,7 @@ module _ {n : ℕ} {codes rows₀ rows : List ℕ} {x next : ℕ} (s : StartsSoF
           placing = rw (add-one x) (placing_turn ok.lower ok.sizes ok.all s.placing inside placed);
         }
 
-pub ruleset starts_exits = (starts_first, starts_long, starts_last, starts-need, starts_turn)
+pub ruleset starts_exits = (starts_first, starts_last, starts-need, starts_turn)
 
 -- one after the other
 

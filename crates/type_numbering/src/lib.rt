@@ -9,6 +9,7 @@ ghost use Rattle.type_numbering.specs.Ranges.{ParentIs, Clearable, Emptied, Size
 use type_table::Link;
 
 // What stands above a type in the forest: its supertype. Both walks ask here and nowhere else.
+#[tactic(auto, using(crate::proofs::Turns::parent_by))]
 fn parent_of(rows: &[u16], shared: &[u16], codes: &[u16], x: u64) -> Link
     ensures { ParentIs rows.now (both_codes shared.now codes.now) x result }
 {
@@ -16,18 +17,18 @@ fn parent_of(rows: &[u16], shared: &[u16], codes: &[u16], x: u64) -> Link
 }
 
 // The end words of n types become 0.
+#[tactic(auto, using(crate::proofs::Walked::ends_exits))]
 fn clear_ends(rows: &mut [u16], n: u64)
     requires { Clearable n rows.old }
     ensures { Emptied n rows.old rows.new }
 {
-    let mut x: u64 = 0;
-    while x < n {
+    for x in 0..n {
         type_span::put_word(rows, x, type_span::END, 0);
-        x = x + 1;
     }
 }
 
 // One type is counted, and all that it counts is handed on to its supertype.
+#[tactic(auto, using(crate::proofs::Turns::size_exits))]
 fn size_one(rows: &mut [u16], shared: &[u16], codes: &[u16], k: u64)
     requires { Sizeable k (both_codes shared.now codes.now) rows.old }
     ensures { SizedOne k (both_codes shared.now codes.now) rows.old rows.new }
@@ -43,19 +44,19 @@ fn size_one(rows: &mut [u16], shared: &[u16], codes: &[u16], k: u64)
 }
 
 // The end words of n types become their sizes.
+#[tactic(auto, using(crate::proofs::Walked::sizes_exits))]
 fn put_sizes(rows: &mut [u16], shared: &[u16], codes: &[u16], n: u64)
     requires { Empty n (both_codes shared.now codes.now) rows.old }
     ensures { Sized n (both_codes shared.now codes.now) rows.old rows.new }
 {
-    let mut k = n;
-    while 0 < k {
-        k = k - 1;
+    for k in (0..n).rev() {
         size_one(rows, shared, codes, k);
     }
 }
 
 // One type takes its place: behind its supertype and what is below that so far, or behind all that has a place. The answer is where
 // the next type without a supertype begins.
+#[tactic(auto, using(crate::proofs::Turns::place_exits))]
 fn place_one(rows: &mut [u16], shared: &[u16], codes: &[u16], x: u64, next: u64) -> u64
     requires { Placeable x next (both_codes shared.now codes.now) rows.old }
     ensures { PlacedOne x next (both_codes shared.now codes.now) rows.old rows.new result }
@@ -75,19 +76,19 @@ fn place_one(rows: &mut [u16], shared: &[u16], codes: &[u16], x: u64, next: u64)
 }
 
 // The sizes in the end words become starts and ends.
+#[tactic(auto, using(crate::proofs::Walked::starts_exits))]
 fn put_starts(rows: &mut [u16], shared: &[u16], codes: &[u16], n: u64)
     requires { Startable n (both_codes shared.now codes.now) rows.old }
     ensures { Numbered n (both_codes shared.now codes.now) rows.old rows.new }
 {
-    let mut x: u64 = 0;
     let mut next: u64 = 1;
-    while x < n {
+    for x in 0..n {
         next = place_one(rows, shared, codes, x, next);
-        x = x + 1;
     }
 }
 
 // The ranges of n types whose supertypes are earlier.
+#[tactic(auto, using(crate::proofs::Walked::number_exits))]
 pub fn number(rows: &mut [u16], shared: &[u16], codes: &[u16], n: u64)
     requires { Numberable n (both_codes shared.now codes.now) rows.old }
     ensures { Numbered n (both_codes shared.now codes.now) rows.old rows.new }

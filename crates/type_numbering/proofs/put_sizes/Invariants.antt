@@ -4,6 +4,3 @@ use Rattle.type_numbering.proofs.put_sizes.Given as goal
 
 abbrev pub invariant-loop-k : goal.invariant-loop-k
 invariant-loop-k l = SizesSoFar l.n (both_codes l.shared l.codes) l.initial.rows l.rows l.k
-
-abbrev pub decreases-loop-k : goal.decreases-loop-k
-decreases-loop-k l = l.k
