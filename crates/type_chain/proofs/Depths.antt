@@ -2,17 +2,16 @@
 use Prim.Native.Nat.{ℕ, zero, suc, ◌+◌, ◌*◌, ◌%◌, ◌≤◌, ◌<◌}
 use native.Mathlib.Omega.{arith}
 use mathlib.Core.Path.{◌≡◌, refl, sym, ◌∙◌, ap}
-use mathlib.Core.Bool.{Bool, true, false, not, cond}
+use mathlib.Core.Bool.{Bool, true, false, not}
 use mathlib.Core.Option.{Option, none, some}
 use mathlib.Core.List.{List}
 use borrow.Author.Tests.{eqb-true, eqb-false, lt-ltb, le-ltb, ltb-true, ltb-false}
 use lib.Dec.{eqb, ltb}
-use lib.ListN.{length, set}
+use lib.ListN.{set}
 use mir.Syntax.{w64}
 use mir.Val.{Fits}
-use Rattle.scope.specs.Sizes.{most_types, most_steps}
+use Rattle.scope.specs.Sizes.{most_steps}
 use Rattle.scope.specs.Layout.{row_span}
-use Rattle.scope.specs.Reading.{given}
 use Rattle.scope.specs.Syntax.{Types, super_of}
 use Rattle.scope.specs.TypeRules.{short_chain}
 use Rattle.lent_u16.specs.Words.{word_limit, WordAt}
@@ -23,7 +22,7 @@ use Rattle.type_table.specs.Answers.{link_is}
 use Rattle.type_table.proofs.Laws.{link_nothing, link_to}
 use Rattle.type_span.specs.Span.{end_word, end_at, Beside}
 use Rattle.type_span.proofs.Stores.{Set, set_is, beside_more, beside_none, beside_view}
-use Rattle.type_chain.specs.Depths.{shallow, Upward, Depths, depth_from, DepthAt, Measurable, Measured}
+use Rattle.type_chain.specs.Depths.{shallow, Upward, depth_from, DepthAt, Measurable, Measured}
 
 -- the depth of one type
 
@@ -65,22 +64,17 @@ one_deeper types x p d e above (suc steps) = rw e (above steps ∙ ap not (sym (
 -- the loop
 
 pub record DepthsSoFar (n : ℕ) (codes rows₀ rows : List ℕ) (x : ℕ) : Type 0 where
-  pub ok : Measurable n rows₀
-  pub most : x ≤ n
   pub beside : Beside n rows₀ rows
   pub deep : (y : ℕ) → y < x → Upward (view rows₀ codes) y → (steps : ℕ) → short_chain steps (view rows₀ codes) y ≡ shallow steps rows y
   pub small : (y : ℕ) → y < x → end_at rows y ≤ y
 
-pub depths_first : {n : ℕ} (codes : List ℕ) {rows : List ℕ} → Measurable n rows → DepthsSoFar n codes rows rows 0
-depths_first {n} codes {rows} ok =
-    record { ok = ok; most = omega arith; beside = beside_none n rows; deep = λ y less. absurd (omega arith); small = λ y less. absurd (omega arith) }
+pub depths_first : (n : ℕ) (codes rows : List ℕ) → DepthsSoFar n codes rows rows 0
+depths_first n codes rows =
+    record { beside = beside_none n rows; deep = λ y less. absurd (omega arith); small = λ y less. absurd (omega arith) }
 
 module _ {n : ℕ} {codes rows₀ rows : List ℕ} {x : ℕ} (s : DepthsSoFar n codes rows₀ rows x) where
   abbrev types : Types
   types = view rows₀ codes
-
-  pub depths_long : length rows ≡ length rows₀
-  depths_long = s.beside.size
 
   pub depths_last : n ≤ x → Measured n codes rows₀ rows
   depths_last h =
@@ -108,16 +102,14 @@ module _ {n : ℕ} {codes rows₀ rows : List ℕ} {x : ℕ} (s : DepthsSoFar n 
         let above = s.deep p less (record { each = λ y q early f. up.each y q (omega arith) f }) in
         one_deeper types x p (end_at rows p) e above steps ∙ sym (ap (λ (k : ℕ). not (ltb steps k)) is)
 
-    pub depths_turn : {rows' : List ℕ} → x < n → rows' ≡ set rows (row_span * x + end_word) (depth % word_limit) → DepthsSoFar n codes rows₀ rows' (x + 1)
-    depths_turn {rows'} inside e =
+    pub depths_turn : {rows' : List ℕ} → Measurable n rows₀ → x < n → rows' ≡ set rows (row_span * x + end_word) (depth % word_limit) → DepthsSoFar n codes rows₀ rows' (x + 1)
+    depths_turn {rows'} ok inside e =
         let long = s.beside.size in
-        let room = s.ok.room in
-        let count = s.ok.count in
+        let room = ok.room in
+        let count = ok.count in
         let low : depth ≤ x = few (super_of (types x)) refl in
         let t : Set rows rows' x end_word depth = set_is x end_word e (omega arith) (omega arith) (omega arith) in
         record {
-          ok = s.ok;
-          most = omega arith;
           beside = beside_more s.beside (t.beside n inside (omega arith)) n (omega arith) (omega arith);
           deep = λ y less up steps. one_deep y (eqb y x) refl less t up steps;
           small = λ y less. one-small y (eqb y x) refl less t low;
@@ -131,7 +123,7 @@ module _ {n : ℕ} {codes rows₀ rows : List ℕ} {x : ℕ} (s : DepthsSoFar n 
         one-small y true q less t low = let same = eqb-true y x q in rw (same, t.here) low
         one-small y false q less t low = let other = eqb-false y x q in rw (t.row y end_word other (omega arith)) (s.small y (omega arith))
 
-pub ruleset depths_exits = (depths_first, depths_long, depths_last, depths_turn)
+pub ruleset depths_exits = (depths_first, depths_last, depths_turn)
 
 -- the question
 

@@ -1,22 +1,13 @@
 -- Rule 1: each way out is a case of the rule.
-use Prim.Native.Nat.{ℕ, zero, suc, ◌-◌, ◌≤◌, ◌<◌}
-use native.Mathlib.Numerals.{sub-one}
-use mathlib.Core.Path.{◌≡◌, refl, sym, ◌∙◌}
+use Prim.Native.Nat.{ℕ, ◌≤◌, ◌<◌}
+use mathlib.Core.Path.{◌≡◌}
 use mathlib.Core.Bool.{Bool, true, false}
-use mathlib.Core.Option.{Option}
-use native.Mathlib.Omega.{arith}
 use borrow.Author.Tests.{lt-ltb, le-ltb}
-use Rattle.scope.specs.Sizes.{most_steps}
-use Rattle.scope.specs.Lists.{is_none}
-use Rattle.scope.specs.Reading.{given}
-use Rattle.scope.specs.Syntax.{Types, super_of}
-use Rattle.scope.specs.TypeRules.{super_earlier_and_open, short_chain}
-use Rattle.type_table.specs.declared.Link.{Link}
-use Rattle.type_table.specs.declared.Link
+use Rattle.scope.specs.Syntax.{Types}
+use Rattle.scope.specs.TypeRules.{super_earlier_and_open}
 use Rattle.type_table.specs.declared.Supers.{Supers}
 use Rattle.type_table.specs.declared.Supers
-use Rattle.type_table.specs.Answers.{link_is, supers_list}
-use Rattle.type_table.proofs.Laws.{link_nothing, link_to}
+use Rattle.type_table.specs.Answers.{supers_list}
 
 -- at most one supertype
 

@@ -30,6 +30,7 @@ pub fn super_earlier_and_open(rows: &[u16], shared: &[u16], codes: &[u16], x: u6
 }
 
 // How many types are above one, where each supertype is earlier: one more than above its own, whose end word says how many that is.
+#[tactic(auto, using(crate::proofs::Depths::depth_exits))]
 fn depth_of(rows: &[u16], shared: &[u16], codes: &[u16], x: u64) -> u64
     ensures { DepthAt (view rows.now (both_codes shared.now codes.now)) rows.now x result }
 {
@@ -44,19 +45,19 @@ fn depth_of(rows: &[u16], shared: &[u16], codes: &[u16], x: u64) -> u64
 }
 
 // The end words of n types become their depths, until the ranges are put.
+#[tactic(auto, using(crate::proofs::Depths::depths_exits))]
 pub fn put_depths(rows: &mut [u16], shared: &[u16], codes: &[u16], n: u64)
     requires { Measurable n rows.old }
     ensures { Measured n (both_codes shared.now codes.now) rows.old rows.new }
 {
-    let mut x: u64 = 0;
-    while x < n {
+    for x in 0..n {
         let depth = depth_of(rows, shared, codes, x);
         type_span::put_word(rows, x, type_span::END, depth);
-        x = x + 1;
     }
 }
 
 // Sizes: 63 steps up a supertype chain, of a type whose end word is its depth.
+#[tactic(auto, using(crate::proofs::Depths::shallow_exits))]
 pub fn short_chain(rows: &[u16], x: u64) -> bool
     ensures { result ≡ shallow most_steps rows.now x }
 {
