@@ -1,5 +1,5 @@
 -- Cells that are filled, one after the other: copies of values, and the defaults of fields.
-use Prim.Native.Nat.{ℕ, zero, suc, ◌+◌, ◌/◌, ◌<◌}
+use Prim.Native.Nat.{ℕ, ◌+◌, ◌/◌, ◌<◌}
 use mathlib.Core.Path.{◌≡◌, refl, sym, ap, ap₂, ◌∙◌}
 use mathlib.Core.Bool.{Bool, true, false}
 use mathlib.Core.Option.{none, some}
@@ -20,7 +20,7 @@ use Rattle.type_table.specs.declared.ValKind.{ValKind}
 use Rattle.type_table.specs.declared.ValKind
 use Rattle.type_table.proofs.Laws.{is_number, is_ref}
 use Rattle.run_values.specs.Values.{Word64At, numbered, value_at, entry_in, values_from, set_value, Canon, AllCanon}
-use Rattle.run_values.proofs.Numbered.{numbered_more}
+use Rattle.run_values.proofs.Numbered.{numbered_more, codes_more}
 use Rattle.run_values.proofs.Laws.{zero_of_code, value_null, canon_zero, canon_null, all_less, put_long, put_beside, put_next, put_all_more}
 use Rattle.run_cells.specs.Cells.{CellRoom, Filled, CellsCopied, start_of, DefaultKind, CellsDefault}
 
@@ -94,17 +94,6 @@ module _ (c : ℕ) {r : ValKind} (v : r ≡ val_is (val_at_code c)) where
 pub ruleset kind_exits = (number_kind, reference_kind)
 
 -- the defaults of all fields
-
-codes-numbered : {A : Type 0} (f : ℕ → A) (codes : List ℕ) (at n : ℕ) → codes_at f codes at n ≡ numbered (λ i. f (get_or codes i 0)) at n
-unfolding codes_at numbered
-codes-numbered f codes at zero = refl
-codes-numbered f codes at (suc n) = ap (λ (l : List _). f (get_or codes at 0) ∷ l) (codes-numbered f codes (at + 1) n)
-
-codes_more : {A : Type 0} (f : ℕ → A) (codes : List ℕ) (at n : ℕ) → codes_at f codes at (n + 1) ≡ codes_at f codes at n ++ (f (get_or codes (at + n) 0) ∷ [])
-codes_more f codes at n =
-    codes-numbered f codes at (n + 1)
-    ∙ numbered_more (λ i. f (get_or codes i 0)) at n
-    ∙ ap (λ (l : List _). l ++ (f (get_or codes (at + n) 0) ∷ [])) (sym (codes-numbered f codes at n))
 
 abbrev starts : List ℕ → ℕ → ℕ → List Value
 starts codes first n = map start_of (holds_of (codes_at field_at_code codes first n))

@@ -5,8 +5,6 @@ use mathlib.Core.Option.{some}
 use mathlib.Core.List.{List, ◌∷◌}
 use native.Mathlib.Omega.{arith}
 use lib.ListN.{length, get_or}
-use mir.Syntax.{w32}
-use mir.Val.{Fits}
 use Rattle.scope.specs.Layout.{value_span}
 use Rattle.run_values.specs.Values.{Word64At, value_at, entry_in}
 use Rattle.run_values.proofs.Laws.{put_long, put_beside, put_here, put_all_more}
@@ -46,7 +44,4 @@ pushed_one {m} {m'} {base} {h} v e room =
       size = rw e (put_long m (base + h) k n);
     }
 
-pub push_fits : {m : List ℕ} {base h : ℕ} → Room m base h 1 → Fits w32 (base + h)
-push_fits room = record { fits = omega (arith, room.few) }
-
-pub ruleset top_exits = (top_nothing, top_there, pushed_one, push_fits)
+pub ruleset top_exits = (top_nothing, top_there, pushed_one)

@@ -1,27 +1,25 @@
 -- What the locals hold at the start: after i turns the first i of them hold the defaults of their types.
-use Prim.Native.Nat.{ℕ, zero, suc, ◌+◌, ◌-◌, ◌/◌, ◌%◌, ◌≤◌, ◌<◌}
+use Prim.Native.Nat.{ℕ, ◌+◌, ◌-◌, ◌/◌, ◌%◌, ◌≤◌, ◌<◌}
 use mathlib.Core.Path.{◌≡◌, refl, sym, ap, ap₂, ◌∙◌}
-use mathlib.Core.Logic.{◌⊎◌, inl, inr}
 use mathlib.Core.Bool.{true, false}
-use mathlib.Core.Option.{some}
-use mathlib.Core.List.{List, ◌∷◌, map}
+use mathlib.Core.Option.{Option, some}
+use mathlib.Core.List.{List, [], ◌∷◌, ◌++◌, map, map-append}
 use native.Mathlib.Omega.{arith}
+use native.Mathlib.Nat.{zero-add}
 use lib.ListN.{length, get_or}
-use lib.Dec.{eqb}
-use borrow.Author.Tests.{eqb-true, eqb-false, eq-eqb, ne_eqb}
+use borrow.Author.Tests.{eq-eqb, ne_eqb}
 use Rattle.scope.specs.Syntax.{ref}
-use Rattle.scope.specs.Machine.{number, default_of}
-use Rattle.scope.proofs.Truths.{decided}
+use Rattle.scope.specs.Machine.{Value, number, default_of}
 use Rattle.run_values.specs.Layout.{bits_place, no_value, null_kind}
 use Rattle.type_table.specs.View.{number_at, val_at_code, heap_at_code, codes_at}
 use Rattle.type_table.proofs.Codes.{val_number, val_ref}
 use Rattle.body_state.specs.Layout.{code_bound}
 use Rattle.lent_u32.specs.Scratch.{Word32At}
 use Rattle.body_state.specs.State.{val_at_word}
-use Rattle.run_values.specs.Values.{numbered, value_at, held_from, set_value, AllHeldCanon, entry_in, held_at}
-use Rattle.run_values.proofs.Laws.{value_zero, value_null, held_none, held-some, held_canon_none, held_canon_some, canon_zero, canon_null, put_long}
+use Rattle.run_values.specs.Values.{numbered, value_at, held_from, set_value, held_at}
+use Rattle.run_values.proofs.Laws.{value_zero, value_null, held_none, held-some, held_canon_none, held_canon_some, canon_zero, canon_null, put_long, put_next, put_all_more}
+use Rattle.run_values.proofs.Numbered.{codes_more}
 use Rattle.run_stack.specs.Pile.{LocalRoom, StartKind, Started}
-use Rattle.run_stack.proofs.Held.{held_beside, held_here, held_canon_put}
 
 -- the kind
 
@@ -51,61 +49,28 @@ module _ {code : ℕ} (h : 4 ≤ code) where
 
 -- the locals
 
-starts_are_lem : (work locals : List ℕ) (at n : ℕ) → ((j : ℕ) → at ≤ j → j < at + n → entry_in held_at locals j ≡ default_of (val_at_word (get_or work j 0))) → held_from locals at n ≡ map default_of (codes_at val_at_word work at n)
+pub started_none : (work locals : List ℕ) → Started work locals locals 0
 unfolding numbered codes_at
-starts_are_lem work locals at zero same = refl
-starts_are_lem work locals at (suc n) same =
-    ap₂ ◌∷◌ (same at (omega arith) (omega arith)) (starts_are_lem work locals (at + 1) n (λ j h l. same j (omega arith) (omega arith)))
+started_none work locals = record { is = refl; canon = record { each = λ j h. absurd (omega arith) }; size = refl }
 
-pub record FirstStarted (work locals₀ locals : List ℕ) (count i : ℕ) : Type 0 where
-  pub room : LocalRoom locals₀ count
-  pub most : i ≤ count
-  pub size : length locals ≡ length locals₀
-  pub held : (j : ℕ) → j < i → entry_in held_at locals j ≡ default_of (val_at_word (get_or work j 0))
-  pub canon : AllHeldCanon locals i
-
-pub started_first : (work : List ℕ) {locals : List ℕ} {count : ℕ} → LocalRoom locals count → FirstStarted work locals locals count 0
-started_first work room =
+pub started_more :
+    {work locals₀ locals locals' : List ℕ} {count i c k : ℕ} → Started work locals₀ locals i → LocalRoom locals₀ count → i < count
+    → Word32At work i c → StartKind (c % code_bound) k → locals' ≡ set_value locals i k 0 → Started work locals₀ locals' (i + 1)
+unfolding val_at_word
+started_more {work} {locals₀} {locals} {locals'} {count} {i} {c} {k} f room h w a e =
+    let more : codes_at val_at_word work 0 (i + 1) ≡ codes_at val_at_word work 0 i ++ (val_at_word (get_or work i 0) ∷ []) =
+    codes_more val_at_word work 0 i ∙ ap (λ (j : ℕ). codes_at val_at_word work 0 i ++ (val_at_word (get_or work j 0) ∷ [])) (zero-add i) in
     record {
-      room = room;
-      most = omega arith;
-      size = refl;
-      held = λ j h. absurd (omega arith);
-      canon = record { each = λ j h. absurd (omega arith) };
+      is =
+          ap (λ (m : List ℕ). held_from m 0 (i + 1)) e
+          ∙ put_next locals i k 0 inside held_at 0 i (zero-add i)
+          ∙ ap₂ (λ (hs : List (Option Value)) (h : Option Value). hs ++ (h ∷ [])) f.is (a.is ∙ ap (λ (x : ℕ). default_of (val_at_word x)) w.is)
+          ∙ sym (ap (map default_of) more ∙ map-append default_of (codes_at val_at_word work 0 i) (val_at_word (get_or work i 0) ∷ []));
+      canon = rw e (put_all_more locals i k 0 inside a.canon f.canon);
+      size = ap length e ∙ put_long locals i k 0 ∙ f.size;
     }
+  where
+    inside : bits_place i < length locals
+    inside = omega (arith, f.size, room.room, room.few)
 
-module _ {work locals₀ locals : List ℕ} {count i : ℕ} (f : FirstStarted work locals₀ locals count i) where
-  pub started_size : length locals ≡ length locals₀
-  started_size = f.size
-
-  pub started_all : count ≤ i → Started work locals₀ locals count
-  started_all h =
-      record {
-        is = starts_are_lem work locals 0 count (λ j l b. f.held j (omega arith));
-        canon = record { each = λ j l. f.canon.each j (omega arith) };
-        size = f.size;
-      }
-
-  pub started_turn : i < count → {c : ℕ} → Word32At work i c → {k : ℕ} → StartKind (c % code_bound) k → {locals' : List ℕ} → locals' ≡ set_value locals i k 0 → FirstStarted work locals₀ locals' count (i + 1)
-  unfolding val_at_word
-  started_turn h {c} w {k} a {locals'} e =
-      record {
-        room = f.room;
-        most = omega arith;
-        size = rw e (put_long locals i k 0) ∙ f.size;
-        held = λ j l. each j l (decided (eqb j i));
-        canon = rw e (record { each = λ j l. held_canon_put locals i k 0 inside j (λ d. f.canon.each j (omega (arith, d))) a.canon });
-      }
-    where
-      inside : bits_place i < length locals
-      inside = omega (arith, f.size, f.room.room, f.room.few)
-
-      each : (j : ℕ) → j < i + 1 → (eqb j i ≡ true) ⊎ (eqb j i ≡ false) → entry_in held_at locals' j ≡ default_of (val_at_word (get_or work j 0))
-      each j l (inl z) =
-          let same : j ≡ i = eqb-true j i z in
-          rw (same, e) (held_here locals i k 0 inside ∙ a.is ∙ ap (λ (x : ℕ). default_of (val_at_word x)) w.is)
-      each j l (inr z) =
-          let other : j ≡ i → ⊥ = eqb-false j i z in
-          rw e (held_beside locals i k 0 j other) ∙ f.held j (omega (arith, other))
-
-pub ruleset start_exits = (start-number, start_null, start_none, started_first, started_size, started_all, started_turn)
+pub ruleset start_exits = (start-number, start_null, start_none, started_none, started_more)

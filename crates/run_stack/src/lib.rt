@@ -57,10 +57,8 @@ pub fn move_down(m: &mut [u64], from: u32, to: u32, n: u32)
     requires { Lower m.old from to n }
     ensures { Moved m.old m.new from to n }
 {
-    let mut i: u32 = 0;
-    while i < n {
+    for i in 0..n {
         move_one(m, from + i, to + i);
-        i = i + 1;
     }
 }
 
@@ -115,11 +113,9 @@ pub fn start_locals(work: &[u32], locals: &mut [u64], count: u16)
     requires { LocalRoom locals.old count }
     ensures { Started work.now locals.old locals.new count }
 {
-    let mut i: u16 = 0;
-    while i < count {
+    for i in 0..count {
         let code = lent_u32::word32(work, i as u64);
         let kind = start_kind(code % body_state::CODE_BOUND);
         run_values::put_value(locals, i as u32, kind, 0);
-        i = i + 1;
     }
 }

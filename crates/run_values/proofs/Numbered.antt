@@ -9,6 +9,7 @@ use lib.ListN.{length, get_or, get_elem?, set, take, drop}
 use lib.Seq.{drop-cons}
 use Rattle.scope.specs.Layout.{value_span}
 use Rattle.scope.specs.Lists.{joined}
+use Rattle.type_table.specs.View.{codes_at}
 use Rattle.run_values.specs.Layout.{kind_place, bits_place}
 use Rattle.run_values.specs.Values.{numbered}
 
@@ -85,3 +86,16 @@ module _ {A : Type 0} (f : ℕ → A) (write : A → List ℕ) (m : List ℕ) wh
 
   pub pairs_are : (n : ℕ) → value_span * n ≤ length m → ((j : ℕ) → j < n → write (f j) ≡ get_or m (kind_place j) 0 ∷ get_or m (bits_place j) 0 ∷ []) → joined (map write (numbered f 0 n)) ≡ take (value_span * n) m
   pairs_are n room written = pairs_from 0 n (omega arith) (λ j h l. written j (omega arith))
+
+-- types that the table gives at places in a row are numbered too
+
+codes-numbered : {A : Type 0} (f : ℕ → A) (codes : List ℕ) (at n : ℕ) → codes_at f codes at n ≡ numbered (λ i. f (get_or codes i 0)) at n
+unfolding codes_at numbered
+codes-numbered f codes at zero = refl
+codes-numbered f codes at (suc n) = ap (λ (l : List _). f (get_or codes at 0) ∷ l) (codes-numbered f codes (at + 1) n)
+
+pub codes_more : {A : Type 0} (f : ℕ → A) (codes : List ℕ) (at n : ℕ) → codes_at f codes at (n + 1) ≡ codes_at f codes at n ++ (f (get_or codes (at + n) 0) ∷ [])
+codes_more f codes at n =
+    codes-numbered f codes at (n + 1)
+    ∙ numbered_more (λ i. f (get_or codes i 0)) at n
+    ∙ ap (λ (l : List _). l ++ (f (get_or codes (at + n) 0) ∷ [])) (sym (codes-numbered f codes at n))

@@ -6,21 +6,6 @@ use Rattle.run_stack.proofs.move_down.Goals as goal
 pub loop-i-init : goal.loop-i-init
 loop-i-init c = search (down_exits, rules)
 
-pub overflow_add-from : goal.overflow_add-from
-overflow_add-from c = search (down_exits, rules)
-
-pub overflow_add-to : goal.overflow_add-to
-overflow_add-to c = search (down_exits, rules)
-
-pub move_one-requires : goal.move_one-requires
-move_one-requires c = search (down_exits, rules)
-
-pub overflow_add-i : goal.overflow_add-i
-overflow_add-i c = search (down_exits, rules)
-
-pub loop-i-smaller : goal.loop-i-smaller
-loop-i-smaller c = search (down_exits, rules)
-
 pub loop-i-preserved : goal.loop-i-preserved
 loop-i-preserved c = search (down_exits, rules)
 

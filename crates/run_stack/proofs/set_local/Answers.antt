@@ -3,12 +3,6 @@ use borrow.Author.Rules.{rules}
 use Rattle.run_stack.proofs.Held.{local_exits}
 use Rattle.run_stack.proofs.set_local.Goals as goal
 
-pub overflow_cast-x : goal.overflow_cast-x
-overflow_cast-x c = search (local_exits, rules)
-
-pub put-requires : goal.put-requires
-put-requires c = search (local_exits, rules)
-
 pub returns-then-x-count : goal.returns-then-x-count
 returns-then-x-count c = search (local_exits, rules)
 

@@ -3,9 +3,6 @@ use borrow.Author.Rules.{rules}
 use Rattle.run_stack.proofs.Starts.{start_exits}
 use Rattle.run_stack.proofs.start_kind.Goals as goal
 
-pub overflow_add-result : goal.overflow_add-result
-overflow_add-result c = search (start_exits, rules)
-
 pub returns-then-code-lt-REFERENCES : goal.returns-then-code-lt-REFERENCES
 returns-then-code-lt-REFERENCES c = search (start_exits, rules)
 
