@@ -1,13 +1,11 @@
--- The loops over codes and the list of names walk the same codes: the first code's names stand before the others'.
-use Prim.Native.Nat.{ℕ, ◌+◌, ◌-◌, ◌≤◌, ◌<◌, ◌^◌}
-use mathlib.Core.Path.{◌≡◌, refl, sym, ap, ◌∙◌}
+-- The loop over codes and the list of names walk the same codes: the first code's names stand before the others'.
+use Prim.Native.Nat.{ℕ, ◌+◌, ◌-◌, ◌≤◌, ◌<◌}
+use mathlib.Core.Path.{◌≡◌, sym, ap, ◌∙◌}
 use mathlib.Core.Bool.{Bool, true, false, ◌&&◌}
 use mathlib.Core.List.{List, [], ◌++◌, map}
 use native.Mathlib.Omega.{arith}
 use borrow.Author.Tests.{lt-ltb, le-ltb}
 use lib.Dec.{ltb}
-use mir.Syntax.{w32, w64}
-use mir.Val.{Fits}
 use Rattle.scope.specs.Layout.{codes_size}
 use Rattle.scope.specs.Lists.{joined}
 use Rattle.scope.specs.Syntax.{Val, Field}
@@ -29,37 +27,32 @@ unfolding codes_names code_names
 first-names true codes at left h w = rw (first_code field_at_code codes at left h w)
 first-names false codes at left h w = rw (first_code val_at_code codes at left h w)
 
--- what the loop holds
+-- what the loop holds after k codes
 
-pub record Walk (fields : Bool) (codes : List ℕ) (i n reach at left : ℕ) : Type 0 where
-  pub same : all_below reach (codes_names fields codes i n) ≡ all_below reach (codes_names fields codes at left)
-  pub near : at + left < 2 ^ 33
+pub record Walk (fields : Bool) (codes : List ℕ) (i n reach k : ℕ) : Type 0 where
+  pub same : all_below reach (codes_names fields codes i n) ≡ all_below reach (codes_names fields codes (i + k) (n - k))
 
-pub walk_first : (fields : Bool) (codes : List ℕ) (i n reach : ℕ) → Fits w32 i → Fits w32 n → Walk fields codes i n reach i n
-walk_first fields codes i n reach a b = let p : i < 2 ^ 32 = a.fits in let q : n < 2 ^ 32 = b.fits in record { same = refl; near = omega arith }
+module _ {fields : Bool} {codes : List ℕ} {i n reach k : ℕ} (w : Walk fields codes i n reach k) where
+  pub walk_done : n ≤ k → true ≡ all_below reach (codes_names fields codes i n)
+  walk_done h = below_none reach ∙ sym (w.same ∙ ap (all_below reach) (no_names fields codes (i + k) (n - k) (omega arith)))
 
-module _ {fields : Bool} {codes : List ℕ} {i n reach at left : ℕ} (w : Walk fields codes i n reach at left) where
-  pub walk_done : left ≤ 0 → true ≡ all_below reach (codes_names fields codes i n)
-  walk_done h = below_none reach ∙ sym (w.same ∙ ap (all_below reach) (no_names fields codes at left h))
-
-  pub next_fits : Fits w64 (at + 1)
-  next_fits = let h : at + left < 2 ^ 33 = w.near in record { fits = omega arith }
-
-  module _ (h : 0 < left) {c : ℕ} (p : WordAt codes at c) {limit : ℕ} (l : Limit fields reach limit) where
-    whole : {r : Bool} → ltb c limit ≡ r → all_below reach (codes_names fields codes i n) ≡ (r && all_below reach (codes_names fields codes (at + 1) (left - 1)))
+  module _ (h : k < n) {c : ℕ} (p : WordAt codes (i + k) c) {limit : ℕ} (l : Limit fields reach limit) where
+    whole : {r : Bool} → ltb c limit ≡ r → all_below reach (codes_names fields codes i n) ≡ (r && all_below reach (codes_names fields codes (i + (k + 1)) (n - (k + 1))))
     whole e =
+        let at : i + k + 1 ≡ i + (k + 1) = omega arith in
+        let left : n - k - 1 ≡ n - (k + 1) = omega arith in
         w.same
-        ∙ ap (all_below reach) (first-names fields codes at left h p)
+        ∙ ap (all_below reach) (first-names fields codes (i + k) (n - k) (omega arith) p)
         ∙ below-append reach (code_names fields c) _
-        ∙ ap (λ (t : Bool). t && all_below reach (codes_names fields codes (at + 1) (left - 1))) (l.is c p.small ∙ e)
+        ∙ rw (← at, ← left) (ap (λ (t : Bool). t && all_below reach (codes_names fields codes (i + k + 1) (n - k - 1))) (l.is c p.small ∙ e))
 
     pub walk_stopped : limit ≤ c → false ≡ all_below reach (codes_names fields codes i n)
     walk_stopped out = sym (whole (le-ltb c limit out))
 
-    pub walk_turn : c < limit → Walk fields codes i n reach (at + 1) (left - 1)
-    walk_turn in_reach = let near : at + left < 2 ^ 33 = w.near in record { same = whole (lt-ltb c limit in_reach); near = omega arith }
+    pub walk_turn : c < limit → Walk fields codes i n reach (k + 1)
+    walk_turn in_reach = record { same = whole (lt-ltb c limit in_reach) }
 
-pub ruleset walk_exits = (walk_first, walk_done, next_fits, walk_stopped, walk_turn)
+pub ruleset walk_exits = (walk_done, walk_stopped, walk_turn)
 
 -- codes that all lie in one part
 

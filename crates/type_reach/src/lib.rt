@@ -2,10 +2,11 @@
 // looked at: its supertypes, its clauses, and those in its fields, parameters and results.
 #![tactic(auto)]
 
-ghost use Rattle.std.specs.Prelude.{◌≡◌, ◌&&◌};
+ghost use Rattle.std.specs.Prelude.{◌≡◌, ℕ, List, ◌&&◌};
 ghost use Rattle.scope.specs.Lists.{as_list};
 ghost use Rattle.scope.specs.TypeRules.{heap_names, val_names, form_names, in_reach};
 ghost use Rattle.type_table.specs.View.{heap_at_code, val_at_code, view, both_codes};
+ghost use Rattle.lent_u16.specs.Words.{WordAt};
 ghost use Rattle.type_reach.specs.Names.{all_below, link_below, codes_names, Limit};
 
 use type_table::{HeapKind, Link, Shape, Supers, ValKind};
@@ -14,6 +15,7 @@ use type_table::{HeapKind, Link, Shape, Supers, ValKind};
 const SHARED: u32 = type_table::SHARED as u32;
 
 // The number in the heap type with the code h, if there is one.
+#[tactic(auto, using(crate::proofs::Naming::type_exits))]
 pub fn heap_in_reach(h: u64, reach: u64) -> bool
     ensures { result ≡ all_below reach (heap_names (heap_at_code h)) }
 {
@@ -25,6 +27,7 @@ pub fn heap_in_reach(h: u64, reach: u64) -> bool
     }
 }
 
+#[tactic(auto, using(crate::proofs::Naming::type_exits))]
 pub fn val_in_reach(c: u64, reach: u64) -> bool
     ensures { result ≡ all_below reach (val_names (val_at_code c)) }
 {
@@ -43,6 +46,7 @@ const NO_LIMIT: u64 = 65536;
 
 // The first code of a field, or of a value type, that names a type out of reach: codes rise with the number that they name, after
 // those that name none.
+#[tactic(auto, using(crate::proofs::Small::limit_exits))]
 fn limit_of(fields: bool, reach: u64) -> u64
     ensures { Limit fields reach result }
 {
@@ -53,57 +57,51 @@ fn limit_of(fields: bool, reach: u64) -> u64
     if fields { 2 * limit } else { limit }
 }
 
-// The n codes from i on of one section's.
-fn list_in_reach(codes: &[u16], fields: bool, i: u32, n: u32, reach: u64) -> bool
-    ensures { result ≡ all_below reach (codes_names fields codes.now i n) }
+// The n codes from i on, one by one, each as `word` reads it from the list.
+fn list_in_reach<W: Fn(u64) -> u64>(word: W, fields: bool, i: u32, n: u32, reach: u64) -> bool
+    ghost list: { List ℕ }
+    requires callable { W.IsAlwaysCallable word }
+    requires reads { (at r : ℕ) → W.post word at r → WordAt list at r }
+    ensures { result ≡ all_below reach (codes_names fields list i n) }
 {
     let limit = limit_of(fields, reach);
-    let mut at = i as u64;
-    let mut left = n as u64;
-    while 0 < left {
-        let c = lent_u16::word(codes, at);
-        if limit <= c {
+    for k in 0..n as u64 {
+        if limit <= word(i as u64 + k) {
             return false;
         }
-        at = at + 1;
-        left = left - 1;
     }
     true
 }
 
-// The n codes from i on, each looked up by its place: so the answer is right for any words of a row, those of no section too.
-fn any_in_reach(shared: &[u16], codes: &[u16], fields: bool, i: u32, n: u32, reach: u64) -> bool
-    ensures { result ≡ all_below reach (codes_names fields (both_codes shared.now codes.now) i n) }
-{
-    let limit = limit_of(fields, reach);
-    let mut at = i as u64;
-    let mut left = n as u64;
-    while 0 < left {
-        let c = type_table::code_word(shared, codes, at);
-        if limit <= c {
-            return false;
-        }
-        at = at + 1;
-        left = left - 1;
-    }
-    true
-}
-
-// The n codes from i on. A type has all of its codes in one buffer: the walk over them does not ask which at each.
+// The n codes from i on. A type has all of its codes in one buffer: the walk over them does not ask which at each. Else each is looked
+// up by its place: so the answer is right for any words of a row, those of no section too.
+#[tactic(auto, using(crate::proofs::Walking::side_exits))]
 fn codes_in_reach(shared: &[u16], codes: &[u16], fields: bool, i: u32, n: u32, reach: u64) -> bool
     ensures { result ≡ all_below reach (codes_names fields (both_codes shared.now codes.now) i n) }
 {
     let end = i as u64 + n as u64;
     if end <= type_table::SHARED {
-        return list_in_reach(codes, fields, i, n, reach);
+        list_in_reach(|at| lent_u16::word(codes, at), fields, i, n, reach)
+    } else if SHARED <= i {
+        list_in_reach(
+            |at| lent_u16::word(shared, at),
+            fields,
+            i - SHARED,
+            n,
+            reach,
+        )
+    } else {
+        list_in_reach(
+            |at| type_table::code_word(shared, codes, at),
+            fields,
+            i,
+            n,
+            reach,
+        )
     }
-    if SHARED <= i {
-        let at = i - SHARED;
-        return list_in_reach(shared, fields, at, n, reach);
-    }
-    any_in_reach(shared, codes, fields, i, n, reach)
 }
 
+#[tactic(auto, using(crate::proofs::Naming::form_exits))]
 fn form_in_reach(rows: &[u16], shared: &[u16], codes: &[u16], x: u64, reach: u64) -> bool
     ensures { result ≡ all_below reach (form_names (view rows.now (both_codes shared.now codes.now) x).form) }
 {
@@ -119,6 +117,7 @@ fn form_in_reach(rows: &[u16], shared: &[u16], codes: &[u16], x: u64, reach: u64
     }
 }
 
+#[tactic(auto, using(crate::proofs::Naming::super_exits))]
 fn supers_in_reach(rows: &[u16], shared: &[u16], codes: &[u16], x: u64, reach: u64) -> bool
     ensures { result ≡ all_below reach (view rows.now (both_codes shared.now codes.now) x).supers }
 {
@@ -130,6 +129,7 @@ fn supers_in_reach(rows: &[u16], shared: &[u16], codes: &[u16], x: u64, reach: u
     }
 }
 
+#[tactic(auto, using(crate::proofs::Naming::link_exits))]
 fn link_in_reach(link: Link, reach: u64) -> bool
     ensures { result ≡ link_below reach link }
 {
@@ -139,6 +139,7 @@ fn link_in_reach(link: Link, reach: u64) -> bool
     }
 }
 
+#[tactic(auto, using(crate::proofs::Naming::clause_exits))]
 fn clauses_in_reach(rows: &[u16], shared: &[u16], codes: &[u16], x: u64, reach: u64) -> bool
     ensures { let d = view rows.now (both_codes shared.now codes.now) x in
         result ≡ (all_below reach (as_list d.describes) && all_below reach (as_list d.descriptor)) }
@@ -151,6 +152,7 @@ fn clauses_in_reach(rows: &[u16], shared: &[u16], codes: &[u16], x: u64, reach: 
     link_in_reach(descriptor, reach)
 }
 
+#[tactic(auto, using(crate::proofs::Naming::reach_exits))]
 pub fn in_reach(rows: &[u16], shared: &[u16], codes: &[u16], x: u64) -> bool
     ensures { result ≡ in_reach (view rows.now (both_codes shared.now codes.now)) x }
 {

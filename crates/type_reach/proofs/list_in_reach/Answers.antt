@@ -3,26 +3,11 @@ use borrow.Author.Rules.{rules}
 use Rattle.type_reach.proofs.Walking.{walk_exits}
 use Rattle.type_reach.proofs.list_in_reach.Goals as goal
 
-pub loop-left-init : goal.loop-left-init
-loop-left-init c = search (walk_exits, rules)
+pub returns-then-limit-word : goal.returns-then-limit-word
+returns-then-limit-word g c = search (walk_exits, c.requires.1.1, rules)
 
-pub word-c-requires : goal.word-c-requires
-word-c-requires c = search (walk_exits, rules)
-
-pub returns-then-limit-c : goal.returns-then-limit-c
-returns-then-limit-c c = search (walk_exits, rules)
-
-pub overflow_add-at : goal.overflow_add-at
-overflow_add-at c = search (walk_exits, rules)
-
-pub overflow_sub-left : goal.overflow_sub-left
-overflow_sub-left c = search (walk_exits, rules)
-
-pub loop-left-smaller : goal.loop-left-smaller
-loop-left-smaller c = search (walk_exits, rules)
-
-pub loop-left-preserved : goal.loop-left-preserved
-loop-left-preserved c = search (walk_exits, rules)
+pub loop-k-preserved : goal.loop-k-preserved
+loop-k-preserved g c = search (walk_exits, c.requires.1.1, rules)
 
 pub returns : goal.returns
-returns c = search (walk_exits, rules)
+returns g c = search (walk_exits, rules)

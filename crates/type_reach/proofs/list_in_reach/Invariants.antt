@@ -1,8 +1,5 @@
 use Rattle.type_reach.proofs.Walking.{Walk}
 use Rattle.type_reach.proofs.list_in_reach.Given as goal
 
-abbrev pub invariant-loop-left : goal.invariant-loop-left
-invariant-loop-left l = Walk l.fields l.codes l.i l.n l.reach l.at l.left
-
-abbrev pub decreases-loop-left : goal.decreases-loop-left
-decreases-loop-left l = l.left
+abbrev pub invariant-loop-k : goal.invariant-loop-k
+invariant-loop-k g l = Walk l.fields g.list l.i l.n l.reach l.k

