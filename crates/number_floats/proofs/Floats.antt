@@ -1,13 +1,13 @@
 -- The bytes of a float, read from the highest down: what was read so far is what the definition reads from here. And where the
 -- input ends before them, the definition finds a byte missing too.
 use Prim.Native.Nat.{ℕ, zero, suc, ◌+◌, ◌-◌, ◌*◌, ◌^◌, ◌≤◌, ◌<◌}
-use mathlib.Core.Path.{◌≡◌, refl, sym, ap, ◌∙◌}
+use mathlib.Core.Path.{◌≡◌, refl, sym, ap, ap₂, ◌∙◌}
 use mathlib.Core.Option.{Option, none, some}
 use mathlib.Core.List.{List}
 use native.Mathlib.Omega.{arith}
 use lib.ListN.{length, get_or, get_elem?}
 use lib.Pow.{pow-add, pow_mono}
-use mir.Syntax.{w64}
+use mir.Syntax.{w8, w64}
 use mir.Val.{Fits}
 use Rattle.scope.specs.Refusals.{bytes_end}
 use Rattle.scope.specs.Reading.{given}
@@ -15,13 +15,8 @@ use Rattle.scope.specs.Numbers.{little_endian, float_bytes}
 use Rattle.scope.proofs.Impossible.{impossible}
 use Rattle.number_values.specs.declared.Natural.{Natural}
 use Rattle.number_values.specs.declared.Natural
-use Rattle.number_floats.specs.Floats.{ByteIs, FloatLength, FloatRead}
+use Rattle.number_floats.specs.Floats.{FloatLength, FloatRead}
 use Rattle.number_bytes.proofs.Exits.{element_there, element_missing}
-
--- byte_inside
-
-pub byte_inside : {s : List ℕ} {at : ℕ} → at < length s → get_or s at 0 < 2 ^ 8 → ByteIs s at (get_or s at 0)
-byte_inside {s} {at} h small = record { is = element_there s at h; small = small }
 
 -- a byte more, below the others
 lower : (n : ℕ) (s : List ℕ) (at : ℕ) {b v : ℕ} → get_elem? s at ≡ some b → little_endian n s (at + 1) ≡ some v → little_endian (suc n) s at ≡ some (b + 256 * v)
@@ -45,75 +40,54 @@ unfolding float_bytes
 float_short {n} fit s at e h =
     record { is = rw (lacking n s at fit.some (omega arith)); small = λ v next e. impossible cc }
 
--- what the loop holds after so many bytes
+-- what the loop holds where i bytes are left to read
 
-pub record Lower (n : ℕ) (s : List ℕ) (at bits done : ℕ) : Type 0 where
-  pub fit : FloatLength n
-  pub few : done ≤ n
-  pub inside : at + n ≤ length s
-  pub small : bits < 2 ^ (8 * done)
-  pub same : little_endian done s (at + (n - done)) ≡ some bits
+pub record Lower (n : ℕ) (s : List ℕ) (at bits i : ℕ) : Type 0 where
+  pub small : bits < 2 ^ (8 * (n - i))
+  pub same : little_endian (n - i) s (at + i) ≡ some bits
 
-pub float_first : {n : ℕ} → FloatLength n → (s : List ℕ) (at : ℕ) {there : ℕ} → there ≡ length s - at → n ≤ there → Lower n s at 0 0
+pub float_first : (n : ℕ) (s : List ℕ) (at : ℕ) → Lower n s at 0 n
 unfolding little_endian
-float_first {n} fit s at e h =
-    let some' : 1 ≤ n = fit.some in
-    record { fit = fit; few = omega arith; inside = omega arith; small = omega arith; same = refl }
+float_first n s at = let none_read : n - n ≡ 0 = omega arith in record { small = rw none_read (omega arith); same = rw none_read refl }
 
-module _ {n : ℕ} {s : List ℕ} {at bits done : ℕ} (p : Lower n s at bits done) where
-  module _ (more : done < n) where
-    pub float_count : Fits w64 (done + 1)
-    float_count = let m : n ≤ 8 = p.fit.fit in record { fits = omega arith }
+module _ {n : ℕ} {s : List ℕ} {at bits i : ℕ} (p : Lower n s at bits i) where
+  module _ (fit : FloatLength n) (more : 0 < i) where
+    bound : i ≤ n → bits < 2 ^ 56
+    bound few =
+        let w : 2 ^ (8 * (n - i)) ≤ 2 ^ 56 = pow_mono {i = 8 * (n - i)} {j = 56} (omega (arith, fit.fit)) in
+        omega (arith, p.small)
 
-    pub float_inside : at + (n - (done + 1)) < length s
-    float_inside = let i : at + n ≤ length s = p.inside in omega arith
+    pub float_product : i ≤ n → Fits w64 (bits * 256)
+    float_product few = let h : bits < 2 ^ 56 = bound few in record { fits = omega arith }
 
-    pub float_place : length s < 2 ^ 64 → Fits w64 (at + (n - (done + 1)))
-    float_place l = let h : at + (n - (done + 1)) < length s = float_inside in record { fits = omega arith }
+    pub float_sum : i ≤ n → {b : ℕ} → b < 256 → Fits w64 (bits * 256 + b)
+    float_sum few k = let h : bits < 2 ^ 56 = bound few in record { fits = omega arith }
 
-    bound : bits < 2 ^ 56
-    bound =
-        let m : n ≤ 8 = p.fit.fit in
-        let w : 2 ^ (8 * done) ≤ 2 ^ 56 = pow_mono {i = 8 * done} {j = 56} (omega arith) in
-        let q : bits < 2 ^ (8 * done) = p.small in
-        omega arith
-
-    pub float_product : Fits w64 (bits * 256)
-    float_product = let h : bits < 2 ^ 56 = bound in record { fits = omega arith }
-
-    pub float_sum : {place b : ℕ} → ByteIs s place b → Fits w64 (bits * 256 + b)
-    float_sum {place} {b} a = let h : bits < 2 ^ 56 = bound in let k : b < 256 = a.small in record { fits = omega arith }
-
-    pub float_turn : {b : ℕ} → ByteIs s (at + (n - (done + 1))) b → Lower n s at (bits * 256 + b) (done + 1)
-    float_turn {b} a =
-        let k : b < 256 = a.small in
-        let q : bits < 2 ^ (8 * done) = p.small in
-        let one_more_lem : done + 1 ≡ suc done = omega arith in
-        let eight-more : 8 * (done + 1) ≡ 8 + 8 * done = omega arith in
-        let weight : 2 ^ (8 * (done + 1)) ≡ 256 * 2 ^ (8 * done) = ap (λ (x : ℕ). 2 ^ x) eight-more ∙ pow-add 2 8 (8 * done) in
-        let next : at + (n - done) ≡ at + (n - (done + 1)) + 1 = omega arith in
+    pub float_turn : i ≤ n → at + n ≤ length s → ((k : ℕ) → Fits w8 (get_or s k 0)) → Lower n s at (bits * 256 + get_or s (at + (i - 1)) 0) (i - 1)
+    float_turn few inside bytes =
+        let b : ℕ = get_or s (at + (i - 1)) 0 in
+        let small : b < 256 = omega (arith, bytes (at + (i - 1))) in
+        let one_more_lem : n - (i - 1) ≡ suc (n - i) = omega arith in
+        let eight-more : 8 * (n - (i - 1)) ≡ 8 + 8 * (n - i) = omega arith in
+        let weight : 2 ^ (8 * (n - (i - 1))) ≡ 256 * 2 ^ (8 * (n - i)) = ap (λ (x : ℕ). 2 ^ x) eight-more ∙ pow-add 2 8 (8 * (n - i)) in
+        let next : at + i ≡ at + (i - 1) + 1 = omega arith in
         let value : b + 256 * bits ≡ bits * 256 + b = omega arith in
-        let higher : little_endian done s (at + (n - (done + 1)) + 1) ≡ some bits = ap (λ (x : ℕ). little_endian done s x) (sym next) ∙ p.same in
+        let higher : little_endian (n - i) s (at + (i - 1) + 1) ≡ some bits = ap (λ (x : ℕ). little_endian (n - i) s x) (sym next) ∙ p.same in
         record {
-          fit = p.fit;
-          few = omega arith;
-          inside = p.inside;
-          small = omega arith;
-          same = ap (λ (x : ℕ). little_endian x s (at + (n - (done + 1)))) one_more_lem ∙ lower done s (at + (n - (done + 1))) a.is higher ∙ ap some value;
+          small = omega (arith, p.small);
+          same =
+              ap (λ (x : ℕ). little_endian x s (at + (i - 1))) one_more_lem
+              ∙ lower (n - i) s (at + (i - 1)) (element_there s (at + (i - 1)) (omega arith)) higher
+              ∙ ap some value;
         }
 
-  pub float_all : n ≤ done → FloatRead (2 ^ (8 * n)) (float_bytes n s at) (Natural.TheVariants.Is bits (at + n))
+  pub float_all : i ≤ 0 → FloatRead (2 ^ (8 * n)) (float_bytes n s at) (Natural.TheVariants.Is bits (at + n))
   unfolding float_bytes
   float_all h =
-      let few : done ≤ n = p.few in
-      let every : done ≡ n = omega arith in
-      let start : at + (n - done) ≡ at = omega arith in
-      let all : little_endian n s at ≡ some bits = ap (λ (x : ℕ). little_endian x s at) (sym every) ∙ ap (λ (x : ℕ). little_endian done s x) (sym start) ∙ p.same in
-      let q : bits < 2 ^ (8 * done) = p.small in
-      let below : bits < 2 ^ (8 * n) = rw every at q in
+      let every : n - i ≡ n = omega arith in
+      let start : at + i ≡ at = omega arith in
+      let all : little_endian n s at ≡ some bits = ap₂ (λ (k j : ℕ). little_endian k s j) (sym every) (sym start) ∙ p.same in
+      let below : bits < 2 ^ (8 * n) = rw every at p.small in
       record { is = rw all; small = λ v next e. let same : bits ≡ v = cc in rw (← same) below }
 
-  pub float_after : length s < 2 ^ 64 → Fits w64 (at + n)
-  float_after l = let i : at + n ≤ length s = p.inside in record { fits = omega arith }
-
-pub ruleset float_exits = (float_short, float_first, float_count, float_inside, float_place, float_product, float_sum, float_turn, float_all, float_after)
+pub ruleset float_exits = (float_short, float_first, float_product, float_sum, float_turn, float_all)

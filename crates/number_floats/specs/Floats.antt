@@ -1,17 +1,9 @@
 -- What the readers of floats answer, by scope's definitions.
-use Rattle.std.specs.Prelude.{ℕ, ◌<◌, ◌≤◌, ◌≡◌, List}
-use Rattle.std.proofs.Math.Option.{some}
-use Rattle.std.proofs.Math.ListN.{get_elem?}
+use Rattle.std.specs.Prelude.{ℕ, ◌<◌, ◌≤◌, ◌≡◌}
 use Rattle.scope.specs.Reading.{Read}
-use Rattle.number_bytes.specs.Bytes.{byte_limit}
 use Rattle.number_values.specs.Values.{natural_is}
 use Rattle.number_values.specs.declared.Natural.{Natural}
 use Rattle.number_values.specs.declared.Natural
-
--- r is the byte at a place
-pub record ByteIs (s : List ℕ) (at r : ℕ) : Type 0 where
-  pub is : get_elem? s at ≡ some r
-  pub small : r < byte_limit
 
 -- so many bytes of a float, whose bits fit a word
 pub record FloatLength (n : ℕ) : Type 0 where

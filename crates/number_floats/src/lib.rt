@@ -2,9 +2,9 @@
 // place.
 #![tactic(auto)]
 
-ghost use Rattle.std.specs.Prelude.{◌-◌, ◌*◌, ◌<◌, ◌^◌, ◌≡◌, length};
+ghost use Rattle.std.specs.Prelude.{◌*◌, ◌^◌};
 ghost use Rattle.scope.specs.Numbers.{float_bytes, float32, float64};
-ghost use Rattle.number_floats.specs.Floats.{ByteIs, FloatLength, FloatRead};
+ghost use Rattle.number_floats.specs.Floats.{FloatLength, FloatRead};
 
 use number_values::Natural;
 use scope::refusals;
@@ -16,45 +16,21 @@ const F64_BYTES: usize = 8;
 
 const BYTE_LIMIT: u64 = 256;
 
-// The byte at a place inside the input.
-fn byte_inside(s: &[u8], at: usize) -> u64
-    requires { at < length s.now }
-    ensures { ByteIs s.now at result }
-{
-    s[at] as u64
-}
-
-// How many bytes there are from a place on.
-fn bytes_from(s: &[u8], at: usize) -> usize
-    ensures { result ≡ length s.now - at }
-{
-    let size = s.len();
-    if at < size {
-        return size - at;
-    }
-    0
-}
-
 // So many bytes as one number, the lowest first. They are one item: where any is missing, 1 at the first of them. Read from
 // the highest down, so that no weight has to be kept.
+#[tactic(auto, using(crate::proofs::Floats::float_exits))]
 fn float_at(s: &[u8], at: usize, n: usize) -> Natural
     requires { FloatLength n }
     ensures { FloatRead (2 ^ (8 * n)) (float_bytes n s.now at) result }
 {
-    let there = bytes_from(s, at);
-    if there < n {
+    if s.len().saturating_sub(at) < n {
         return Natural::Refused(refusals::BYTES_END, at);
     }
     let mut bits: u64 = 0;
-    let mut done: usize = 0;
-    while done < n {
-        done = done + 1;
-        let up = n - done;
-        let b = byte_inside(s, at + up);
-        bits = bits * BYTE_LIMIT + b;
+    for i in (0..n).rev() {
+        bits = bits * BYTE_LIMIT + s[at + i] as u64;
     }
-    let after = at + n;
-    Natural::Is(bits, after)
+    Natural::Is(bits, at + n)
 }
 
 // The bits of an f32 are four bytes.
