@@ -39,7 +39,7 @@ fn go_round(
     body_lap::lap_of(rows, shared, codes, table, work, scene, s, told)
 }
 
-// There are no more instructions than bytes: `left` of them at most.
+// There are no more instructions than bytes, so no more laps.
 pub fn judge_from(
     rows: &[u16],
     shared: &[u16],
@@ -54,19 +54,16 @@ pub fn judge_from(
     requires ranged { Ranged rows.now (both_codes shared.now codes.now) }
     ensures { JudgedFrom rows.now (both_codes shared.now codes.now) work.old work.new scene s.now at result }
 {
-    let mut left = s.len();
-    let first = at as u64;
     let mut state = Progress {
         count: 0,
-        next: first,
+        next: at as u64,
         depth: 0,
         base: 0,
         top: 0,
         dead: 0,
     };
-    while 0 < left {
-        let lap = go_round(rows, shared, codes, table, work, scene, s, state);
-        match lap {
+    for _ in 0..s.len() {
+        match go_round(rows, shared, codes, table, work, scene, s, state) {
             Lap::Refused(number, fault) => {
                 return Ended::Refused(number, fault);
             }
@@ -75,10 +72,8 @@ pub fn judge_from(
             }
             Lap::On(later) => {
                 state = later;
-                left = left - 1;
             }
         }
     }
-    let last = state.next;
-    Ended::Refused(refusals::BYTES_END, last as usize)
+    Ended::Refused(refusals::BYTES_END, state.next as usize)
 }

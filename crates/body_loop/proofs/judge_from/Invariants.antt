@@ -2,8 +2,5 @@ use Rattle.type_table.specs.View.{both_codes}
 use Rattle.body_loop.proofs.Looping.{Going}
 use Rattle.body_loop.proofs.judge_from.Given as goal
 
-abbrev pub invariant-loop-left : goal.invariant-loop-left
-invariant-loop-left l = Going l.rows (both_codes l.shared l.codes) l.initial.work l.scene l.s l.at l.work l.left l.state
-
-abbrev pub decreases-loop-left : goal.decreases-loop-left
-decreases-loop-left l = l.left
+abbrev pub invariant-loop : goal.invariant-loop
+invariant-loop l = Going l.rows (both_codes l.shared l.codes) l.initial.work l.scene l.s l.at l.work l.counter l.state
