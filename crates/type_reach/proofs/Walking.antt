@@ -1,58 +1,50 @@
--- The loop over codes and the list of names walk the same codes: the first code's names stand before the others'.
-use Prim.Native.Nat.{ℕ, ◌+◌, ◌-◌, ◌≤◌, ◌<◌}
-use mathlib.Core.Path.{◌≡◌, sym, ap, ◌∙◌}
+-- The walk over codes and the list of names: the first code's names stand before the others'.
+use Prim.Native.Nat.{ℕ, zero, suc, ◌+◌, ◌-◌, ◌≤◌}
+use mathlib.Core.Path.{◌≡◌, refl, sym, ap, ◌∙◌}
 use mathlib.Core.Bool.{Bool, true, false, ◌&&◌}
 use mathlib.Core.List.{List, [], ◌++◌, map}
 use native.Mathlib.Omega.{arith}
-use borrow.Author.Tests.{lt-ltb, le-ltb}
+use native.Mathlib.Nat.{add-zero}
 use lib.Dec.{ltb}
+use lib.ListN.{get_or}
+use Rattle.std.specs.List.{list_all, range_with_len}
 use Rattle.scope.specs.Layout.{codes_size}
 use Rattle.scope.specs.Lists.{joined}
 use Rattle.scope.specs.Syntax.{Val, Field}
 use Rattle.scope.specs.TypeRules.{val_names, field_names}
 use Rattle.lent_u16.specs.Words.{WordAt}
-use Rattle.type_table.specs.View.{val_at_code, field_at_code, both_codes}
-use Rattle.type_table.proofs.Laws.{no-codes, first_code}
+use Rattle.type_table.specs.View.{val_at_code, field_at_code, codes_at, both_codes}
 use Rattle.type_table.proofs.Sides.{own_codes, shared-codes}
 use Rattle.type_reach.specs.Names.{all_below, code_names, codes_names, Limit}
 use Rattle.type_reach.proofs.Naming.{below_none, below-append}
 
-no_names : (fields : Bool) (codes : List ℕ) (at left : ℕ) → left ≤ 0 → codes_names fields codes at left ≡ []
-unfolding codes_names
-no_names true codes at left h = rw (no-codes field_at_code codes at left h)
-no_names false codes at left h = rw (no-codes val_at_code codes at left h)
+names_first : (fields : Bool) (codes : List ℕ) (at n : ℕ) → codes_names fields codes at (suc n) ≡ code_names fields (get_or codes at 0) ++ codes_names fields codes (at + 1) n
+unfolding codes_names code_names codes_at
+names_first true codes at n = refl
+names_first false codes at n = refl
 
-first-names : (fields : Bool) (codes : List ℕ) (at left : ℕ) {c : ℕ} → 0 < left → WordAt codes at c → codes_names fields codes at left ≡ code_names fields c ++ codes_names fields codes (at + 1) (left - 1)
-unfolding codes_names code_names
-first-names true codes at left h w = rw (first_code field_at_code codes at left h w)
-first-names false codes at left h w = rw (first_code val_at_code codes at left h w)
+names_none : (fields : Bool) (codes : List ℕ) (at : ℕ) → codes_names fields codes at 0 ≡ []
+unfolding codes_names codes_at
+names_none true codes at = refl
+names_none false codes at = refl
 
--- what the loop holds after k codes
+module _ (fields : Bool) (codes : List ℕ) (i reach : ℕ) where
+  -- what the code k places after i names is in reach
+  abbrev pub code_below : ℕ → Bool
+  code_below k = all_below reach (code_names fields (get_or codes (i + k) 0))
 
-pub record Walk (fields : Bool) (codes : List ℕ) (i n reach k : ℕ) : Type 0 where
-  pub same : all_below reach (codes_names fields codes i n) ≡ all_below reach (codes_names fields codes (i + k) (n - k))
+  codes_from : (a n : ℕ) → list_all code_below (range_with_len a n) ≡ all_below reach (codes_names fields codes (i + a) n)
+  codes_from a zero = below_none reach ∙ ap (all_below reach) (sym (names_none fields codes (i + a)))
+  codes_from a (suc n) =
+      let next : i + a + 1 ≡ i + (a + 1) = omega arith in
+      ap (λ (t : Bool). code_below a && t) (codes_from (a + 1) n)
+      ∙ sym (ap (all_below reach) (names_first fields codes (i + a) n) ∙ below-append reach (code_names fields (get_or codes (i + a) 0)) (codes_names fields codes (i + a + 1) n) ∙ rw (← next) refl)
 
-module _ {fields : Bool} {codes : List ℕ} {i n reach k : ℕ} (w : Walk fields codes i n reach k) where
-  pub walk_done : n ≤ k → true ≡ all_below reach (codes_names fields codes i n)
-  walk_done h = below_none reach ∙ sym (w.same ∙ ap (all_below reach) (no_names fields codes (i + k) (n - k) (omega arith)))
+  pub all_codes_below : (n : ℕ) → list_all code_below (range_with_len 0 n) ≡ all_below reach (codes_names fields codes i n)
+  all_codes_below n = codes_from 0 n ∙ ap (λ (at : ℕ). all_below reach (codes_names fields codes at n)) (add-zero i)
 
-  module _ (h : k < n) {c : ℕ} (p : WordAt codes (i + k) c) {limit : ℕ} (l : Limit fields reach limit) where
-    whole : {r : Bool} → ltb c limit ≡ r → all_below reach (codes_names fields codes i n) ≡ (r && all_below reach (codes_names fields codes (i + (k + 1)) (n - (k + 1))))
-    whole e =
-        let at : i + k + 1 ≡ i + (k + 1) = omega arith in
-        let left : n - k - 1 ≡ n - (k + 1) = omega arith in
-        w.same
-        ∙ ap (all_below reach) (first-names fields codes (i + k) (n - k) (omega arith) p)
-        ∙ below-append reach (code_names fields c) _
-        ∙ rw (← at, ← left) (ap (λ (t : Bool). t && all_below reach (codes_names fields codes (i + k + 1) (n - k - 1))) (l.is c p.small ∙ e))
-
-    pub walk_stopped : limit ≤ c → false ≡ all_below reach (codes_names fields codes i n)
-    walk_stopped out = sym (whole (le-ltb c limit out))
-
-    pub walk_turn : c < limit → Walk fields codes i n reach (k + 1)
-    walk_turn in_reach = record { same = whole (lt-ltb c limit in_reach) }
-
-pub ruleset walk_exits = (walk_done, walk_stopped, walk_turn)
+  pub code_answers : (k : ℕ) {limit w : ℕ} → Limit fields reach limit → WordAt codes (i + k) w → ltb w limit ≡ code_below k
+  code_answers k l p = sym (rw (← p.is) (l.is _ p.small))
 
 -- codes that all lie in one part
 

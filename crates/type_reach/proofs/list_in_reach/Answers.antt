@@ -1,13 +1,13 @@
--- `type_reach::list_in_reach` meets its contract: each turn takes the first code's names off the list.
+-- `type_reach::list_in_reach` meets its contract: each word that is read answers for the code in its place.
 use borrow.Author.Rules.{rules}
-use Rattle.type_reach.proofs.Walking.{walk_exits}
+use native.Mathlib.Nat.{sub-zero}
+use mathlib.Core.Path.{refl, ◌∙◌}
+use Rattle.std.proofs.lemmas.Iterator.{YieldsList-from_range}
+use Rattle.std.proofs.lemmas.Iterator.Search.{all_from_yields_List}
+use Rattle.type_reach.proofs.Walking.{code_below, all_codes_below, code_answers}
 use Rattle.type_reach.proofs.list_in_reach.Goals as goal
 
-pub returns-then-limit-word : goal.returns-then-limit-word
-returns-then-limit-word g c = search (walk_exits, c.requires.1.1, rules)
-
-pub loop-k-preserved : goal.loop-k-preserved
-loop-k-preserved g c = search (walk_exits, c.requires.1.1, rules)
-
 pub returns : goal.returns
-returns g c = search (walk_exits, rules)
+returns g c =
+    all_from_yields_List (code_below c.args.fields g.list c.args.i c.args.reach) _ _ _ c.all.ensures.ran (YieldsList-from_range 0 c.args.n c.args.n refl (sub-zero c.args.n)) (λ x b q k. search (code_answers, c.requires.1.1, rules))
+    ∙ all_codes_below c.args.fields g.list c.args.i c.args.reach c.args.n
