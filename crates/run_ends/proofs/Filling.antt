@@ -1,6 +1,6 @@
 -- One instruction after the other: every block that was passed is closed, with the place after its end at its own place,
 -- or is one of the open blocks.
-use Prim.Native.Nat.{ℕ, zero, suc, ◌+◌, ◌-◌, ◌≤◌, ◌<◌, ◌%◌}
+use Prim.Native.Nat.{ℕ, zero, suc, ◌+◌, ◌≤◌, ◌<◌, ◌%◌}
 use mathlib.Core.Path.{◌≡◌, refl, sym, ap, ◌∙◌, subst}
 use mathlib.Core.Logic.{◌⊎◌, inl, inr}
 use mathlib.Core.Bool.{Bool, true, false, false≢true}
@@ -88,18 +88,18 @@ pub data Passed (s : List ℕ) (first : ℕ) (ends : List ℕ) (next : ℕ) (pla
   still_open : Memᴰ at places → Passed s first ends next places at onward
   ahead : Reached s next at → Passed s first ends next places at onward
 
-pub record Going (s ends₀ : List ℕ) (first : ℕ) (ends : List ℕ) (next innermost left : ℕ) : Type 0 where
+pub record Going (s ends₀ : List ℕ) (first : ℕ) (ends : List ℕ) (next innermost done : ℕ) : Type 0 where
   pub places : List ℕ
   pub chain : Open s ends (code_at s next) next 1 innermost places
   pub passed : (at onward : ℕ) → Reached s first at → Opener s at onward → Passed s first ends next places at onward
   pub reached : Reached s first next
   pub inside : next ≤ length s
-  pub counted : length s ≤ left + next
+  pub counted : done ≤ next
   pub balances : Balanced 0 (code_at s first) → Balanced (length places) (code_at s next)
   pub balanced : Balanced (length places) (code_at s next) → Balanced 0 (code_at s first)
   pub size : length ends ≡ length ends₀
 
-pub going_first : {s ends : List ℕ} {first : ℕ} → Fillable s ends first → Going s ends first ends first 0 (length s)
+pub going_first : {s ends : List ℕ} {first : ℕ} → Fillable s ends first → Going s ends first ends first 0 0
 going_first f =
     record {
       places = [];
@@ -113,10 +113,7 @@ going_first f =
       size = refl;
     }
 
-module _ {s ends₀ : List ℕ} {first : ℕ} {ends : List ℕ} {next innermost left : ℕ} (g : Going s ends₀ first ends next innermost left) where
-  pub going_size : length ends ≡ length ends₀
-  going_size = g.size
-
+module _ {s ends₀ : List ℕ} {first : ℕ} {ends : List ℕ} {next innermost done : ℕ} (g : Going s ends₀ first ends next innermost done) where
   -- nothing is left to read
   stopped : code_at s next ≡ [] → Filled s ends₀ ends first false
   stopped e =
@@ -127,7 +124,7 @@ module _ {s ends₀ : List ℕ} {first : ℕ} {ends : List ℕ} {next innermost 
         size = g.size;
       }
 
-  pub going_out : left ≤ 0 → Filled s ends₀ ends first false
+  pub going_out : length s ≤ done → Filled s ends₀ ends first false
   going_out h = stopped (code-none s next (omega (arith, g.counted)))
 
   module _ (f : Fillable s ends₀ first) {j : Instr} {onto : ℕ} (read : instr_at s next ≡ got j onto) where
@@ -137,7 +134,7 @@ module _ {s ends₀ : List ℕ} {first : ℕ} {ends : List ℕ} {next innermost 
         → ((at onward : ℕ) → Reached s first at → Opener s at onward → Passed s first ends' onto places at onward)
         → (Balanced (length g.places) ((next, j) ∷ code_at s onto) → Balanced (length places) (code_at s onto))
         → (Balanced (length places) (code_at s onto) → Balanced (length g.places) ((next, j) ∷ code_at s onto)) → length ends' ≡ length ends
-        → Going s ends₀ first ends' onto word (left - 1)
+        → Going s ends₀ first ends' onto word (done + 1)
     advance places chain passed to from size =
         let (forward, ends-inside) = never_back instr_takes s next read in
         record {
@@ -153,7 +150,7 @@ module _ {s ends₀ : List ℕ} {first : ℕ} {ends : List ℕ} {next innermost 
         }
 
   module _ (f : Fillable s ends₀ first) {onto : ℕ} where
-    turn_inside : {o : Op} → instr_at s next ≡ got (op o) onto → Going s ends₀ first ends onto innermost (left - 1)
+    turn_inside : {o : Op} → instr_at s next ≡ got (op o) onto → Going s ends₀ first ends onto innermost (done + 1)
     turn_inside {o} read =
         let (forward, ends-inside) = never_back instr_takes s next read in
         let same : (n : ℕ) → past_ends (n + 1) (code_at s next) ≡ past_ends (n + 1) (code_at s onto) = λ n. ap (past_ends (n + 1)) (code_here s next read) ∙ past_inside next n (code_at s onto) o in
@@ -174,7 +171,7 @@ module _ {s ends₀ : List ℕ} {first : ℕ} {ends : List ℕ} {next innermost 
         {ends' : List ℕ} {j : Instr} → instr_at s next ≡ got j onto → Opener s next onto → ((n : ℕ) → past_ends (n + 1) ((next, j) ∷ code_at s onto) ≡ past_ends (n + 2) (code_at s onto))
         → (Balanced (length g.places) ((next, j) ∷ code_at s onto) → Balanced (suc (length g.places)) (code_at s onto))
         → (Balanced (suc (length g.places)) (code_at s onto) → Balanced (length g.places) ((next, j) ∷ code_at s onto)) → Stored ends ends' next innermost
-        → Going s ends₀ first ends' onto (suc next) (left - 1)
+        → Going s ends₀ first ends' onto (suc next) (done + 1)
     turn_opens {ends'} {j} read opener shift to from st =
         let (forward, ends-inside) = never_back instr_takes s next read in
         let same : (n : ℕ) → past_ends (n + 1) (code_at s next) ≡ past_ends (n + 2) (code_at s onto) = λ n. ap (past_ends (n + 1)) (code_here s next read) ∙ shift n in
@@ -193,7 +190,7 @@ module _ {s ends₀ : List ℕ} {first : ℕ} {ends : List ℕ} {next innermost 
             by (inr r) = ahead r
 
     -- an end inside the function
-    turn_closes : {ends' : List ℕ} {p : ℕ} → innermost ≡ suc p → instr_at s next ≡ got end onto → Stored ends ends' p onto → Going s ends₀ first ends' onto (get_or ends p 0) (left - 1)
+    turn_closes : {ends' : List ℕ} {p : ℕ} → innermost ≡ suc p → instr_at s next ≡ got end onto → Stored ends ends' p onto → Going s ends₀ first ends' onto (get_or ends p 0) (done + 1)
     turn_closes {ends'} {p} is read st = go (innermost_open (rw is at g.chain))
       where
         forward : (next < onto) × (onto ≤ length s)
@@ -225,7 +222,7 @@ module _ {s ends₀ : List ℕ} {first : ℕ} {ends : List ℕ} {next innermost 
             by (inl q) = absurd (let wrong : Kind.TheVariants.Closes ≡ Kind.TheVariants.Opens = opener_kind (rw q at o) read in contradiction cc)
             by (inr k) = ahead k
 
-        go : Innermost s ends (code_at s next) next 1 p g.places → Going s ends₀ first ends' onto (get_or ends p 0) (left - 1)
+        go : Innermost s ends (code_at s next) next 1 p g.places → Going s ends₀ first ends' onto (get_or ends p 0) (done + 1)
         go n =
             let same : (k : ℕ) → past_ends (k + 2) (code_at s next) ≡ past_ends (k + 1) (code_at s onto) = λ k. ap (past_ends (k + 2)) (code_here s next read) ∙ past_end next k (code_at s onto) in
             let bound : p ≤ onto = omega (arith, n.below, forward.0) in
@@ -244,7 +241,7 @@ module _ {s ends₀ : List ℕ} {first : ℕ} {ends : List ℕ} {next innermost 
         stored word_limit e (omega (arith, f.short)) (omega (arith, word_small g.chain, g.inside, g.size, f.room))
 
     -- what was noted, by what was read
-    turn : {ends' : List ℕ} {noted : Noted} {word : ℕ} (j : Instr) → instr_at s next ≡ got j onto → NotedAt ends ends' innermost next onto (kind_of j) noted → noted ≡ Noted.TheVariants.Open word → Going s ends₀ first ends' onto word (left - 1)
+    turn : {ends' : List ℕ} {noted : Noted} {word : ℕ} (j : Instr) → instr_at s next ≡ got j onto → NotedAt ends ends' innermost next onto (kind_of j) noted → noted ≡ Noted.TheVariants.Open word → Going s ends₀ first ends' onto word (done + 1)
     turn {ends'} {noted} {word} (op o) read n e =
         let same : word ≡ innermost = noted_one (sym e ∙ n.answer) in
         rw (same, n.memory) (turn_inside read)
@@ -258,7 +255,7 @@ module _ {s ends₀ : List ℕ} {first : ℕ} {ends : List ℕ} {next innermost 
         rw (same, one) (turn_opens read (is_loop read) (λ k. past_loop next k (code_at s onto) rs) balanced_loop opening_loop (stored_open read n.memory))
     turn {ends'} {noted} {word} end read n e = go innermost refl n
       where
-        go : (w : ℕ) → innermost ≡ w → NotedAt ends ends' w next onto Kind.TheVariants.Closes noted → Going s ends₀ first ends' onto word (left - 1)
+        go : (w : ℕ) → innermost ≡ w → NotedAt ends ends' w next onto Kind.TheVariants.Closes noted → Going s ends₀ first ends' onto word (done + 1)
         go zero is m = let wrong = m.answer in impossible cc
         go (suc p) is m =
             let same : word ≡ get_or ends p 0 = noted_one (sym e ∙ m.answer) in
@@ -317,7 +314,7 @@ module _ {s ends₀ : List ℕ} {first : ℕ} {ends : List ℕ} {next innermost 
         go zero none m = rw m.memory (own_end read none is)
         go (suc p) some m = let wrong = m.answer in impossible cc
 
-  module _ (f : Fillable s ends₀ first) (more : 0 < left) {r : InstructionRead} (a : r ≡ instruction_is (instr_at s next)) where
+  module _ (f : Fillable s ends₀ first) {r : InstructionRead} (a : r ≡ instruction_is (instr_at s next)) where
     pub going_refused : {n place : ℕ} → r ≡ InstructionRead.TheVariants.Refused n place → Filled s ends₀ ends first false
     going_refused e = stopped (code_refused s next (instruction_refused (instr_at s next) a e))
 
@@ -332,10 +329,10 @@ module _ {s ends₀ : List ℕ} {first : ℕ} {ends : List ℕ} {next innermost 
         noted_as : (j : Instr) → i ≡ instruction_of j → NotedAt ends ends' innermost next onto (kind_of j) noted
         noted_as j same = subst (λ (x : Kind). NotedAt ends ends' innermost next onto x noted) (is.is j same) n
 
-        pub going_turn : {word : ℕ} → noted ≡ Noted.TheVariants.Open word → Going s ends₀ first ends' onto word (left - 1)
+        pub going_turn : {word : ℕ} → noted ≡ Noted.TheVariants.Open word → Going s ends₀ first ends' onto word (done + 1)
         going_turn q = let (j, read, same) = instruction_got (instr_at s next) a e in turn f j read (noted_as j same) q
 
         pub going_last : noted ≡ Noted.TheVariants.Last → {answer : Bool} → answer ≡ none_there (instr_at s onto) → Filled s ends₀ ends' first answer
         going_last q b = let (j, read, same) = instruction_got (instr_at s next) a e in finish f j read (noted_as j same) q b
 
-pub ruleset fill_exits = (going_first, going_size, going_out, going_refused, going_early, going_turn, going_last)
+pub ruleset fill_exits = (going_first, going_out, going_refused, going_early, going_turn, going_last)

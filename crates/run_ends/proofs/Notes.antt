@@ -1,28 +1,18 @@
--- Each way out of the functions on one instruction.
-use Prim.Native.Nat.{ℕ, suc, ◌+◌, ◌-◌, ◌%◌}
+-- What an instruction does to the open blocks, by its case.
+use Prim.Native.Nat.{ℕ}
 use mathlib.Core.Path.{◌≡◌, refl, sym, ap, ◌∙◌}
 use mathlib.Core.Bool.{Bool, true, false, ◌&&◌, false≢true}
-use mathlib.Core.List.{List, [], ◌∷◌}
-use native.Mathlib.Omega.{arith}
-use lib.ListN.{set}
 use lib.Dec.{leb}
 use denote.Enum.Declared.{tag_of}
-use Rattle.scope.specs.Reading.{Read}
 use Rattle.scope.specs.Instructions.{Op, unreachable, nop, return, drop_value, br, br_if, local_get, local_set, local_tee, i32_const, i64_const, f32_const, f64_const, numeric, ref_null, ref_is_null, ref_eq, ref_as_non_null, struct_new, struct_new_default, struct_get, struct_set, ref_test, ref_cast, br_on_cast, br_on_cast_fail, struct_new_desc, struct_new_default_desc, ref_get_desc, ref_cast_desc_eq, br_on_cast_desc_eq, br_on_cast_desc_eq_fail, Instr, block, loop, end, op}
 use Rattle.scope.proofs.Impossible.{contradiction, impossible}
 use Rattle.body_immediates.specs.declared.Instruction.{Instruction}
 use Rattle.body_immediates.specs.declared.Instruction
-use Rattle.body_immediates.specs.declared.InstructionRead.{InstructionRead}
-use Rattle.body_immediates.specs.declared.InstructionRead
-use Rattle.body_immediates.specs.Coding.{operation_of, instruction_of, instruction_is}
+use Rattle.body_immediates.specs.Coding.{operation_of, instruction_of}
 use Rattle.body_immediates.specs.contracts.Instruction.{the_type}
-use Rattle.body_immediates.proofs.Laws.{instruction_got, instruction_refused}
-use Rattle.lent_u16.specs.Words.{word_limit, WordAt}
 use Rattle.run_ends.specs.declared.Kind.{Kind}
 use Rattle.run_ends.specs.declared.Kind
-use Rattle.run_ends.specs.declared.Noted.{Noted}
-use Rattle.run_ends.specs.declared.Noted
-use Rattle.run_ends.specs.Noting.{kind_of, KindIs, open_after, ends_after, NotedAt, none_there}
+use Rattle.run_ends.specs.Noting.{kind_of, KindIs}
 
 -- an instruction's kind, by its case: the codes 2, 3 and 4 are those of a block, a loop and an end
 
@@ -112,37 +102,3 @@ module _ {i : Instruction} where
       go (op o) f = refl
 
 pub ruleset kind_exits = (kind_block, kind_loop, kind_end)
-
--- noting it
-
-module _ {ends : List ℕ} {innermost at after : ℕ} {k : Kind} where
-  pub note_inside : k ≡ Kind.TheVariants.Inside → {ends' : List ℕ} → ends' ≡ ends → NotedAt ends ends' innermost at after k (Noted.TheVariants.Open innermost)
-  note_inside e q = record { answer = rw e; memory = rw e q }
-
-  pub note_opens : k ≡ Kind.TheVariants.Opens → {ends' : List ℕ} → ends' ≡ set ends at (innermost % word_limit) → NotedAt ends ends' innermost at after k (Noted.TheVariants.Open (at + 1))
-  note_opens e q = record { answer = rw e; memory = rw e q }
-
-  module _ (e : k ≡ Kind.TheVariants.Closes) where
-    pub note_last : innermost ≡ 0 → {ends' : List ℕ} → ends' ≡ ends → NotedAt ends ends' innermost at after k Noted.TheVariants.Last
-    note_last z q = record { answer = rw (e, z); memory = rw (e, z) q }
-
-    pub note_closes : (innermost ≡ 0 → ⊥) → {around : ℕ} → WordAt ends (innermost - 1) around → {ends' : List ℕ} → ends' ≡ set ends (innermost - 1) (after % word_limit) → NotedAt ends ends' innermost at after k (Noted.TheVariants.Open around)
-    note_closes some w q =
-        let one_more_lem : innermost ≡ suc (innermost - 1) = omega arith in
-        record {
-          answer = rw (e, w.is) (sym (ap (λ (n : ℕ). open_after Kind.TheVariants.Closes ends n at) one_more_lem));
-          memory = rw e (q ∙ sym (ap (λ (n : ℕ). ends_after Kind.TheVariants.Closes ends n at after) one_more_lem));
-        }
-
-pub ruleset note_exits = (note_inside, note_opens, note_last, note_closes)
-
--- no instruction there
-
-module _ (o : Read Instr) {r : InstructionRead} (e : r ≡ instruction_is o) where
-  pub none_refused : {n p : ℕ} → r ≡ InstructionRead.TheVariants.Refused n p → true ≡ none_there o
-  none_refused f = rw (instruction_refused o e f)
-
-  pub none-some : {i : Instruction} {next : ℕ} → r ≡ InstructionRead.TheVariants.Is i next → false ≡ none_there o
-  none-some f = let (j, read, same) = instruction_got o e f in rw read
-
-pub ruleset none_exits = (none_refused, none-some)

@@ -71,15 +71,14 @@ fn none_at(s: &[u8], at: usize) -> bool
 }
 
 // At the place of each block and loop from `first` on, the place after its matching end. The answer: the ends close
-// what is open, and no instruction follows the last. There are no more instructions than bytes: `left` of them at most.
+// what is open, and no instruction follows the last. There are no more instructions than bytes.
 pub fn fill_ends(s: &[u8], first: usize, ends: &mut [u16]) -> bool
     requires { Fillable s.now ends.old first }
     ensures { Filled s.now ends.old ends.new first result }
 {
     let mut next = first;
     let mut innermost: u64 = 0;
-    let mut left = s.len();
-    while 0 < left {
+    for _ in 0..s.len() {
         let read = body_instruction::instruction_at(s, next);
         match read {
             InstructionRead::Refused(_, _) => {
@@ -95,7 +94,6 @@ pub fn fill_ends(s: &[u8], first: usize, ends: &mut [u16]) -> bool
                     Noted::Open(word) => {
                         innermost = word;
                         next = after;
-                        left = left - 1;
                     }
                 }
             }

@@ -3,15 +3,6 @@ use borrow.Author.Rules.{rules}
 use Rattle.run_ends.proofs.Notes.{kind_exits, kind_inside}
 use Rattle.run_ends.proofs.kind_of.Goals as goal
 
-pub enum_told-1 : goal.enum_told-1
-enum_told-1 c = search (kind_exits, rules)
-
-pub enum_told-in-Loop : goal.enum_told-in-Loop
-enum_told-in-Loop c = search (kind_exits, rules)
-
-pub enum_told-in-End : goal.enum_told-in-End
-enum_told-in-End c = search (kind_exits, rules)
-
 pub returns-in-Block : goal.returns-in-Block
 returns-in-Block c = search (kind_exits, rules)
 
