@@ -4,7 +4,7 @@ use Prim.Native.Nat.{ℕ, ◌≤◌, ◌<◌}
 use native.Mathlib.Omega.{arith}
 use mathlib.Core.Path.{◌≡◌, refl, sym, ◌∙◌, ap}
 use mathlib.Core.Bool.{Bool, true, false, false≢true}
-use mathlib.Core.Option.{Option, none, some}
+use mathlib.Core.Option.{none, some}
 use mathlib.Core.List.{List}
 use borrow.Author.Tests.{eqb-true, eqb-false, ltb-true, ltb-false}
 use lib.Dec.{eqb, ltb}
@@ -14,7 +14,7 @@ use Rattle.scope.specs.TypeRules.{super_earlier_and_open}
 use Rattle.scope.specs.Judging.{links_fault}
 use Rattle.scope.proofs.Accepted.{links_kept, super_earlier_and_open_lem}
 use Rattle.type_table.specs.View.{view}
-use Rattle.type_chain.specs.Depths.{Upward, Depths}
+use Rattle.type_chain.specs.Depths.{Upward}
 use Rattle.type_hierarchy.specs.Ranged.{Ranged}
 use Rattle.section_judge.specs.Verdict.{fault_of}
 use Rattle.section_judge.specs.Ready.{Chained, Ready, Linkable, Scannable}

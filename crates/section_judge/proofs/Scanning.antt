@@ -1,5 +1,5 @@
 -- A pass goes type by type, as the definition does: what the definition says from the start is what it says from here.
-use Prim.Native.Nat.{ℕ, zero, suc, ◌+◌, ◌-◌, ◌≤◌, ◌<◌, ◌^◌}
+use Prim.Native.Nat.{ℕ, zero, suc, ◌+◌, ◌-◌, ◌≤◌, ◌<◌, max}
 use native.Mathlib.Nat.{sub-zero}
 use mathlib.Core.Path.{◌≡◌, refl, sym, ap, ◌∙◌}
 use mathlib.Core.Bool.{Bool, true, false}
@@ -7,8 +7,8 @@ use mathlib.Core.Option.{Option, none, some}
 use native.Mathlib.Omega.{arith}
 use borrow.Author.Tests.{eqb-true, eqb-false}
 use lib.Dec.{eqb}
-use mir.Syntax.{w64}
-use mir.Val.{Fits}
+use mathlib.Core.Logic.{◌⊎◌, inl, inr}
+use Rattle.std.proofs.lemmas.Bool.{cases_lt}
 use Rattle.scope.specs.Reading.{given}
 use Rattle.scope.specs.Syntax.{Types}
 use Rattle.scope.specs.Judging.{plain, Judged, accepted, rejected, and_then, scan, judge_types}
@@ -56,11 +56,12 @@ unfolding scan
 no-type fault x n h = let none_left_lem : n - x ≡ zero = omega arith in rw none_left_lem
 
 module _ {fault : ℕ → Option ℕ} {first n x : ℕ} (p : Pass fault first n x) where
-  pub pass_done : n ≤ x → Verdict.TheVariants.Accepted x ≡ ruled_is (scan fault first (n - first))
-  pass_done h = sym (ap ruled_is (p.same ∙ no-type fault x n h))
-
-  pub next_fits : x < n → Fits w64 n → Fits w64 (x + 1)
-  next_fits h f = let g : n < 2 ^ 64 = f.fits in record { fits = omega arith }
+  pub pass_done : (first ≤ n → x ≤ n) → n ≤ x → {most : ℕ} → most ≡ max first n → Verdict.TheVariants.Accepted most ≡ ruled_is (scan fault first (n - first))
+  pass_done near h {most} e = go (cases_lt first n)
+    where
+      go : (first < n) ⊎ (n ≤ first) → Verdict.TheVariants.Accepted most ≡ ruled_is (scan fault first (n - first))
+      go (inl less) = let all : x ≡ most = omega (arith, near (omega arith)) in rw (← all) (sym (ap ruled_is (p.same ∙ no-type fault x n h)))
+      go (inr over) = let all : first ≡ most = omega arith in rw (← all) (sym (ap ruled_is (no-type fault first n over)))
 
   module _ (h : x < n) {r : Fault} (e : r ≡ fault_is (fault x)) where
     pub pass_fault : {number : ℕ} → r ≡ Fault.TheVariants.Number number → Verdict.TheVariants.Refused number (plain x) ≡ ruled_is (scan fault first (n - first))
@@ -75,7 +76,7 @@ module _ {fault : ℕ → Option ℕ} {first n x : ℕ} (p : Pass fault first n 
         one y late less true same here = ap fault (eqb-true y x same) ∙ here
         one y late less false same here = let other = eqb-false y x same in p.met y late (omega arith)
 
-pub ruleset pass_exits = (pass_first, pass_done, next_fits, pass_fault, pass_turn)
+pub ruleset pass_exits = (pass_first, pass_done, pass_fault, pass_turn)
 
 -- the two passes
 

@@ -101,15 +101,12 @@ fn scan_types(
     ensures { let types = view rows.now (both_codes shared.now codes.now) in
         result ≡ ruled_is (scan (fault_of links types) first (n - first)) }
 {
-    let mut x = first;
-    while x < n {
-        let fault = fault_of(rows, shared, codes, links, x);
-        if let Fault::Number(number) = fault {
+    for x in first..n {
+        if let Fault::Number(number) = fault_of(rows, shared, codes, links, x) {
             return Verdict::Refused(number, Place::Plain(x));
         }
-        x = x + 1;
     }
-    Verdict::Accepted(x)
+    Verdict::Accepted(first.max(n))
 }
 
 // The first pass, over the types from `first` on of n, once the end words are depths.
