@@ -20,6 +20,7 @@ pub enum Fault {
 }
 
 // Rule 1 and the chain, of one type.
+#[tactic(auto, using(crate::proofs::Faults::link_exits))]
 fn links_fault(rows: &[u16], shared: &[u16], codes: &[u16], x: u64) -> Fault
     requires { Chained rows.now (both_codes shared.now codes.now) x }
     ensures { result ≡ fault_is (links_fault (view rows.now (both_codes shared.now codes.now)) x) }
@@ -37,6 +38,7 @@ fn links_fault(rows: &[u16], shared: &[u16], codes: &[u16], x: u64) -> Fault
 }
 
 // Rules 4 and 5, of one type.
+#[tactic(auto, using(crate::proofs::Faults::follow_exits))]
 fn follow_fault(rows: &[u16], shared: &[u16], codes: &[u16], x: u64) -> Fault
     ensures { result ≡ fault_is (follow_fault (view rows.now (both_codes shared.now codes.now)) x) }
 {
@@ -50,6 +52,7 @@ fn follow_fault(rows: &[u16], shared: &[u16], codes: &[u16], x: u64) -> Fault
 }
 
 // Rules 3 to 5, of one type.
+#[tactic(auto, using(crate::proofs::Faults::clause_exits))]
 fn clauses_fault(rows: &[u16], shared: &[u16], codes: &[u16], x: u64) -> Fault
     ensures { result ≡ fault_is (clauses_fault (view rows.now (both_codes shared.now codes.now)) x) }
 {
@@ -66,6 +69,7 @@ fn clauses_fault(rows: &[u16], shared: &[u16], codes: &[u16], x: u64) -> Fault
 }
 
 // Rules 2 to 5, of one type.
+#[tactic(auto, using(crate::proofs::Faults::rule_exits))]
 fn rule_fault(rows: &[u16], shared: &[u16], codes: &[u16], x: u64) -> Fault
     requires { Ranged rows.now (both_codes shared.now codes.now) }
     ensures { result ≡ fault_is (rule_fault (view rows.now (both_codes shared.now codes.now)) x) }
@@ -77,6 +81,7 @@ fn rule_fault(rows: &[u16], shared: &[u16], codes: &[u16], x: u64) -> Fault
 }
 
 // The fault of one type, in the pass over the links or in the pass over the other rules.
+#[tactic(auto, using(crate::proofs::Faults::pass_exits, crate::proofs::Passes::ready_exits))]
 fn fault_of(rows: &[u16], shared: &[u16], codes: &[u16], links: bool, x: u64) -> Fault
     requires { Ready links rows.now (both_codes shared.now codes.now) x }
     ensures { result ≡ fault_is (fault_of links (view rows.now (both_codes shared.now codes.now)) x) }
@@ -89,6 +94,7 @@ fn fault_of(rows: &[u16], shared: &[u16], codes: &[u16], links: bool, x: u64) ->
 }
 
 // One pass, type by type, over the types from `first` on of n.
+#[tactic(auto, using(crate::proofs::Scanning::pass_exits, crate::proofs::Passes::ready_exits))]
 fn scan_types(
     rows: &[u16],
     shared: &[u16],
@@ -110,6 +116,7 @@ fn scan_types(
 }
 
 // The first pass, over the types from `first` on of n, once the end words are depths.
+#[tactic(auto, using(crate::proofs::Passes::ready_exits))]
 pub fn judge_links(rows: &[u16], shared: &[u16], codes: &[u16], first: u64, n: u64) -> Verdict
     requires { Linkable first n rows.now (both_codes shared.now codes.now) }
     ensures { let types = view rows.now (both_codes shared.now codes.now) in
@@ -119,6 +126,7 @@ pub fn judge_links(rows: &[u16], shared: &[u16], codes: &[u16], first: u64, n: u
 }
 
 // The second pass, once the table has its ranges.
+#[tactic(auto, using(crate::proofs::Passes::ready_exits))]
 pub fn judge_rules(rows: &[u16], shared: &[u16], codes: &[u16], first: u64, n: u64) -> Verdict
     requires { Ranged rows.now (both_codes shared.now codes.now) }
     ensures { let types = view rows.now (both_codes shared.now codes.now) in
