@@ -19,6 +19,7 @@ const SHARED: u32 = type_table::SHARED as u32;
 
 // Of the three outcomes rule 2 relies on the first alone: a subtype fits. A type that would fit if it could not be null is no
 // subtype, and is 8 like any other that does not fit.
+#[tactic(auto, using(type_fit::proofs::Outcomes::outcomes))]
 fn subtype(rows: &[u16], shared: &[u16], codes: &[u16], a: u64, b: u64) -> bool
     requires { Ranged rows.now (both_codes shared.now codes.now) }
     ensures { result ≡ val_below (view rows.now (both_codes shared.now codes.now)) (val_at_code a) (val_at_code b) }
@@ -32,6 +33,7 @@ fn subtype(rows: &[u16], shared: &[u16], codes: &[u16], a: u64, b: u64) -> bool
 }
 
 // Mutability is equal; a fixed field's type is a subtype, a mutable one's is identical.
+#[tactic(auto, using(crate::proofs::Walking::field_exits))]
 fn field_matches(rows: &[u16], shared: &[u16], codes: &[u16], a: u64, b: u64) -> bool
     requires { Ranged rows.now (both_codes shared.now codes.now) }
     ensures { result ≡ field_matches (view rows.now (both_codes shared.now codes.now)) (field_at_code a) (field_at_code b) }
@@ -52,6 +54,7 @@ fn field_matches(rows: &[u16], shared: &[u16], codes: &[u16], a: u64, b: u64) ->
 }
 
 // Two codes against each other: those of fields, or of value types.
+#[tactic(auto, using(crate::proofs::Walking::code_exits))]
 fn code_matches(rows: &[u16], shared: &[u16], codes: &[u16], fields: bool, a: u64, b: u64) -> bool
     requires { Ranged rows.now (both_codes shared.now codes.now) }
     ensures { result ≡ code_matches fields (view rows.now (both_codes shared.now codes.now)) a b }
@@ -71,6 +74,7 @@ fn enough(fields: bool, n: u32, m: u32) -> bool
 }
 
 // The n codes from i on against the m codes from j on, one by one, each as `word` reads it from the list.
+#[tactic(auto, using(crate::proofs::Walking::walk_exits))]
 fn list_matches<W: Fn(u64) -> u64>(
     rows: &[u16],
     shared: &[u16],
@@ -104,6 +108,7 @@ fn list_matches<W: Fn(u64) -> u64>(
 
 // The n codes from i on against the m codes from j on. A type has all of its codes in one buffer: where both types are of one section,
 // the walk does not ask which at each; an add-on's type against a library's, say, has each code looked up by its place.
+#[tactic(auto, using(crate::proofs::Walking::side_exits))]
 fn codes_match(
     rows: &[u16],
     shared: &[u16],
@@ -122,19 +127,28 @@ fn codes_match(
     let up_end = j as u64 + m as u64;
     if end <= type_table::SHARED && up_end <= type_table::SHARED {
         let word = |at: u64| lent_u16::word(codes, at);
-        return list_matches(rows, shared, codes, word, fields, i, n, j, m);
-    }
-    if SHARED <= i && SHARED <= j {
+        list_matches(rows, shared, codes, word, fields, i, n, j, m)
+    } else if SHARED <= i && SHARED <= j {
         let word = |at: u64| lent_u16::word(shared, at);
-        let at = i - SHARED;
-        let up = j - SHARED;
-        return list_matches(rows, shared, codes, word, fields, at, n, up, m);
+        list_matches(
+            rows,
+            shared,
+            codes,
+            word,
+            fields,
+            i - SHARED,
+            n,
+            j - SHARED,
+            m,
+        )
+    } else {
+        let word = |at: u64| type_table::code_word(shared, codes, at);
+        list_matches(rows, shared, codes, word, fields, i, n, j, m)
     }
-    let word = |at: u64| type_table::code_word(shared, codes, at);
-    list_matches(rows, shared, codes, word, fields, i, n, j, m)
 }
 
 // A struct of n fields from i on against the form of p.
+#[tactic(auto, using(crate::proofs::Forms::upper_exits))]
 fn struct_matches(rows: &[u16], shared: &[u16], codes: &[u16], i: u32, n: u32, p: u64) -> bool
     requires { Ranged rows.now (both_codes shared.now codes.now) }
     ensures { let types = view rows.now (both_codes shared.now codes.now) in
@@ -149,6 +163,7 @@ fn struct_matches(rows: &[u16], shared: &[u16], codes: &[u16], i: u32, n: u32, p
 }
 
 // A function of n parameters from i on and o results from k on against the form of p: parameters against, results along.
+#[tactic(auto, using(crate::proofs::Forms::upper_exits))]
 fn func_matches(
     rows: &[u16],
     shared: &[u16],
@@ -177,6 +192,7 @@ fn func_matches(
     }
 }
 
+#[tactic(auto, using(crate::proofs::Forms::lower_exits))]
 pub fn form_matches(rows: &[u16], shared: &[u16], codes: &[u16], x: u64, p: u64) -> bool
     requires { Ranged rows.now (both_codes shared.now codes.now) }
     ensures { let types = view rows.now (both_codes shared.now codes.now) in
@@ -189,6 +205,7 @@ pub fn form_matches(rows: &[u16], shared: &[u16], codes: &[u16], x: u64, p: u64)
     }
 }
 
+#[tactic(auto, using(crate::proofs::Forms::super_exits))]
 pub fn matches_super(rows: &[u16], shared: &[u16], codes: &[u16], x: u64) -> bool
     requires { Ranged rows.now (both_codes shared.now codes.now) }
     ensures { result ≡ matches_super (view rows.now (both_codes shared.now codes.now)) x }
