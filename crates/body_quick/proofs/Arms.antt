@@ -1,5 +1,5 @@
 -- Each arm of the dispatch by the first byte.
-use Prim.Native.Nat.{ℕ, ◌+◌, ◌-◌, ◌≤◌, ◌<◌}
+use Prim.Native.Nat.{ℕ, ◌+◌, ◌-◌, ◌<◌}
 use mathlib.Core.Path.{◌≡◌, refl, ap, ◌∙◌}
 use mathlib.Core.Option.{some}
 use mathlib.Core.List.{List, []}
@@ -16,7 +16,7 @@ use Rattle.body_state.specs.State.{val_at_word, stack, context_at, state_at}
 use Rattle.body_quick_read.specs.Items.{ByteOr}
 use Rattle.body_quick_read.proofs.Shorts.{number-one}
 use Rattle.body_quick_take.specs.declared.Done.{Done}
-use Rattle.body_progress.specs.Standing.{check_of, Stands}
+use Rattle.body_progress.specs.Standing.{check_of}
 use Rattle.body_quick_take.specs.Telling.{Asked, AskedAfter, Told, Plainly}
 use Rattle.body_quick_take.proofs.Tellings.{left-none, told-not, plainly_not, told_none}
 use Rattle.body_quick_take.proofs.Asking.{next_fits}

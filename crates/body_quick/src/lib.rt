@@ -154,38 +154,33 @@ pub fn go_on(
     ensures { let both = both_codes shared.now codes.now in
         Ran rows.now both work.old work.new scene s.now from result }
 {
-    let most = s.len() as u64;
-    let mut next = from.next;
-    let mut depth = from.depth;
-    let mut base = from.base;
-    let mut top = from.top;
-    let mut dead = from.dead;
-    let mut left = most;
-    let mut enough: u64 = 0;
-    while enough < left {
-        let place = next as usize;
-        let f = told_at(
-            s, place, rows, shared, codes, table, work, scene, depth, base, top, dead,
+    let mut state = from;
+    for _ in 0..s.len() {
+        let told = told_at(
+            s,
+            state.next as usize,
+            rows,
+            shared,
+            codes,
+            table,
+            work,
+            scene,
+            state.depth,
+            state.base,
+            state.top,
+            state.dead,
         );
-        let size = f.size;
-        if size == 0 {
-            enough = left;
-        } else {
-            next = next + size;
-            depth = f.depth;
-            base = f.base;
-            top = f.top;
-            dead = f.dead;
-            left = left - 1;
+        if told.size == 0 {
+            return state;
         }
+        state = Progress {
+            count: state.count + 1,
+            next: state.next + told.size,
+            depth: told.depth,
+            base: told.base,
+            top: told.top,
+            dead: told.dead,
+        };
     }
-    let told = most - left;
-    Progress {
-        count: from.count + told,
-        next: next,
-        depth: depth,
-        base: base,
-        top: top,
-        dead: dead,
-    }
+    state
 }
