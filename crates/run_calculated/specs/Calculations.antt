@@ -1,6 +1,6 @@
 -- What a numeric code comes to on the two topmost operands alone: the machine's `calculate` (scope's Machine.antt) without the
 -- rest of the machine. proofs/Laws.antt says that it is the machine's `do_numeric`.
-use Rattle.std.specs.Prelude.{ℕ, ◌≡◌, Bool, cond, Option as Perhaps, Some, None}
+use Rattle.std.specs.Prelude.{ℕ, ◌≡◌, Bool, cond, Option as Perhaps, Some, None, Result, Ok, Err}
 use Rattle.std.proofs.Math.Option.{Option, none, some}
 use Rattle.scope.specs.Reading.{given}
 use Rattle.scope.specs.Syntax.{Number, i32}
@@ -12,6 +12,8 @@ use Rattle.run_value.specs.declared.Value.{Value as Carrier}
 use Rattle.run_value.specs.Carried.{decoded}
 use Rattle.run_calculated.specs.declared.Calculated
 use Rattle.run_calculated.specs.declared.Calculated.{Calculated}
+use Rattle.run_calculated.specs.declared.Uncalculated
+use Rattle.run_calculated.specs.declared.Uncalculated.{Uncalculated}
 
 -- a result in place of one operand, or of two; trap 46; an operand is missing or of another kind
 pub data Comes : Type 0 where
@@ -41,11 +43,14 @@ unfoldable pub comes_to : ℕ → Value → Value → Comes
 comes_to code first second = given (deed_of code) other (λ deed. given (numeric_of code) wrong (λ kinds. by_deed kinds first second deed))
 
 -- what the code's answer says
-abbrev pub told : Calculated → Comes
-told (Calculated.TheVariants.OfOne v) = one_gives (decoded v)
-told (Calculated.TheVariants.OfTwo v) = two_give (decoded v)
-told Calculated.TheVariants.Other = other
-told Calculated.TheVariants.Wrong = wrong
+abbrev pub Calculation : Type 0
+Calculation = Result Calculated Uncalculated
+
+abbrev pub told : Calculation → Comes
+told (Ok (Calculated.TheVariants.OfOne v)) = one_gives (decoded v)
+told (Ok (Calculated.TheVariants.OfTwo v)) = two_give (decoded v)
+told (Err Uncalculated.TheVariants.Other) = other
+told (Err Uncalculated.TheVariants.Wrong) = wrong
 
 -- what the code may have none of, as the definitions write it
 abbrev pub perhaps : {A : Type 0} → Perhaps A → Option A
@@ -57,11 +62,11 @@ perhaps None = none
 pub record TruthIs (holds : Bool) (r : Carrier) : Type 0 where
   pub is : decoded r ≡ number i32 (as_bits holds)
 
-pub record OneIs (k j : Number) (f : ℕ → ℕ) (first : Carrier) (r : Calculated) : Type 0 where
+pub record OneIs (k j : Number) (f : ℕ → ℕ) (first : Carrier) (r : Calculation) : Type 0 where
   pub is : told r ≡ by_one k j f (decoded first)
 
-pub record TwoIs (k j : Number) (f : ℕ → ℕ → ℕ) (first second : Carrier) (r : Calculated) : Type 0 where
+pub record TwoIs (k j : Number) (f : ℕ → ℕ → ℕ) (first second : Carrier) (r : Calculation) : Type 0 where
   pub is : told r ≡ by_two k j f (decoded first) (decoded second)
 
-pub record CalculatedIs (code : ℕ) (first second : Carrier) (r : Calculated) : Type 0 where
+pub record CalculatedIs (code : ℕ) (first second : Carrier) (r : Calculation) : Type 0 where
   pub is : told r ≡ comes_to code (decoded first) (decoded second)

@@ -5,15 +5,22 @@ ghost use Rattle.run_calculated.specs.Calculations.{TruthIs};
 
 use run_value::Value;
 
-// A result in place of the topmost operand; a result in place of the two topmost; a code that the run does not do (trap 46);
-// an operand that is missing or of another kind, which an accepted body never has.
+// What a numeric instruction comes to: a result in place of the topmost operand, or in place of the two topmost.
 #[derive(Clone, Copy)]
 pub enum Calculated {
     OfOne(Value),
     OfTwo(Value),
+}
+
+// Why there is none: a code that the run does not do (trap 46); an operand that is missing or of another kind, which an accepted
+// body never has.
+#[derive(Clone, Copy)]
+pub enum Uncalculated {
     Other,
     Wrong,
 }
+
+pub type Calculation = Result<Calculated, Uncalculated>;
 
 // A test's result.
 pub fn truth(holds: bool) -> Value

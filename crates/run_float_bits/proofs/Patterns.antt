@@ -16,7 +16,8 @@ use borrow.Author.Tests.{lt-ltb, le-ltb, eq-eqb, ne_eqb, eqb-true, eqb-false}
 use Rattle.scope.specs.Rounding.{Width, lead, infinite, units, rounded}
 use Rattle.scope.specs.Floats.{negative, magnitude}
 use Rattle.scope.proofs.Units.{units-low, units_field}
-use Rattle.run_float_bits.proofs.Written.{width_of, same_lead, same_sign, same_infinite}
+use Rattle.run_float_bits.specs.Formats.{width_of}
+use Rattle.run_float_bits.proofs.Written.{same_lead, same_sign, same_infinite}
 
 le-mul_of_pos_left : (a b : ℕ) → 0 < b → a ≤ b * a
 le-mul_of_pos_left a b h = rw (mul_comm b a) (le-mul_of_pos_right a h)

@@ -16,7 +16,8 @@ use borrow.Author.Tests.{lt-ltb, le-ltb, eq-eqb, ne_eqb, ltb-true, ltb-false, eq
 use Rattle.scope.specs.Rounding.{Width, sign_bit, infinite, units, one, rounded}
 use Rattle.scope.specs.Floats.{negative, magnitude, with_sign, canonical_nan, unlike, sum_of, float_add, float_sub, float_mul, float_div, float_neg, less_signed, same_signed, float_less, float_equal}
 use Rattle.scope.proofs.Units.{units-low, units_lt}
-use Rattle.run_float_bits.proofs.Written.{width_of, not-above, same_lead, same_infinite, same_one, bits_of_round, bits_of_inf}
+use Rattle.run_float_bits.specs.Formats.{width_of}
+use Rattle.run_float_bits.proofs.Written.{not-above, same_lead, same_infinite, same_one, bits_of_round, bits_of_inf}
 use Rattle.run_float_bits.proofs.Patterns.{rounded_same, Reads, reads_nan, reads_infinity, reads_finite, reads}
 
 bits_of_nan : (f : Format) → to_bits f nan ≡ canonical_nan (width_of f)

@@ -14,16 +14,13 @@ use lib.Ieee.Fits.{down_pos, core, round_is}
 use lib.Ieee.Exact.{HasValue, odd_sign}
 use borrow.Author.Tests.{ltb-true, ltb-false}
 use Rattle.scope.specs.Rounding as R
-use Rattle.scope.specs.Rounding.{Width, single, double, lead, sign_bit, infinite, one, rounded}
+use Rattle.scope.specs.Rounding.{Width, lead, sign_bit, infinite, one, rounded}
 use Rattle.scope.specs.Floats.{with_sign}
 use Rattle.scope.proofs.Units.{lt-or-le, Form, units-at, units_lt}
 use Rattle.scope.proofs.Rounds.{rounded_form, closest, dropped}
+use Rattle.run_float_bits.specs.Formats.{width_of}
 
 -- the two formats
-abbrev pub width_of : Format → Width
-width_of binary32 = single
-width_of binary64 = double
-
 pub same_lead : (f : Format) → lead (width_of f) ≡ hid f
 same_lead binary32 = refl
 same_lead binary64 = refl

@@ -3,6 +3,7 @@ use Prim.Native.Nat.{ℕ}
 use mathlib.Core.Path.{◌≡◌, refl, sym, ap, ap₂, ◌∙◌}
 use mathlib.Core.Bool.{Bool, true, false, not, ◌&&◌, ◌||◌, beq}
 use mathlib.Core.Option.{some}
+use Rattle.std.specs.Prelude.{Ok}
 use lib.Dec.{eqb}
 use lib.Ieee.{Float, Format, of_bits, le, ne}
 use borrow.Author.Tests.{eq-eqb, eqb-true, eqb-false, ne_eqb}
@@ -10,15 +11,15 @@ use Rattle.scope.specs.Syntax.{i32}
 use Rattle.scope.specs.Rounding.{Width}
 use Rattle.scope.specs.Floats.{negative, units_of, is_nan, same_signed, float_equal}
 use Rattle.scope.specs.Arithmetic.{as_bits}
-use Rattle.run_float_bits.proofs.Written.{width_of}
+use Rattle.run_float_bits.specs.Formats.{width_of}
 use Rattle.run_float_bits.proofs.Tied.{less_is, equal_is}
 use Rattle.run_value.specs.declared.Value.{Value as Carrier}
 use Rattle.run_value.specs.Carried.{decoded}
 use Rattle.run_calculated.specs.declared.Calculated
 use Rattle.run_calculated.specs.Calculations.{TruthIs, TwoIs}
 use Rattle.run_calculated.proofs.Exits.{two_is, tested}
-use Rattle.run_float_deeds.specs.FloatDeeds.{kind_of, float_of}
-use Rattle.run_float_deeds.proofs.Bits.{bits_of}
+use Rattle.run_floats.specs.FloatDeeds.{kind_of, float_of}
+use Rattle.run_floats.proofs.Bits.{bits_of}
 use Rattle.run_float_tests.specs.declared.FloatTest
 use Rattle.run_float_tests.specs.declared.FloatTest.{FloatTest}
 use Rattle.run_float_tests.specs.FloatTests.{holds_of, float_test, float_test_bits}
@@ -58,7 +59,7 @@ test_is f FloatTest.TheVariants.Greater a b = less_is f b a
 test_is f FloatTest.TheVariants.AtMost a b = ap₂ ◌||◌ (less_is f a b) (equal_is f a b)
 test_is f FloatTest.TheVariants.AtLeast a b = ap₂ ◌||◌ (less_is f b a) (equal_is f b a ∙ equal_either_way (width_of f) a b)
 
-pub compared : (f : Format) (test : FloatTest) {first second : Carrier} {x y : Float} {holds : Bool} {r : Carrier} → float_of f (decoded first) ≡ some y → float_of f (decoded second) ≡ some x → holds ≡ holds_of test x y → TruthIs holds r → TwoIs (kind_of f) i32 (float_test_bits test (width_of f)) first second (Calculated.TheVariants.OfTwo r)
+pub compared : (f : Format) (test : FloatTest) {first second : Carrier} {x y : Float} {holds : Bool} {r : Carrier} → float_of f (decoded first) ≡ some y → float_of f (decoded second) ≡ some x → holds ≡ holds_of test x y → TruthIs holds r → TwoIs (kind_of f) i32 (float_test_bits test (width_of f)) first second (Ok (Calculated.TheVariants.OfTwo r))
 compared f test {first} {second} {x} {y} {holds} e g h t =
     let top = bits_of f first e in
     let below = bits_of f second g in

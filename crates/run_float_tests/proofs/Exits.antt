@@ -1,53 +1,41 @@
 -- Each way out of the comparisons of floats.
-use mathlib.Core.Path.{◌≡◌, refl, ap, ◌∙◌}
-use Rattle.std.specs.Prelude.{Option as Perhaps, Some}
-use mathlib.Core.Bool.{Bool}
-use lib.Ieee.{Float, binary32, binary64, lt, eq, le, ne}
-use Rattle.scope.specs.Syntax.{i32, f32, f64}
-use Rattle.scope.specs.Rounding.{single, double}
+use Rattle.std.proofs.Common.{Less, Equal, Greater}
+use mathlib.Core.Path.{◌≡◌, refl}
+use mathlib.Core.Bool.{Bool, true, false, cond, not, ◌||◌}
+use lib.Ieee.{Float, Format, lt, eq, le, ne}
+use Rattle.std.specs.Ordering.{float_partial_cmp, partial_le, is_some_and, is_le}
+use Rattle.std.specs.Prelude.{Some, None, Ok}
+use Rattle.scope.specs.Syntax.{i32}
+use Rattle.run_float_bits.specs.Formats.{width_of}
 use Rattle.run_value.specs.declared.Value.{Value as Carrier}
 use Rattle.run_calculated.specs.declared.Calculated
-use Rattle.run_calculated.specs.Calculations.{perhaps, TruthIs, TwoIs}
-use Rattle.run_floats_32.specs.Singles.{Single32Read}
-use Rattle.run_floats_32.proofs.Exits.{top_wrong_32, below_wrong_32}
-use Rattle.run_floats_64.specs.Doubles.{Double64Read}
-use Rattle.run_floats_64.proofs.Exits.{top_wrong_64, below_wrong_64}
-use Rattle.run_float_tests.specs.declared.FloatTest
+use Rattle.run_calculated.specs.Calculations.{TruthIs, TwoIs}
+use Rattle.run_floats.specs.FloatDeeds.{kind_of}
+use Rattle.run_floats.specs.Reals.{RealTaken}
+use Rattle.run_floats.proofs.Exits.{no_first, no_second}
 use Rattle.run_float_tests.specs.declared.FloatTest.{FloatTest}
 use Rattle.run_float_tests.specs.FloatTests.{holds_of, float_test_bits}
 use Rattle.run_float_tests.proofs.Bits.{compared}
 
--- the comparison that was asked for
+-- the tests that the language's are written of
 
-module _ {test : FloatTest} (x y : Float) where
-  pub is_equal : test ≡ FloatTest.TheVariants.Equal → eq x y ≡ holds_of test x y
-  is_equal e = rw e refl
+pub unequal : (x y : Float) → not (eq x y) ≡ ne x y
+unfolding ne
+unequal x y = refl
 
-  pub is_unequal : test ≡ FloatTest.TheVariants.Unequal → ne x y ≡ holds_of test x y
-  is_unequal e = rw e refl
+pub at_most : (x y : Float) → partial_le float_partial_cmp x y ≡ le x y
+unfolding le
+at_most x y = go (lt x y) (eq x y) (lt y x)
+  where
+    go : (l e g : Bool) → is_some_and is_le (cond l (Some Less) (cond e (Some Equal) (cond g (Some Greater) None))) ≡ (l || e)
+    go true e g = refl
+    go false true g = refl
+    go false false true = refl
+    go false false false = refl
 
-  pub is_less : test ≡ FloatTest.TheVariants.Less → lt x y ≡ holds_of test x y
-  is_less e = rw e refl
+pub ruleset tests = (unequal, at_most)
 
-  pub is_greater : test ≡ FloatTest.TheVariants.Greater → lt y x ≡ holds_of test x y
-  is_greater e = rw e refl
+pub compared_is : {X : Type 0} (float : X → Float) (f : Format) (test : FloatTest) {first second : Carrier} {x y : X} {holds : Bool} {r : Carrier} → RealTaken f float first (Ok y) → RealTaken f float second (Ok x) → holds ≡ holds_of test (float x) (float y) → TruthIs holds r → TwoIs (kind_of f) i32 (float_test_bits test (width_of f)) first second (Ok (Calculated.TheVariants.OfTwo r))
+compared_is float f test {x = x} {y = y} top under h t = compared f test (top.is y refl) (under.is x refl) h t
 
-  pub is_at_most : test ≡ FloatTest.TheVariants.AtMost → le x y ≡ holds_of test x y
-  is_at_most e = rw e refl
-
-  pub is_at_least : test ≡ FloatTest.TheVariants.AtLeast → le y x ≡ holds_of test x y
-  is_at_least e = rw e refl
-
-pub ruleset test_exits = (is_equal, is_unequal, is_less, is_greater, is_at_most, is_at_least)
-
-module _ {first : Carrier} {y : Perhaps Float} (read : Single32Read first y) {b : Float} (e : y ≡ Some b) {second : Carrier} {x : Perhaps Float} (below : Single32Read second x) where
-  pub compared_32_lem : (test : FloatTest) {a : Float} {holds : Bool} {r : Carrier} → x ≡ Some a → holds ≡ holds_of test a b → TruthIs holds r → TwoIs f32 i32 (float_test_bits test single) first second (Calculated.TheVariants.OfTwo r)
-  compared_32_lem test g h t = compared binary32 test (read.is ∙ ap perhaps e) (below.is ∙ ap perhaps g) h t
-
-pub ruleset exits_32 = (top_wrong_32, below_wrong_32, compared_32_lem)
-
-module _ {first : Carrier} {y : Perhaps Float} (read : Double64Read first y) {b : Float} (e : y ≡ Some b) {second : Carrier} {x : Perhaps Float} (below : Double64Read second x) where
-  pub compared_64 : (test : FloatTest) {a : Float} {holds : Bool} {r : Carrier} → x ≡ Some a → holds ≡ holds_of test a b → TruthIs holds r → TwoIs f64 i32 (float_test_bits test double) first second (Calculated.TheVariants.OfTwo r)
-  compared_64 test g h t = compared binary64 test (read.is ∙ ap perhaps e) (below.is ∙ ap perhaps g) h t
-
-pub ruleset exits_64 = (top_wrong_64, below_wrong_64, compared_64)
+pub ruleset exits = (no_first, no_second, compared_is)

@@ -1,6 +1,7 @@
 -- Each way out of a numeric instruction's move.
 use Prim.Native.Nat.{ℕ, ◌≤◌}
 use mathlib.Core.Path.{◌≡◌, refl, sym, ap, ap₂, ◌∙◌}
+use Rattle.std.specs.Prelude.{Ok, Err}
 use mathlib.Core.Option.{Option, none, some}
 use mathlib.Core.List.{List, [], ◌∷◌}
 use native.Mathlib.Omega.{arith}
@@ -15,8 +16,8 @@ use Rattle.scope.proofs.Impossible.{contradiction}
 use Rattle.run_value.specs.declared.Value.{Value as Carrier}
 use Rattle.run_value.specs.Carried.{decoded}
 use Rattle.run_calculated.specs.declared.Calculated
-use Rattle.run_calculated.specs.declared.Calculated.{Calculated}
-use Rattle.run_calculated.specs.Calculations.{Comes, one_gives, two_give, other, wrong, bits_as, by_one, by_two, by_deed, comes_to, told, CalculatedIs}
+use Rattle.run_calculated.specs.declared.Uncalculated
+use Rattle.run_calculated.specs.Calculations.{Calculation, Comes, one_gives, two_give, other, wrong, bits_as, by_one, by_two, by_deed, comes_to, told, CalculatedIs}
 use Rattle.run_calculated.proofs.Laws.{done, numeric_is}
 use Rattle.run_stack.specs.declared.Topmost.{Topmost}
 use Rattle.run_stack.specs.Pile.{head_of}
@@ -85,30 +86,30 @@ two-low (v ∷ w ∷ vs) code e = omega arith
 
 -- the move
 
-module _ {first second : Topmost} {code : ℕ} {x y : Carrier} (a : OperandIs first x) (b : OperandIs second y) {r : Calculated} (c : CalculatedIs code x y r) where
-  comes : (m : Machine) → Seen m.operands first → Seen (drop 1 m.operands) second → {q : Calculated} → r ≡ q → told q ≡ comes_to code (get_or m.operands 0 null) (get_or m.operands 1 null)
+module _ {first second : Topmost} {code : ℕ} {x y : Carrier} (a : OperandIs first x) (b : OperandIs second y) {r : Calculation} (c : CalculatedIs code x y r) where
+  comes : (m : Machine) → Seen m.operands first → Seen (drop 1 m.operands) second → {q : Calculation} → r ≡ q → told q ≡ comes_to code (get_or m.operands 0 null) (get_or m.operands 1 null)
   comes m top next e =
       ap told (sym e)
       ∙ c.is
       ∙ ap₂ (comes_to code) (seen_is top a ∙ topmost_is m.operands) (seen_is next b ∙ under_is m.operands)
 
-  does : (p : Program) (m : Machine) → Seen m.operands first → Seen (drop 1 m.operands) second → {q : Calculated} → r ≡ q → do_op p m m.operands (numeric code) ≡ done m m.operands (told q)
+  does : (p : Program) (m : Machine) → Seen m.operands first → Seen (drop 1 m.operands) second → {q : Calculation} → r ≡ q → do_op p m m.operands (numeric code) ≡ done m m.operands (told q)
   unfolding do_op
   does p m top next e =
       numeric_is m m.operands code ∙ ap (done m m.operands) (sym (comes m top next e))
 
-  pub gives_one : {v : Carrier} → r ≡ Calculated.TheVariants.OfOne v → PairPlans first second (numeric code) (Move.TheVariants.Gives 1 v)
+  pub gives_one : {v : Carrier} → r ≡ Ok (Calculated.TheVariants.OfOne v) → PairPlans first second (numeric code) (Move.TheVariants.Gives 1 v)
   gives_one {v} e =
       record { is = λ p codes m top next. giving 1 v (does p m top next e) (one-low m.operands code (comes m top next e)) }
 
-  pub gives-two : {v : Carrier} → r ≡ Calculated.TheVariants.OfTwo v → PairPlans first second (numeric code) (Move.TheVariants.Gives 2 v)
+  pub gives-two : {v : Carrier} → r ≡ Ok (Calculated.TheVariants.OfTwo v) → PairPlans first second (numeric code) (Move.TheVariants.Gives 2 v)
   gives-two {v} e =
       record { is = λ p codes m top next. giving 2 v (does p m top next e) (two-low m.operands code (comes m top next e)) }
 
-  pub traps_other : r ≡ Calculated.TheVariants.Other → PairPlans first second (numeric code) (Move.TheVariants.Traps trap_other_numeric)
+  pub traps_other : r ≡ Err Uncalculated.TheVariants.Other → PairPlans first second (numeric code) (Move.TheVariants.Traps trap_other_numeric)
   traps_other e = record { is = λ p codes m top next. trapping (does p m top next e) }
 
-  pub strays_wrong : r ≡ Calculated.TheVariants.Wrong → PairPlans first second (numeric code) Move.TheVariants.Astray
+  pub strays_wrong : r ≡ Err Uncalculated.TheVariants.Wrong → PairPlans first second (numeric code) Move.TheVariants.Astray
   strays_wrong e = record { is = λ p codes m top next. strays (does p m top next e) }
 
 pub ruleset numeric_exits = (gives_one, gives-two, traps_other, strays_wrong)

@@ -6,7 +6,7 @@ ghost use Rattle.scope.specs.Instructions.{numeric};
 ghost use Rattle.run_state.specs.Planned.{PairPlans};
 ghost use Rattle.run_move_numbers.specs.Operands.{OperandIs};
 
-use run_calculated::Calculated;
+use run_calculated::{Calculated, Uncalculated};
 use run_stack::Topmost;
 use run_state::Move;
 use run_value::Value;
@@ -23,6 +23,7 @@ fn operand(top: Topmost) -> Value
 }
 
 // 45 to C4
+#[tactic(auto, using(crate::proofs::Numbers::numeric_exits))]
 pub fn numeric_move(first: Topmost, second: Topmost, code: u8) -> Move
     ensures { PairPlans first second (numeric code) result }
 {
@@ -30,9 +31,9 @@ pub fn numeric_move(first: Topmost, second: Topmost, code: u8) -> Move
     let under = operand(second);
     let calculated = run_numeric::calculated(code, topmost, under);
     match calculated {
-        Calculated::OfOne(v) => Move::Gives(1, v),
-        Calculated::OfTwo(v) => Move::Gives(2, v),
-        Calculated::Other => Move::Traps(traps::OTHER_NUMERIC),
-        Calculated::Wrong => Move::Astray,
+        Ok(Calculated::OfOne(v)) => Move::Gives(1, v),
+        Ok(Calculated::OfTwo(v)) => Move::Gives(2, v),
+        Err(Uncalculated::Other) => Move::Traps(traps::OTHER_NUMERIC),
+        Err(Uncalculated::Wrong) => Move::Astray,
     }
 }

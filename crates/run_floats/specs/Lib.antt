@@ -1,0 +1,2 @@
+pub mod FloatDeeds
+pub mod Reals

@@ -1,0 +1,2 @@
+pub mod IntegerTests
+pub mod Words
