@@ -71,4 +71,4 @@ module _ (types before : ℕ) (s : List ℕ) (at : ℕ) {r : Natural} (a : r ≡
         pub entry_got : not t ≡ false → before + k ≤ most_locals → Entry.TheVariants.Is k c next ≡ entry_is (entry_at types before s at)
         entry_got g h = entry_with (λ v code. rw (not-false t g, le-leb (before + k) most_locals h, code))
 
-pub ruleset entry_exits = (entry_uncounted, count_fits, entry_untyped, entry_out, entry_over, entry_got)
+pub ruleset entry_exits = (entry_uncounted, entry_untyped, entry_out, entry_over, entry_got)

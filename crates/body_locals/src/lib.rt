@@ -17,6 +17,7 @@ pub enum Entry {
 }
 
 // One entry, after so many locals. 6 and then 4, both at its first byte.
+#[tactic(auto, using(crate::proofs::OneEntry::entry_exits))]
 fn entry_at(s: &[u8], at: usize, types: u64, before: u64) -> Entry
     requires { Limits types before }
     ensures { result ≡ entry_is (entry_at types before s.now at) }

@@ -50,6 +50,8 @@ module _ {ts : Types} {dead : Bool} {work : List ℕ} {base height : ℕ} {codes
   pub list_turn : {r : Take} {o fewer : ℕ} → r ≡ Take.TheVariants.Took o fewer → took_of work base r ≡ take_all ts dead (wanted_at_code (c + 2) ∷ []) (stack work base left) → FromTop ts dead work base height (values_of codes list) fewer (i - 1)
   list_turn {r} e b = record { same = rw e at (list_one r b) }
 
+pub ruleset list_exits = (list_done, list_missed, list_turn)
+
 -- a plan
 
 module _ (ts : Types) (dead : Bool) (work : List ℕ) (base : ℕ) (ws vs : List Wanted) (os : List Operand) {r : Left} where
@@ -59,4 +61,4 @@ module _ (ts : Types) (dead : Bool) (work : List ℕ) (base : ℕ) (ws vs : List
   pub part_got : {h : ℕ} → r ≡ Left.TheVariants.Is h → left_of work base r ≡ left_in (take_all ts dead ws os) → {x : Ruled (List Operand)} → x ≡ left_in (take_all ts dead vs (stack work base h)) → x ≡ left_in (take_all ts dead (ws ++ vs) os)
   part_got e a b = rw (left-append ts dead ws vs os, ← a, e) b
 
-pub ruleset several_exits = (list_done, list_missed, list_turn, part_missed, part_got)
+pub ruleset part_exits = (part_missed, part_got)

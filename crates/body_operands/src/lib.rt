@@ -22,6 +22,7 @@ pub enum Left {
 }
 
 // One operand or none: 0 is none, else one more than the word of what is wanted.
+#[tactic(auto, using(crate::proofs::OneOrNone::some_exits))]
 fn take_some(
     rows: &[u16],
     shared: &[u16],
@@ -48,6 +49,7 @@ fn take_some(
 }
 
 // The types of a list, the last first.
+#[tactic(auto, using(crate::proofs::Several::list_exits))]
 pub fn take_list(
     rows: &[u16],
     shared: &[u16],
