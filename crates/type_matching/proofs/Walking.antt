@@ -1,20 +1,21 @@
--- The loop over two lists of codes and the two tests over lists walk the same codes: where a pair matches, the test of the whole is
--- that of the rest, and where it does not, the test fails.
+-- The walk over two lists of codes and the two tests over lists ask of the same pairs, where there are enough codes; where there are
+-- too few, the tests fail.
 use Prim.Native.Nat.{ℕ, zero, suc, ◌+◌, ◌-◌, ◌/◌, ◌%◌, ◌≤◌, ◌<◌}
 use mathlib.Core.Path.{◌≡◌, refl, sym, ap, ◌∙◌}
-use mathlib.Core.Bool.{Bool, true, false, not, ◌&&◌}
-use mathlib.Core.List.{List, ◌∷◌}
+use mathlib.Core.Bool.{Bool, true, false, ◌&&◌}
+use mathlib.Core.List.{List, map}
+use native.Mathlib.Nat.{add-zero}
+use lib.ListN.{get_or}
+use Rattle.std.specs.List.{list_all, range_with_len}
 use native.Mathlib.Omega.{arith}
 use Rattle.std.proofs.Math.Bool.{and-false}
-use borrow.Author.Tests.{eq-eqb, ne_eqb, eqb-true, eqb-false, leb-true, leb-false, not-true, not-false}
-use Rattle.scope.specs.Lists.{pairwise, prefixwise}
+use borrow.Author.Tests.{eq-eqb, ne_eqb, eqb-true, eqb-false, leb-true, leb-false, le-leb}
 use Rattle.scope.specs.Syntax.{Types}
 use Rattle.scope.specs.Order.{val_below, same_val}
 use Rattle.scope.specs.TypeRules.{field_matches}
 use Rattle.scope.specs.Layout.{codes_size}
 use Rattle.lent_u16.specs.Words.{WordAt}
 use Rattle.type_table.specs.View.{val_at_code, field_at_code, codes_at, both_codes}
-use Rattle.type_table.proofs.Laws.{first_code}
 use Rattle.type_table.proofs.Sides.{own_codes, shared-codes}
 use Rattle.type_matching.specs.Lists.{code_matches, enough, codes_match}
 
@@ -50,21 +51,6 @@ module _ (fields : Bool) (ts : Types) (a b : ℕ) {r : Bool} where
 
 pub ruleset code_exits = (field_code_lem, value_code)
 
--- a test over two lists that asks t of each pair
-
-module _ {A : Type 0} (over : List A → List A → Bool) (t : A → A → Bool) (pair : (x y : A) (xs ys : List A) → over (x ∷ xs) (y ∷ ys) ≡ (t x y && over xs ys)) (f : ℕ → A) (codes : List ℕ) {at left up more a b : ℕ} (l : 0 < left) (m : 0 < more) (p : WordAt codes at a) (q : WordAt codes up b) where
-  taken : over (codes_at f codes at left) (codes_at f codes up more) ≡ (t (f a) (f b) && over (codes_at f codes (at + 1) (left - 1)) (codes_at f codes (up + 1) (more - 1)))
-  taken = rw (first_code f codes at left l p, first_code f codes up more m q) (pair (f a) (f b) _ _)
-
-module _ (fields : Bool) (ts : Types) (codes : List ℕ) {at left up more a b : ℕ} (l : 0 < left) (m : 0 < more) (p : WordAt codes at a) (q : WordAt codes up b) where
-  pair-taken : codes_match fields ts codes at left up more ≡ (code_matches fields ts a b && codes_match fields ts codes (at + 1) (left - 1) (up + 1) (more - 1))
-  unfolding codes_match code_matches
-  pair-taken = go fields
-    where
-      go : (t : Bool) → codes_match t ts codes at left up more ≡ (code_matches t ts a b && codes_match t ts codes (at + 1) (left - 1) (up + 1) (more - 1))
-      go true = taken (prefixwise (field_matches ts)) (field_matches ts) (λ x y xs ys. refl) field_at_code codes l m p q
-      go false = taken (pairwise (val_below ts)) (val_below ts) (λ x y xs ys. refl) val_at_code codes l m p q
-
 -- too few, or not as many
 
 too_few : (ts : Types) (codes : List ℕ) (i n j m : ℕ) → n < m → codes_match true ts codes i n j m ≡ false
@@ -80,54 +66,55 @@ not_as_many ts codes i zero j (suc m) h = refl
 not_as_many ts codes i (suc n) j zero h = refl
 not_as_many ts codes i (suc n) j (suc m) h = rw (not_as_many ts codes (i + 1) n (j + 1) m (λ e. omega arith)) (and-false _)
 
--- and none left to match
+pub too_few_match : (fields : Bool) (ts : Types) (codes : List ℕ) (i n j m : ℕ) → enough fields n m ≡ false → false ≡ codes_match fields ts codes i n j m
+too_few_match true ts codes i n j m e = sym (too_few ts codes i n j m (leb-false m n e))
+too_few_match false ts codes i n j m e = sym (not_as_many ts codes i n j m (eqb-false n m e))
 
-fields_done : (ts : Types) (codes : List ℕ) (i n j : ℕ) → codes_match true ts codes i n j 0 ≡ true
+-- enough: the test is asked of each pair
+
+none_left : (fields : Bool) (ts : Types) (codes : List ℕ) (at n up : ℕ) → enough fields n 0 ≡ true → codes_match fields ts codes at n up 0 ≡ true
 unfolding codes_match codes_at
-fields_done ts codes i zero j = refl
-fields_done ts codes i (suc n) j = refl
+none_left true ts codes at zero up e = refl
+none_left true ts codes at (suc n) up e = refl
+none_left false ts codes at n up e = rw (eqb-true n 0 e)
 
-ample_more : (fields : Bool) (n m : ℕ) → enough fields n m ≡ true → m ≤ n
-ample_more true n m e = leb-true m n e
-ample_more false n m e = let same = eqb-true n m e in omega arith
+enough_more : (fields : Bool) (n m : ℕ) → enough fields (suc n) (suc m) ≡ true → enough fields n m ≡ true
+enough_more true n m e = let h = leb-true (suc m) (suc n) e in le-leb m n (omega arith)
+enough_more false n m e = let h = eqb-true (suc n) (suc m) e in eq-eqb n m (omega arith)
 
-all_matched : (fields : Bool) (ts : Types) (codes : List ℕ) (at n up m k : ℕ) → enough fields n m ≡ true → m ≤ k → codes_match fields ts codes at (n - k) up (m - k) ≡ true
-unfolding codes_match codes_at
-all_matched true ts codes at n up m k e h = let none : m - k ≡ 0 = omega arith in rw none (fields_done ts codes at (n - k) up)
-all_matched false ts codes at n up m k e h = let same = eqb-true n m e in let none : m - k ≡ 0 = omega arith in rw (same, none)
+none_enough : (fields : Bool) (m : ℕ) → enough fields 0 (suc m) ≡ true → ⊥
+none_enough true m e = let h = leb-true (suc m) 0 e in omega arith
+none_enough false m e = let h = eqb-true 0 (suc m) e in omega arith
 
--- what the loop holds after k pairs
+pair_first : (fields : Bool) (ts : Types) (codes : List ℕ) (at n up m : ℕ) → codes_match fields ts codes at (suc n) up (suc m) ≡ (code_matches fields ts (get_or codes at 0) (get_or codes up 0) && codes_match fields ts codes (at + 1) n (up + 1) m)
+unfolding codes_match code_matches codes_at
+pair_first true ts codes at n up m = refl
+pair_first false ts codes at n up m = refl
 
-pub record Walk (fields : Bool) (ts : Types) (codes : List ℕ) (i n j m k : ℕ) : Type 0 where
-  pub same : codes_match fields ts codes i n j m ≡ codes_match fields ts codes (i + k) (n - k) (j + k) (m - k)
-  pub ample : enough fields n m ≡ true
+module _ (codes : List ℕ) (i j : ℕ) where
+  -- the codes k places after i and j
+  abbrev pub pair_at : ℕ → ℕ × ℕ
+  pair_at k = (get_or codes (i + k) 0, get_or codes (j + k) 0)
 
-module _ (ts : Types) (codes : List ℕ) (i n j m : ℕ) where
-  pub walk_short : {r : Bool} (fields : Bool) → r ≡ enough fields n m → not r ≡ true → false ≡ codes_match fields ts codes i n j m
-  walk_short {r} true e t = sym (too_few ts codes i n j m (leb-false m n (sym e ∙ not-true r t)))
-  walk_short {r} false e t = sym (not_as_many ts codes i n j m (eqb-false n m (sym e ∙ not-true r t)))
+  pub pair_read : (k : ℕ) {a b : ℕ} → WordAt codes (i + k) a → WordAt codes (j + k) b → (a, b) ≡ pair_at k
+  pair_read k p q = rw (p.is, q.is) refl
 
-module _ {fields : Bool} {ts : Types} {codes : List ℕ} {i n j m k : ℕ} (w : Walk fields ts codes i n j m k) where
-  pub walk_done : m ≤ k → true ≡ codes_match fields ts codes i n j m
-  walk_done h = sym (w.same ∙ all_matched fields ts codes (i + k) n (j + k) m k w.ample h)
+module _ (fields : Bool) (ts : Types) where
+  abbrev pub pair_matches : ℕ × ℕ → Bool
+  pair_matches p = code_matches fields ts p.0 p.1
 
-  module _ (h : k < m) {a b : ℕ} (p : WordAt codes (i + k) a) (q : WordAt codes (j + k) b) {r : Bool} (e : r ≡ code_matches fields ts a b) where
-    whole : codes_match fields ts codes i n j m ≡ (r && codes_match fields ts codes (i + (k + 1)) (n - (k + 1)) (j + (k + 1)) (m - (k + 1)))
-    whole =
-        let more = ample_more fields n m w.ample in
-        let at : i + k + 1 ≡ i + (k + 1) = omega arith in
-        let up : j + k + 1 ≡ j + (k + 1) = omega arith in
-        let left : n - k - 1 ≡ n - (k + 1) = omega arith in
-        let rest : m - k - 1 ≡ m - (k + 1) = omega arith in
-        w.same ∙ rw (← at, ← up, ← left, ← rest, e) (pair-taken fields ts codes (omega arith) (omega arith) p q)
+  module _ (codes : List ℕ) (i j : ℕ) where
+    pairs_from : (a n m : ℕ) → enough fields n m ≡ true → list_all pair_matches (map (pair_at codes i j) (range_with_len a m)) ≡ codes_match fields ts codes (i + a) n (j + a) m
+    pairs_from a n zero e = sym (none_left fields ts codes (i + a) n (j + a) e)
+    pairs_from a zero (suc m) e = absurd (none_enough fields m e)
+    pairs_from a (suc n) (suc m) e =
+        let at : i + a + 1 ≡ i + (a + 1) = omega arith in
+        let up : j + a + 1 ≡ j + (a + 1) = omega arith in
+        ap (λ (t : Bool). pair_matches (pair_at codes i j a) && t) (pairs_from (a + 1) n m (enough_more fields n m e))
+        ∙ rw (← at, ← up) (sym (pair_first fields ts codes (i + a) n (j + a) m))
 
-    pub walk_stopped : not r ≡ true → false ≡ codes_match fields ts codes i n j m
-    walk_stopped t = sym (whole ∙ ap (λ (s : Bool). s && codes_match fields ts codes (i + (k + 1)) (n - (k + 1)) (j + (k + 1)) (m - (k + 1))) (not-true r t))
-
-    pub walk_turn : not r ≡ false → Walk fields ts codes i n j m (k + 1)
-    walk_turn t = record { same = whole ∙ ap (λ (s : Bool). s && codes_match fields ts codes (i + (k + 1)) (n - (k + 1)) (j + (k + 1)) (m - (k + 1))) (not-false r t); ample = w.ample }
-
-pub ruleset walk_exits = (walk_short, walk_done, walk_stopped, walk_turn)
+    pub pairs_match : (n m : ℕ) → enough fields n m ≡ true → list_all pair_matches (map (pair_at codes i j) (range_with_len 0 m)) ≡ codes_match fields ts codes i n j m
+    pairs_match n m e = pairs_from 0 n m e ∙ rw (add-zero i, add-zero j) refl
 
 -- codes that all lie in one part
 

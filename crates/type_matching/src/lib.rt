@@ -74,7 +74,6 @@ fn enough(fields: bool, n: u32, m: u32) -> bool
 }
 
 // The n codes from i on against the m codes from j on, one by one, each as `word` reads it from the list.
-#[tactic(auto, using(crate::proofs::Walking::walk_exits))]
 fn list_matches<W: Fn(u64) -> u64>(
     rows: &[u16],
     shared: &[u16],
@@ -93,17 +92,10 @@ fn list_matches<W: Fn(u64) -> u64>(
     ensures { let types = view rows.now (both_codes shared.now codes.now) in
         result ≡ codes_match fields types list i n j m }
 {
-    if !enough(fields, n, m) {
-        return false;
-    }
-    for k in 0..m as u64 {
-        let a = word(i as u64 + k);
-        let b = word(j as u64 + k);
-        if !code_matches(rows, shared, codes, fields, a, b) {
-            return false;
-        }
-    }
-    true
+    enough(fields, n, m)
+        && (0..m as u64)
+            .map(|k| (word(i as u64 + k), word(j as u64 + k)))
+            .all(|(a, b)| code_matches(rows, shared, codes, fields, a, b))
 }
 
 // The n codes from i on against the m codes from j on. A type has all of its codes in one buffer: where both types are of one section,
