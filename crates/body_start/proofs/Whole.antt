@@ -17,7 +17,7 @@ use Rattle.scope.specs.Syntax.{Val}
 use Rattle.scope.specs.BodyRules.{has_default}
 use Rattle.scope.specs.Bodies.{locals_at}
 use Rattle.scope.proofs.Truths.{decided}
-use Rattle.scope.proofs.Impossible.{contradiction, impossible}
+use Rattle.scope.proofs.Impossible.{contradiction}
 use Rattle.number_values.specs.declared.Natural.{Natural}
 use Rattle.number_values.specs.declared.Natural
 use Rattle.number_values.specs.Values.{natural_is}
@@ -30,7 +30,7 @@ use Rattle.body_state.specs.State.{val_at_word, is_set_at, sets_at}
 use Rattle.body_locals.specs.declared.LocalsRead.{LocalsRead}
 use Rattle.body_locals.specs.declared.LocalsRead
 use Rattle.body_locals.specs.Entries.{locals_is, LocalsPut}
-use Rattle.body_locals.proofs.Laws.{locals_got, locals_refused, locals-inside}
+use Rattle.body_locals.proofs.Laws.{locals_got, locals-inside}
 use Rattle.body_start.specs.declared.Started.{Started}
 use Rattle.body_start.specs.declared.Started
 use Rattle.body_start.specs.Beginning.{locals_first, started_is, ParametersPut, starts_set, MarksPut, Starting, StartingAt, Begun, StartedAs}
@@ -46,15 +46,6 @@ zeros n i = go (decided (ltb i n))
     go (inr h) = get_or-eq_default (replicate n 0) 0 (let l = ltb-false i n h in rw length-replicate l)
 
 module _ {types n params : ℕ} {s : List ℕ} {entries : ℕ} {work₁ work₂ : List ℕ} {r : LocalsRead} (l : LocalsPut types n params s entries work₁ work₂ 0 r) {codes work : List ℕ} {first : ℕ} (ps : ParametersPut codes work work₁ first params) (b : StartingAt work types params s entries) where
-  pub start_refused : {k place : ℕ} → r ≡ LocalsRead.TheVariants.Refused k place → StartedAs (locals_at types n params s entries) s codes work work₂ first params (Started.TheVariants.Refused k place)
-  start_refused e =
-      let read = locals_refused params (locals_at types n params s entries) l.answer e in
-      record {
-        answer = rw read;
-        begun = λ vs next f. impossible cc;
-        size = l.size ∙ ps.size;
-      }
-
   module _ (vs : List Val) (next : ℕ) (read : locals_at types n params s entries ≡ got vs next) where
     modest : Modest params vs
     modest = let fewer : params ≤ most_locals = omega (arith, b.starting.few) in (locals_modest b.starting.known n fewer s entries).tells vs next read
@@ -132,7 +123,7 @@ module _ {types n params : ℕ} {s : List ℕ} {entries : ℕ} {work₁ work₂ 
           size = q.size ∙ l.size ∙ ps.size;
         }
 
-pub ruleset start-at_exits = (start_refused, few_locals, count_fits, start-done)
+pub ruleset start_at_exits = (few_locals, count_fits, start-done)
 
 -- after the count
 

@@ -12,6 +12,7 @@ use number_values::Natural;
 use type_table::ValKind;
 
 // The types of the n parameters, whose codes stand in the table from `first` on.
+#[tactic(auto, using(crate::proofs::Parameters::parameters_turn))]
 fn put_parameters(shared: &[u16], codes: &[u16], work: &mut [u32], first: u32, n: u32)
     requires { n ≤ length work.old }
     ensures { ParametersPut (both_codes shared.now codes.now) work.old work.new first n }
