@@ -1,12 +1,9 @@
 -- Step after step: the run from where it stands, with the steps before it counted, is the whole run; and soundness says that
 -- no step is astray.
 use Prim.Native.Nat.{ℕ, suc, ◌+◌, ◌-◌, ◌≤◌, ◌<◌}
-use mathlib.Core.Path.{◌≡◌, refl, sym, ap, ◌∙◌}
+use mathlib.Core.Path.{◌≡◌, refl, sym, ap, ap₂, ◌∙◌}
 use mathlib.Core.List.{List, []}
 use native.Mathlib.Omega.{arith}
-use lib.ListN.{length}
-use mir.Syntax.{w64}
-use mir.Val.{Fits}
 use Rattle.scope.specs.Instructions.{instr_at}
 use Rattle.scope.specs.Machine.{Machine, Program, Outcome, goes, step}
 use Rattle.scope.specs.Running.{run_by, run, on_outcome}
@@ -37,30 +34,19 @@ use Rattle.run_turn.specs.Turns.{turn_of}
 use Rattle.run_turn.proofs.Turning.{comes_to, turn_means}
 use Rattle.run_loop.specs.Runs.{Readable, Runnable, RanFrom}
 
--- as many words as at first
-pub record Sizes (w₀ w : Words) : Type 0 where
-  pub objects : length w.objects ≡ length w₀.objects
-  pub cells : length w.cells ≡ length w₀.cells
-  pub locals : length w.locals ≡ length w₀.locals
-  pub operands : length w.operands ≡ length w₀.operands
-  pub blocks : length w.blocks ≡ length w₀.blocks
-
 -- what holds before each step
 pub record Going (s rows codes ends' : List ℕ) (count : ℕ) (w₀ : Words) (results first budget : ℕ) (w : Words) (st : Stage) (steps : ℕ) : Type 0 where
   pub sound : Sound s (program_at rows codes results) (machine_at s count w₀ (start_stage first))
   pub orderly : Orderly s ends' count w st
   pub reaches : Reaches (program_at rows codes results) (machine_at s count w₀ (start_stage first)) steps (machine_at s count w st)
   pub rest : run (program_at rows codes results) budget 0 (machine_at s count w₀ (start_stage first)) ≡ run (program_at rows codes results) (budget - steps) steps (machine_at s count w st)
-  pub few : steps ≤ budget
-  pub small : Fits w64 budget
-  pub sizes : Sizes w₀ w
 
 pub going_first :
-    {s rows codes ends' : List ℕ} {count : ℕ} {w : Words} {results first : ℕ} {budget : ℕ} → Fits w64 budget → Runnable s rows codes ends' count w results first
+    {s rows codes ends' : List ℕ} {count : ℕ} {w : Words} {results first : ℕ} {budget : ℕ} → Runnable s rows codes ends' count w results first
     → {st : Stage} → st ≡ start_stage first → Going s rows codes ends' count w results first budget w st 0
-going_first {budget} f may is =
+going_first {budget} may is =
     let all : budget - 0 ≡ budget = omega arith in
-    rw is (record { sound = may.sound; orderly = may.orderly; reaches = at_first; rest = rw all refl; few = omega arith; small = f; sizes = record { objects = refl; cells = refl; locals = refl; operands = refl; blocks = refl } })
+    rw is (record { sound = may.sound; orderly = may.orderly; reaches = at_first; rest = rw all refl })
 
 -- one step of the written run
 one-step :
@@ -95,15 +81,12 @@ module _ {s rows codes ends' : List ℕ} {count : ℕ} {w₀ : Words} {results f
   unfolding machine_at
   some-code e = g.sound.more g.reaches e
 
-  -- a step is counted within the budget
-  pub steps_fit : steps < budget → Fits w64 (steps + 1)
-  steps_fit h = omega (arith, g.small, h)
-
-  pub going_spent : budget ≤ steps → RanFrom s rows codes count w₀ (words o c l p b) results first budget (Ending.TheVariants.Spent st steps)
+  pub going_spent : steps ≤ budget → budget ≤ steps → RanFrom s rows codes count w₀ (words o c l p b) results first budget (Ending.TheVariants.Spent st budget)
   unfolding ending_at run run_by
-  going_spent h =
+  going_spent few h =
       let none : budget - steps ≡ 0 = omega arith in
-      let rest = g.rest ∙ ap (λ (left : ℕ). run (program_at rows codes results) left steps (machine_at s count (words o c l p b) st)) none in
+      let all : steps ≡ budget = omega arith in
+      let rest = g.rest ∙ ap₂ (λ (left done : ℕ). run (program_at rows codes results) left done (machine_at s count (words o c l p b) st)) none all in
       record { is = sym rest; told = state-words g.orderly some-code; valued = g.orderly.valued; low = omega (arith, g.orderly.framed.room, g.orderly.framed.deep) }
 
   pub going_may : Readable s ends' count (words o c l p b) st
@@ -133,48 +116,27 @@ module _ {s rows codes ends' : List ℕ} {count : ℕ} {w₀ : Words} {results f
       by f e = sym f ∙ is ∙ ap (λ (q : Stepped). turn_of q st steps) e
 
       -- the run goes on only where the step does
-      went : {later : Stage} {after : ℕ} → t ≡ Turn.TheVariants.On later after → (r ≡ Stepped.TheVariants.Goes later) × (after ≡ steps + 1)
+      went : {later : Stage} {after : ℕ} → t ≡ Turn.TheVariants.On later after → r ≡ Stepped.TheVariants.Goes later
       went {later} {after} f = go r refl
         where
-          go : (q : Stepped) → r ≡ q → (r ≡ Stepped.TheVariants.Goes later) × (after ≡ steps + 1)
+          go : (q : Stepped) → r ≡ q → r ≡ Stepped.TheVariants.Goes later
           go (Stepped.TheVariants.Goes st') e =
               let both : Turn.TheVariants.On later after ≡ Turn.TheVariants.On st' (steps + 1) = by f e in
               let same : st' ≡ later = cc in
-              let counted : after ≡ steps + 1 = cc in
-              (e ∙ ap Stepped.TheVariants.Goes same, counted)
+              e ∙ ap Stepped.TheVariants.Goes same
           go (Stepped.TheVariants.Ends st') e = let both : Turn.TheVariants.On later after ≡ Turn.TheVariants.Over (Ending.TheVariants.Done st' (steps + 1)) = by f e in impossible cc
           go (Stepped.TheVariants.Traps number) e = let both : Turn.TheVariants.On later after ≡ Turn.TheVariants.Over (Ending.TheVariants.Trapped number st (steps + 1)) = by f e in impossible cc
           go Stepped.TheVariants.Astray e = let both : Turn.TheVariants.On later after ≡ Turn.TheVariants.Over Ending.TheVariants.Astray = by f e in impossible cc
 
-      pub going_less : {later : Stage} {after : ℕ} → t ≡ Turn.TheVariants.On later after → budget - after < budget - steps
-      going_less f = let (goes_on_lem, counted) = went f in omega (arith, counted, h)
-
       pub going_turn :
-          {later : Stage} {after : ℕ} → t ≡ Turn.TheVariants.On later after → length o' ≡ length o → length c' ≡ length c → length l' ≡ length l → length p' ≡ length p
-          → length b' ≡ length b → Going s rows codes ends' count w₀ results first budget (words o' c' l' p' b') later after
+          {later : Stage} {after : ℕ} → t ≡ Turn.TheVariants.On later after → Going s rows codes ends' count w₀ results first budget (words o' c' l' p' b') later (steps + 1)
       unfolding comes_to outcome_at
-      going_turn {later} {after} f so sc sl sp sb =
-          let (e, counted) = went f in
+      going_turn {later} f =
+          let e = went f in
           let some : (Stepped.TheVariants.Goes later ≡ Stepped.TheVariants.Astray → ⊥) = λ a. contradiction cc in
           let stepped-so : step (program_at rows codes results) (machine_at s count (words o c l p b) st) ≡ goes (machine_at s count (words o' c' l' p' b') later) =
           sym (stepped.is.is (λ a. some (sym e ∙ a))) ∙ ap (outcome_at s count (words o' c' l' p' b')) e in
-          rw counted
-          (record {
-            sound = g.sound;
-            orderly = stepped.is.orderly later e;
-            reaches = one_more g.reaches stepped-so;
-            rest = comes e some;
-            few = omega arith;
-            small = g.small;
-            sizes =
-                record {
-                  objects = so ∙ g.sizes.objects;
-                  cells = sc ∙ g.sizes.cells;
-                  locals = sl ∙ g.sizes.locals;
-                  operands = sp ∙ g.sizes.operands;
-                  blocks = sb ∙ g.sizes.blocks;
-                };
-          })
+          record { sound = g.sound; orderly = stepped.is.orderly later e; reaches = one_more g.reaches stepped-so; rest = comes e some }
 
       pub going_over : {ended : Ending} → t ≡ Turn.TheVariants.Over ended → RanFrom s rows codes count w₀ (words o' c' l' p' b') results first budget ended
       unfolding comes_to
@@ -204,4 +166,4 @@ module _ {s rows codes ends' : List ℕ} {count : ℕ} {w₀ : Words} {results f
               })
           go Stepped.TheVariants.Astray e = absurd (g.sound.never g.reaches (stepped.is.astray e))
 
-pub ruleset run_exits = (going_first, going_spent, going_may, going_less, going_turn, going_over)
+pub ruleset run_exits = (going_first, going_spent, going_may, going_turn, going_over)

@@ -68,8 +68,7 @@ pub fn run_from(
         RanFrom s.now rows.now (both_codes shared.now codes.now) count before after results first budget result }
 {
     let mut stage = run_state::start(first);
-    let mut steps: u64 = 0;
-    while steps < budget {
+    for steps in 0..budget {
         let stepped = step_next(
             s, rows, shared, codes, ends, objects, cells, locals, operands, blocks, count, results,
             stage,
@@ -79,11 +78,10 @@ pub fn run_from(
             Turn::Over(ended) => {
                 return ended;
             }
-            Turn::On(later, after) => {
+            Turn::On(later, _) => {
                 stage = later;
-                steps = after;
             }
         }
     }
-    Ending::Spent(stage, steps)
+    Ending::Spent(stage, budget)
 }
