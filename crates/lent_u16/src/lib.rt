@@ -30,9 +30,5 @@ pub fn put(m: &mut [u16], at: u64, v: u64)
 pub fn wipe(m: &mut [u16])
     ensures { m.new ≡ replicate (length m.old) 0 }
 {
-    let mut i: usize = 0;
-    while i < m.len() {
-        m[i] = 0;
-        i += 1;
-    }
+    m.fill(0);
 }

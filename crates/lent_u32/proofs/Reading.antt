@@ -1,5 +1,4 @@
--- Each way out of a read of the scratch. A store and the wiping loop are those of crate lent_u16, whose laws speak of numbers
--- of any width.
+-- Each way out of a read of the scratch. A store is that of crate lent_u16, whose laws speak of numbers of any width.
 use Prim.Native.Nat.{ℕ, ◌≤◌, ◌<◌, ◌^◌}
 use mathlib.Core.Path.{refl, sym}
 use mathlib.Core.List.{List}

@@ -30,9 +30,5 @@ pub fn put32(m: &mut [u32], at: u64, v: u64)
 pub fn wipe32(m: &mut [u32])
     ensures { m.new ≡ replicate (length m.old) 0 }
 {
-    let mut i: usize = 0;
-    while i < m.len() {
-        m[i] = 0;
-        i += 1;
-    }
+    m.fill(0);
 }
