@@ -3,8 +3,6 @@ use Prim.Native.Nat.{ℕ, zero, suc, ◌+◌, ◌-◌, ◌≤◌}
 use mathlib.Core.Path.{◌≡◌, refl, sym, ap, ◌∙◌}
 use mathlib.Core.Bool.{Bool, true, false, ◌&&◌}
 use mathlib.Core.List.{List, [], ◌++◌, map}
-use native.Mathlib.Omega.{arith}
-use native.Mathlib.Nat.{add-zero}
 use lib.Dec.{ltb}
 use lib.ListN.{get_or}
 use Rattle.std.specs.List.{list_all, range_with_len}
@@ -28,23 +26,19 @@ unfolding codes_names codes_at
 names_none true codes at = refl
 names_none false codes at = refl
 
-module _ (fields : Bool) (codes : List ℕ) (i reach : ℕ) where
-  -- what the code k places after i names is in reach
+module _ (fields : Bool) (codes : List ℕ) (reach : ℕ) where
+  -- what the code at a place names is in reach
   abbrev pub code_below : ℕ → Bool
-  code_below k = all_below reach (code_names fields (get_or codes (i + k) 0))
+  code_below at = all_below reach (code_names fields (get_or codes at 0))
 
-  codes_from : (a n : ℕ) → list_all code_below (range_with_len a n) ≡ all_below reach (codes_names fields codes (i + a) n)
-  codes_from a zero = below_none reach ∙ ap (all_below reach) (sym (names_none fields codes (i + a)))
-  codes_from a (suc n) =
-      let next : i + a + 1 ≡ i + (a + 1) = omega arith in
-      ap (λ (t : Bool). code_below a && t) (codes_from (a + 1) n)
-      ∙ sym (ap (all_below reach) (names_first fields codes (i + a) n) ∙ below-append reach (code_names fields (get_or codes (i + a) 0)) (codes_names fields codes (i + a + 1) n) ∙ rw (← next) refl)
+  pub all_codes_below : (i n : ℕ) → list_all code_below (range_with_len i n) ≡ all_below reach (codes_names fields codes i n)
+  all_codes_below i zero = below_none reach ∙ ap (all_below reach) (sym (names_none fields codes i))
+  all_codes_below i (suc n) =
+      ap (λ (t : Bool). code_below i && t) (all_codes_below (i + 1) n)
+      ∙ sym (ap (all_below reach) (names_first fields codes i n) ∙ below-append reach (code_names fields (get_or codes i 0)) (codes_names fields codes (i + 1) n))
 
-  pub all_codes_below : (n : ℕ) → list_all code_below (range_with_len 0 n) ≡ all_below reach (codes_names fields codes i n)
-  all_codes_below n = codes_from 0 n ∙ ap (λ (at : ℕ). all_below reach (codes_names fields codes at n)) (add-zero i)
-
-  pub code_answers : (k : ℕ) {limit w : ℕ} → Limit fields reach limit → WordAt codes (i + k) w → ltb w limit ≡ code_below k
-  code_answers k l p = sym (rw (← p.is) (l.is _ p.small))
+  pub code_answers : {at limit w : ℕ} → Limit fields reach limit → WordAt codes at w → ltb w limit ≡ code_below at
+  code_answers l p = sym (rw (← p.is) (l.is _ p.small))
 
 -- codes that all lie in one part
 

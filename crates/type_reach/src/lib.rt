@@ -65,7 +65,8 @@ fn list_in_reach<W: Fn(u64) -> u64>(word: W, fields: bool, i: u32, n: u32, reach
     ensures { result ≡ all_below reach (codes_names fields list i n) }
 {
     let limit = limit_of(fields, reach);
-    (0..n as u64).all(|k| word(i as u64 + k) < limit)
+    let end = i as u64 + n as u64;
+    (i as u64..end).all(|at| word(at) < limit)
 }
 
 // The n codes from i on. A type has all of its codes in one buffer: the walk over them does not ask which at each. Else each is looked
