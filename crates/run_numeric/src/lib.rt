@@ -138,6 +138,7 @@ fn result(code: u8, first: Value, second: Value) -> Calculation
 }
 
 // What a code comes to on the two topmost operands.
+#[tactic(auto, using(crate::proofs::Table::between_is))]
 pub fn calculated(code: u8, first: Value, second: Value) -> Calculation
     ensures { CalculatedIs code first second result }
 {
