@@ -18,9 +18,8 @@ use Rattle.body_quick_read.proofs.Shorts.{number-one}
 use Rattle.body_quick_take.specs.declared.Done.{Done}
 use Rattle.body_progress.specs.Standing.{check_of}
 use Rattle.body_quick_take.specs.Telling.{Asked, AskedAfter, Told, Plainly}
-use Rattle.body_quick_take.proofs.Tellings.{left-none, told-not, plainly_not, told_none}
-use Rattle.body_quick_take.proofs.Asking.{next_fits}
-use Rattle.body_quick_values.specs.Values.{AskedNumeric, Drops}
+use Rattle.body_quick_take.proofs.Tellings.{left-none, told_none}
+use Rattle.body_quick_values.specs.Values.{Drops}
 use Rattle.body_quick.specs.Runs.{Facing}
 
 read_nop : (s : List ℕ) (at : ℕ) → get_elem? s at ≡ some 0x01 → instr_at s at ≡ got (op nop) (at + 1)
@@ -37,9 +36,6 @@ module _ {table : List ℕ} {b : ℕ} {s : List ℕ} {at : ℕ} {work : List ℕ
 
   pub asked_as : {k : ℕ} → b ≡ k → k < 256 → Asked k s at work count depth base top dead
   asked_as {k} e h = rw e at (asked_here (omega arith))
-
-  pub asked-numeric : (b ≡ 256 → ⊥) → AskedNumeric table b s at work count depth base top dead
-  asked-numeric n = record { tabled = f.tabled; asked = asked_here (omega (arith, n, f.byte.most)) }
 
   pub nop_told : b ≡ 0x01 → {work' : List ℕ} → work' ≡ work → Plainly s at work work' count depth base top dead (record { top = top; size = 1 })
   nop_told e {work'} same =
@@ -67,6 +63,4 @@ after_as {s} {at} a {b} f {k} e h =
     let one = (number-one f low).is (λ z. absurd (omega arith)) ∙ ap (got b) place in
     record { byte = a.byte; code = one ∙ ap (λ (x : ℕ). got x (at + 2)) e; inside = omega arith; stands = a.stands }
 
-pub ruleset after_arms = (next_fits, after_as, told-not)
-
-pub ruleset arm_exits = (asked_as, asked-numeric, nop_told, dropped-told, plainly_not, plainly_here)
+pub ruleset arm_exits = (nop_told, dropped-told, plainly_here)

@@ -54,6 +54,7 @@ fn prefixed(
 }
 
 // One instruction within its frame, by its first byte.
+#[tactic(auto, using(crate::proofs::Arms::arm_exits))]
 fn within(
     b: u64,
     s: &[u8],
