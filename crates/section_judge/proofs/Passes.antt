@@ -37,7 +37,7 @@ ready_ranged r e = r.ranged e
 module _ {first n : ℕ} {rows codes : List ℕ} (l : Linkable first n rows codes) {x : ℕ} (p : Pass (links_fault (view rows codes)) first n x) where
   passed : (y : ℕ) → y < x → (b : Bool) → ltb y first ≡ b → links_fault (view rows codes) y ≡ none
   passed y less true q = l.earlier y (ltb-true y first q)
-  passed y less false q = p.met y (ltb-false y first q) less
+  passed y less false q = p.met y less (ltb-false y first q)
 
   upward : super_earlier_and_open (view rows codes) x ≡ true → Upward (view rows codes) x
   upward here = record { each = λ y q most e. go y q most e (eqb y x) refl }

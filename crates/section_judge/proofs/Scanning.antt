@@ -2,11 +2,10 @@
 use Prim.Native.Nat.{ℕ, zero, suc, ◌+◌, ◌-◌, ◌≤◌, ◌<◌, max}
 use native.Mathlib.Nat.{sub-zero}
 use mathlib.Core.Path.{◌≡◌, refl, sym, ap, ◌∙◌}
-use mathlib.Core.Bool.{Bool, true, false}
+use mathlib.Core.Bool.{true, false}
 use mathlib.Core.Option.{Option, none, some}
 use native.Mathlib.Omega.{arith}
-use borrow.Author.Tests.{eqb-true, eqb-false}
-use lib.Dec.{eqb}
+use borrow.Author.Count.{below_more}
 use mathlib.Core.Logic.{◌⊎◌, inl, inr}
 use Rattle.std.proofs.lemmas.Bool.{cases_lt}
 use Rattle.scope.specs.Reading.{given}
@@ -42,10 +41,10 @@ ruled_refused (rejected j y) p q = cc
 
 pub record Pass (fault : ℕ → Option ℕ) (first n x : ℕ) : Type 0 where
   pub same : scan fault first (n - first) ≡ scan fault x (n - x)
-  pub met : (y : ℕ) → first ≤ y → y < x → fault y ≡ none
+  pub met : (y : ℕ) → y < x → first ≤ y → fault y ≡ none
 
 pub pass_first : (fault : ℕ → Option ℕ) (first n : ℕ) → Pass fault first n first
-pass_first fault first n = record { same = refl; met = λ y late less. absurd (omega arith) }
+pass_first fault first n = record { same = refl; met = λ y less late. absurd (omega arith) }
 
 one_type : (fault : ℕ → Option ℕ) (x n : ℕ) {o : Option ℕ} → x < n → fault x ≡ o → scan fault x (n - x) ≡ given o (scan fault (x + 1) (n - (x + 1))) (λ number. rejected number (plain x))
 unfolding scan
@@ -70,11 +69,7 @@ module _ {fault : ℕ → Option ℕ} {first n x : ℕ} (p : Pass fault first n 
     pub pass_turn : r ≡ Fault.TheVariants.Nothing → Pass fault first n (x + 1)
     pass_turn q =
         let here : fault x ≡ none = fault_nothing (fault x) e q in
-        record { same = p.same ∙ one_type fault x n h here; met = λ y late less. one y late less (eqb y x) refl here }
-      where
-        one : (y : ℕ) → first ≤ y → y < x + 1 → (b : Bool) → eqb y x ≡ b → fault x ≡ none → fault y ≡ none
-        one y late less true same here = ap fault (eqb-true y x same) ∙ here
-        one y late less false same here = let other = eqb-false y x same in p.met y late (omega arith)
+        record { same = p.same ∙ one_type fault x n h here; met = below_more _ _ p.met (λ late. here) }
 
 pub ruleset pass_exits = (pass_first, pass_done, pass_fault, pass_turn)
 

@@ -5,8 +5,9 @@ use mathlib.Core.Path.{◌≡◌, refl, sym, ◌∙◌, ap}
 use mathlib.Core.Bool.{Bool, true, false, not}
 use mathlib.Core.Option.{Option, none, some}
 use mathlib.Core.List.{List}
-use borrow.Author.Tests.{eqb-true, eqb-false, lt-ltb, le-ltb, ltb-true, ltb-false}
-use lib.Dec.{eqb, ltb}
+use borrow.Author.Count.{below_more}
+use borrow.Author.Tests.{lt-ltb, le-ltb, ltb-true, ltb-false}
+use lib.Dec.{ltb}
 use lib.ListN.{set}
 use mir.Syntax.{w64}
 use mir.Val.{Fits}
@@ -111,17 +112,11 @@ module _ {n : ℕ} {codes rows₀ rows : List ℕ} {x : ℕ} (s : DepthsSoFar n 
         let t : Set rows rows' x end_word depth = set_is x end_word e (omega arith) (omega arith) (omega arith) in
         record {
           beside = beside_more s.beside (t.beside n inside (omega arith)) n (omega arith) (omega arith);
-          deep = λ y less up steps. one_deep y (eqb y x) refl less t up steps;
-          small = λ y less. one-small y (eqb y x) refl less t low;
+          deep = below_more _ _
+              (λ y less up steps. s.deep y less up steps ∙ ap (λ (k : ℕ). not (ltb steps k)) (sym (t.row y end_word (λ f. omega arith) (omega arith))))
+              (λ up steps. rw t.here (here (super_of (types x)) refl up steps));
+          small = below_more _ _ (λ y less. rw (t.row y end_word (λ f. omega arith) (omega arith)) (s.small y less)) (rw t.here low);
         }
-      where
-        one_deep : (y : ℕ) (b : Bool) → eqb y x ≡ b → y < x + 1 → Set rows rows' x end_word depth → Upward types y → (steps : ℕ) → short_chain steps types y ≡ shallow steps rows' y
-        one_deep y true q less t up steps = let same = eqb-true y x q in rw (same, t.here) (here (super_of (types x)) refl (rw (← same) up) steps)
-        one_deep y false q less t up steps = let other = eqb-false y x q in s.deep y (omega arith) up steps ∙ ap (λ (k : ℕ). not (ltb steps k)) (sym (t.row y end_word other (omega arith)))
-
-        one-small : (y : ℕ) (b : Bool) → eqb y x ≡ b → y < x + 1 → Set rows rows' x end_word depth → depth ≤ x → end_at rows' y ≤ y
-        one-small y true q less t low = let same = eqb-true y x q in rw (same, t.here) low
-        one-small y false q less t low = let other = eqb-false y x q in rw (t.row y end_word other (omega arith)) (s.small y (omega arith))
 
 pub ruleset depths_exits = (depths_first, depths_last, depths_turn)
 

@@ -2,11 +2,9 @@
 use Prim.Native.Nat.{ℕ, suc, ◌+◌, ◌-◌, ◌*◌, ◌%◌, ◌≤◌, ◌<◌}
 use native.Mathlib.Omega.{arith}
 use native.Mathlib.Numerals.{add-one}
-use mathlib.Core.Path.{◌≡◌, refl, ◌∙◌, ap, subst, fun_ext}
-use mathlib.Core.Bool.{Bool, true, false}
+use mathlib.Core.Path.{◌≡◌, ◌∙◌, ap, subst, fun_ext}
 use mathlib.Core.List.{List}
-use borrow.Author.Tests.{eqb-true, eqb-false}
-use lib.Dec.{eqb}
+use borrow.Author.Count.{below_more}
 use lib.ListN.{set}
 use Rattle.scope.specs.Layout.{row_span}
 use Rattle.scope.specs.Syntax.{Types, super_of}
@@ -60,12 +58,8 @@ module _ {n : ℕ} {rows₀ rows : List ℕ} {x : ℕ} (s : EndsSoFar n rows₀ 
       let t : Set rows rows' x end_word 0 = set_is x end_word e (omega arith) (omega arith) (omega arith) in
       record {
         beside = beside_more s.beside (t.beside n inside (omega arith)) n (omega arith) (omega arith);
-        fresh = λ y less. one y (eqb y x) refl less t;
+        fresh = below_more _ _ (λ y less. t.row y end_word (λ f. omega arith) (omega arith) ∙ s.fresh y less) t.here;
       }
-    where
-      one : (y : ℕ) (b : Bool) → eqb y x ≡ b → y < x + 1 → Set rows rows' x end_word 0 → end_at rows' y ≡ 0
-      one y true q less t = rw (eqb-true y x q) t.here
-      one y false q less t = let other = eqb-false y x q in t.row y end_word other (omega arith) ∙ s.fresh y (omega arith)
 
 pub ruleset ends_exits = (ends_first, ends_last, ends_turn)
 

@@ -5,6 +5,7 @@ use mathlib.Core.Path.{◌≡◌, refl, sym, ap, ◌∙◌}
 use mathlib.Core.Bool.{Bool, true, false, not, ◌&&◌}
 use mathlib.Core.Option.{Option}
 use mathlib.Core.List.{List, [], ◌∷◌, ◌++◌}
+use Rattle.std.proofs.Math.Bool.{and-true, and_assoc}
 use borrow.Author.Tests.{not-true, not-false, lt-ltb, le-ltb}
 use Prim.Native.Nat.{◌<◌, ◌≤◌}
 use lib.Dec.{ltb}
@@ -28,14 +29,6 @@ use Rattle.type_reach.specs.Names.{all_below, link_below, code_names, codes_name
 
 -- lists of numbers
 
-and_true : (a : Bool) → a ≡ (a && true)
-and_true true = refl
-and_true false = refl
-
-and_assoc : (a b c : Bool) → ((a && b) && c) ≡ (a && (b && c))
-and_assoc true b c = refl
-and_assoc false b c = refl
-
 and_regroup : (a b c d : Bool) → (((a && b) && c) && d) ≡ (a && ((b && c) && d))
 and_regroup true b c d = refl
 and_regroup false b c d = refl
@@ -46,7 +39,7 @@ below_none reach = refl
 
 pub below_one : (reach x : ℕ) → ltb x reach ≡ all_below reach (x ∷ [])
 unfolding all_below
-below_one reach x = and_true (ltb x reach)
+below_one reach x = sym (and-true (ltb x reach))
 
 pub below-append : (reach : ℕ) (xs ys : List ℕ) → all_below reach (xs ++ ys) ≡ (all_below reach xs && all_below reach ys)
 unfolding all_below
@@ -123,7 +116,7 @@ module _ (reach : ℕ) (l : List ℕ) {u : Supers} (e : l ≡ supers_list u) whe
 
   pub two_supers_in : {p s : ℕ} → u ≡ Supers.TheVariants.Two p s → p < reach → ltb s reach ≡ all_below reach l
   unfolding all_below
-  two_supers_in {p} {s} q h = rw (e, q, lt-ltb p reach h) (and_true (ltb s reach))
+  two_supers_in {p} {s} q h = rw (e, q, lt-ltb p reach h) (sym (and-true (ltb s reach)))
 
   pub two_supers_out : {p s : ℕ} → u ≡ Supers.TheVariants.Two p s → reach ≤ p → false ≡ all_below reach l
   unfolding all_below

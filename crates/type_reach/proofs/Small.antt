@@ -3,8 +3,9 @@
 use Prim.Native.Nat.{ℕ, ◌+◌, ◌-◌, ◌*◌, ◌/◌, ◌%◌, ◌≤◌, ◌<◌}
 use mathlib.Core.Path.{◌≡◌, refl, sym, ◌∙◌}
 use mathlib.Core.Logic.{◌⊎◌, inl, inr}
-use mathlib.Core.Bool.{Bool, true, false, ◌&&◌}
+use mathlib.Core.Bool.{Bool, true, false}
 use native.Mathlib.Omega.{arith}
+use Rattle.std.proofs.Math.Bool.{and-true}
 use lib.Dec.{ltb}
 use borrow.Author.Tests.{ltb-true, ltb-false, eqb-true, eqb-false, lt-ltb, le-ltb}
 use Rattle.scope.specs.TypeRules.{heap_names, val_names}
@@ -42,14 +43,10 @@ heap_limit reach c = go (decided (ltb c 10)) (decided (is_odd c))
     half true g h = let l : (c - 10) / 2 < reach = ltb-true ((c - 10) / 2) reach g in sym (lt-ltb c (10 + 2 * reach) (omega arith))
     half false g h = let l : reach ≤ (c - 10) / 2 = ltb-false ((c - 10) / 2) reach g in sym (le-ltb c (10 + 2 * reach) (omega arith))
 
-    and_true : (a : Bool) → (a && true) ≡ a
-    and_true true = refl
-    and_true false = refl
-
     go : (ltb c 10 ≡ true) ⊎ (ltb c 10 ≡ false) → (is_odd c ≡ true) ⊎ (is_odd c ≡ false) → all_below reach (heap_names (heap_at_code c)) ≡ ltb c (10 + 2 * reach)
     go (inl low) odd = let h : c < 10 = ltb-true c 10 low in rw (heap_abstract h) (sym (lt-ltb c (10 + 2 * reach) (omega arith)))
-    go (inr high) (inl odd) = let h : 10 ≤ c = ltb-false c 10 high in rw (heap_exact h (eqb-true (c % 2) 1 odd)) (and_true (ltb ((c - 10) / 2) reach) ∙ half (ltb ((c - 10) / 2) reach) refl h)
-    go (inr high) (inr even) = let h : 10 ≤ c = ltb-false c 10 high in rw (heap-defined h (eqb-false (c % 2) 1 even)) (and_true (ltb ((c - 10) / 2) reach) ∙ half (ltb ((c - 10) / 2) reach) refl h)
+    go (inr high) (inl odd) = let h : 10 ≤ c = ltb-false c 10 high in rw (heap_exact h (eqb-true (c % 2) 1 odd)) (and-true (ltb ((c - 10) / 2) reach) ∙ half (ltb ((c - 10) / 2) reach) refl h)
+    go (inr high) (inr even) = let h : 10 ≤ c = ltb-false c 10 high in rw (heap-defined h (eqb-false (c % 2) 1 even)) (and-true (ltb ((c - 10) / 2) reach) ∙ half (ltb ((c - 10) / 2) reach) refl h)
 
 pub val_limit : (reach c : ℕ) → all_below reach (val_names (val_at_code c)) ≡ ltb c (24 + 4 * reach)
 unfolding all_below
