@@ -93,7 +93,7 @@ fn fault_of(rows: &[u16], shared: &[u16], codes: &[u16], links: bool, x: u64) ->
     }
 }
 
-// One pass, type by type, over the types from `first` on of n.
+// One pass, type by type, over the types from `first` on of n, if there are any. Where none has a fault the answer is where it ended.
 #[tactic(auto, using(crate::proofs::Scanning::pass_exits, crate::proofs::Passes::ready_exits))]
 fn scan_types(
     rows: &[u16],
