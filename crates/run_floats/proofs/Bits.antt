@@ -1,13 +1,13 @@
 -- Floats and their bits, once over the format: what a value is read as, and what an operation's result is written as.
 use Prim.Native.Nat.{ℕ}
 use mathlib.Core.Path.{◌≡◌, refl, sym, ap, ap₂, ◌∙◌}
-use mathlib.Core.Bool.{Bool, true, not}
+use mathlib.Core.Bool.{true}
 use mathlib.Core.Option.{Option, none, some}
 use Rattle.std.specs.Prelude.{Ok}
 use native.Mathlib.Nat.{mod-eq_of_lt}
 use lib.Dec.{T}
-use lib.Ieee.{Float, nan, inf, fin, Format, binary32, binary64, size, fits, odd, nan_bits, of_fields, of_bits, to_bits, is_nan, div}
-use lib.Ieee.Bits.{nan_bits_is, of_bits-to_bits, to_bits-lt}
+use lib.Ieee.{Float, nan, inf, fin, Format, binary32, binary64, fits, of_bits, to_bits, is_nan}
+use lib.Ieee.Bits.{of_bits-to_bits, to_bits-lt}
 use lib.Ieee.Fits.{add-fits, sub-fits, mul-fits, div-fits}
 use denote.Floats.{passes}
 use Rattle.scope.specs.Reading.{given}
@@ -34,26 +34,12 @@ in_width binary64 x h = mod-eq_of_lt (to_bits-lt binary64 x h)
 pub read_back : (f : Format) (x : Float) → fits f x ≡ true → of_bits f (within (kind_of f) (to_bits f x)) ≡ x
 read_back f x e = ap (of_bits f) (in_width f x (passes (fits f x) e)) ∙ of_bits-to_bits f x (passes (fits f x) e)
 
--- the bits 0 are a number
-pub zero_number : (f : Format) → T (not (nan_bits f 0))
-unfolding nan_bits
-zero_number binary32 = tt
-zero_number binary64 = tt
-
--- zero by zero is no number, and neither are bits above those of infinity
-zero_by_zero : (f : Format) → div f (of_bits f 0) (of_bits f 0) ≡ nan
-unfolding div of_bits of_fields odd size
-zero_by_zero binary32 = refl
-zero_by_zero binary64 = refl
-
-only_nan : (x : Float) → is_nan x ≡ true → nan ≡ x
+-- the one float that is no number
+pub only_nan : (x : Float) → is_nan x ≡ true → nan ≡ x
 unfolding is_nan
 only_nan nan e = refl
 only_nan (inf s) e = impossible cc
 only_nan (fin s m g) e = impossible cc
-
-pub no_number : (f : Format) (b : ℕ) {r : Bool} → r ≡ nan_bits f b → r ≡ true → of_bits f b ≡ div f (of_bits f 0) (of_bits f 0)
-no_number f b e z = sym (zero_by_zero f ∙ only_nan (of_bits f b) (sym (nan_bits_is f b) ∙ sym e ∙ z))
 
 -- an operation, on what two patterns are read as
 deed_is : (f : Format) (deed : FloatDeed) (a b : ℕ) → to_bits f (operated f deed (of_bits f a) (of_bits f b)) ≡ deed_bits deed (width_of f) a b

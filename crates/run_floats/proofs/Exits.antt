@@ -1,7 +1,7 @@
 -- Each way out of an instruction, over the format.
-use Rattle.std.proofs.Common.{◌≡◌, ℕ, ◌+◌, ◌-◌, ◌^◌, ◌<◌, Bool, true, false, cond, refl, ap, ◌∙◌, inl, inr, mod-eq_of_lt, arith, le-leb}
+use Rattle.std.proofs.Common.{◌≡◌, ℕ, ◌+◌, ◌-◌, ◌^◌, Bool, true, false, cond, refl, ap, ◌∙◌, inl, inr, arith, le-leb}
 use mathlib.Core.Option.{none, some}
-use lib.Ieee.{Float, Format, binary32, binary64, fits, nan_bits, of_bits, to_bits, ne, div}
+use lib.Ieee.{Float, Format, binary32, binary64, fits, to_bits, is_nan}
 use borrow.Author.Tests.{lt-leb}
 use Rattle.std.specs.Prelude.{Some, Ok, Err, IsErr, IsErrAnd}
 use Rattle.scope.specs.Syntax.{Number, i32, i64, f32, f64}
@@ -19,7 +19,6 @@ use Rattle.run_value.specs.declared.Value
 use Rattle.run_value.specs.declared.Value.{Value as Carrier}
 use Rattle.run_value.specs.Carried.{decoded}
 use Rattle.run_value.proofs.Laws.{within-twice}
-use Rattle.run_value.proofs.Exits.{nan_bits_32, nan_bits_64}
 use Rattle.run_calculated.specs.declared.Calculated
 use Rattle.run_calculated.specs.declared.Uncalculated.{Uncalculated}
 use Rattle.run_calculated.specs.Calculations.{Calculation, OneIs, TwoIs, bits_as}
@@ -28,7 +27,7 @@ use Rattle.run_calculated.proofs.Exits.{one_is, first_wrong, second_wrong}
 use Rattle.run_floats.specs.declared.FloatDeed.{FloatDeed}
 use Rattle.run_floats.specs.FloatDeeds.{operated, deed_bits, kind_of}
 use Rattle.run_floats.specs.Reals.{RealIs, RealTaken, CarriedIs}
-use Rattle.run_floats.proofs.Bits.{zero_number, read_back, no_number, none_of, bits_of, reckoned}
+use Rattle.run_floats.proofs.Bits.{read_back, only_nan, none_of, bits_of, reckoned}
 
 -- an operand, read
 
@@ -36,20 +35,20 @@ own : (f : Format) (n : ℕ) → bits_as (kind_of f) (number (kind_of f) n) ≡ 
 own binary32 n = refl
 own binary64 n = refl
 
-module _ (f : Format) {v : Carrier} where
-  pub real_is : {x : Float} → decoded v ≡ number (kind_of f) (within (kind_of f) (to_bits f x)) → fits f x ≡ true → RealIs f (λ y. y) v (Some x)
-  real_is {x} e h = record { is = rw (e, own f (within (kind_of f) (to_bits f x))) (ap some (read_back f x h)) }
+pub real_is : (f : Format) {v : Carrier} {x : Float} → decoded v ≡ number (kind_of f) (within (kind_of f) (to_bits f x)) → fits f x ≡ true → RealIs f (λ y. y) v (Some x)
+real_is f {v} {x} e h = record { is = rw (e, own f (within (kind_of f) (to_bits f x))) (ap some (read_back f x h)) }
 
-  pub real_nan : {b : ℕ} {r : Bool} → decoded v ≡ number (kind_of f) (within (kind_of f) b) → b < 2 ^ width (kind_of f) → r ≡ nan_bits f b → r ≡ true → RealIs f (λ y. y) v (Some (div f (of_bits f 0) (of_bits f 0)))
-  real_nan {b} e h n t = record { is = rw (e, mod-eq_of_lt h, own f b) (ap some (no_number f b n t)) }
+-- a result that is no number
 
-pub nan_carried_32 : (x : Float) → ne x x ≡ true → CarriedIs binary32 (to_bits binary32 x) (Value.TheVariants.Nan32 0x7fc0_0000)
-nan_carried_32 x e = record { is = ap (λ (n : ℕ). number (kind_of binary32) (within (kind_of binary32) n)) (nan_bits_32 x e) }
+pub nan_carried_32 : (x : Float) → is_nan x ≡ true → CarriedIs binary32 (to_bits binary32 x) (Value.TheVariants.Nan32 0x7fc0_0000)
+unfolding to_bits
+nan_carried_32 x e = record { is = ap (λ y. number (kind_of binary32) (within (kind_of binary32) (to_bits binary32 y))) (only_nan x e) }
 
-pub nan_carried_64 : (x : Float) → ne x x ≡ true → CarriedIs binary64 (to_bits binary64 x) (Value.TheVariants.Nan64 0x7ff8_0000_0000_0000)
-nan_carried_64 x e = record { is = ap (λ (n : ℕ). number (kind_of binary64) (within (kind_of binary64) n)) (nan_bits_64 x e) }
+pub nan_carried_64 : (x : Float) → is_nan x ≡ true → CarriedIs binary64 (to_bits binary64 x) (Value.TheVariants.Nan64 0x7ff8_0000_0000_0000)
+unfolding to_bits
+nan_carried_64 x e = record { is = ap (λ y. number (kind_of binary64) (within (kind_of binary64) (to_bits binary64 y))) (only_nan x e) }
 
-pub ruleset reads = (zero_number, real_is, real_nan, nan_carried_32, nan_carried_64)
+pub ruleset reads = (real_is, nan_carried_32, nan_carried_64)
 
 -- an operand of another kind
 

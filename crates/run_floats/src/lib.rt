@@ -18,6 +18,9 @@ ghost use Rattle.run_floats.specs.Reals.{RealIs, CarriedIs, RealTaken};
 use run_calculated::{Calculated, Calculation, Uncalculated};
 use run_integers::Word;
 use run_value::Value;
+use std::num::{
+    f32_from_bits_with_nan, f32_to_bits_with_nan, f64_from_bits_with_nan, f64_to_bits_with_nan,
+};
 use std::ops::{Add, Div, Mul, Sub};
 
 // What the instructions ask of f32 and of f64.
@@ -87,20 +90,14 @@ impl Real for f32 {
     fn of(v: Value) -> Option<f32> {
         match v {
             Value::F32(x) => Some(x),
-            Value::Nan32(bits) => {
-                if run_value::is_nan_32(bits) {
-                    let zero = f32::from_bits(0);
-                    return Some(zero / zero);
-                }
-                Some(f32::from_bits(bits))
-            }
+            Value::Nan32(bits) => Some(f32_from_bits_with_nan(bits)),
             _ => None,
         }
     }
 
     #[tactic(auto, using(crate::proofs::Exits::reads))]
     fn value(self) -> Value {
-        if self != self {
+        if self.is_nan() {
             return Value::Nan32(run_value::NAN_32);
         }
         Value::F32(self)
@@ -108,7 +105,7 @@ impl Real for f32 {
 
     fn bits_of(v: Value) -> Option<u32> {
         match v {
-            Value::F32(x) => Some(run_value::single_bits(x)),
+            Value::F32(x) => Some(f32_to_bits_with_nan(x)),
             Value::Nan32(bits) => Some(bits),
             _ => None,
         }
@@ -152,20 +149,14 @@ impl Real for f64 {
     fn of(v: Value) -> Option<f64> {
         match v {
             Value::F64(x) => Some(x),
-            Value::Nan64(bits) => {
-                if run_value::is_nan_64(bits) {
-                    let zero = f64::from_bits(0);
-                    return Some(zero / zero);
-                }
-                Some(f64::from_bits(bits))
-            }
+            Value::Nan64(bits) => Some(f64_from_bits_with_nan(bits)),
             _ => None,
         }
     }
 
     #[tactic(auto, using(crate::proofs::Exits::reads))]
     fn value(self) -> Value {
-        if self != self {
+        if self.is_nan() {
             return Value::Nan64(run_value::NAN_64);
         }
         Value::F64(self)
@@ -173,7 +164,7 @@ impl Real for f64 {
 
     fn bits_of(v: Value) -> Option<u64> {
         match v {
-            Value::F64(x) => Some(run_value::double_bits(x)),
+            Value::F64(x) => Some(f64_to_bits_with_nan(x)),
             Value::Nan64(bits) => Some(bits),
             _ => None,
         }

@@ -5,7 +5,7 @@ use mathlib.Core.List.{[], ◌∷◌}
 use native.Mathlib.Omega.{arith}
 use lib.Ieee.{binary32, binary64, to_bits}
 use Rattle.scope.specs.Syntax.{Number, i32, i64, f32, f64}
-use Rattle.scope.specs.Machine.{Value, number}
+use Rattle.scope.specs.Machine.{number}
 use Rattle.scope.specs.Memory.{value_words}
 use Rattle.run_values.specs.Layout.{no_value}
 use Rattle.run_values.specs.Values.{within, value_at, Canon}

@@ -3,11 +3,12 @@
 #![tactic(auto)]
 
 ghost use Rattle.std.specs.Prelude.{◌≡◌};
-ghost use Rattle.std.specs.Float.{binary32, binary64};
-ghost use Rattle.std.specs.Float.Ieee.{nan_bits, to_bits};
 ghost use Rattle.run_value.specs.Carried.{value_kind, value_bits, with_value, SingleIs, DoubleIs, ValueIs};
 
 use run_values::layout;
+use std::num::{
+    f32_from_bits_with_nan, f32_to_bits_with_nan, f64_from_bits_with_nan, f64_to_bits_with_nan,
+};
 
 // An integer; a float; a float that is no number, by its bits; null; an object, by its number.
 #[derive(Clone, Copy)]
@@ -27,67 +28,29 @@ pub const NAN_32: u32 = 0x7fc0_0000;
 
 pub const NAN_64: u64 = 0x7ff8_0000_0000_0000;
 
-// The bits of infinity, and the sign's bit.
-const INFINITE_32: u32 = 0x7f80_0000;
-
-const INFINITE_64: u64 = 0x7ff0_0000_0000_0000;
-
-pub const SIGN_32: u32 = 0x8000_0000;
-
-pub const SIGN_64: u64 = 0x8000_0000_0000_0000;
-
-// Whether bits are those of no number: without the sign they are above those of infinity.
-pub fn is_nan_32(bits: u32) -> bool
-    ensures { result ≡ nan_bits binary32 bits }
-{
-    INFINITE_32 < bits % SIGN_32
-}
-
-pub fn is_nan_64(bits: u64) -> bool
-    ensures { result ≡ nan_bits binary64 bits }
-{
-    INFINITE_64 < bits % SIGN_64
-}
-
 // The float with these bits.
 pub fn single(bits: u32) -> Value
     ensures { SingleIs bits result }
 {
-    if is_nan_32(bits) {
+    let x = f32_from_bits_with_nan(bits);
+    if x.is_nan() {
         return Value::Nan32(bits);
     }
-    Value::F32(f32::from_bits(bits))
+    Value::F32(x)
 }
 
 pub fn double(bits: u64) -> Value
     ensures { DoubleIs bits result }
 {
-    if is_nan_64(bits) {
+    let x = f64_from_bits_with_nan(bits);
+    if x.is_nan() {
         return Value::Nan64(bits);
     }
-    Value::F64(f64::from_bits(bits))
-}
-
-// The bits of a float; of one that is no number the canonical ones.
-pub fn single_bits(x: f32) -> u32
-    ensures { result ≡ to_bits binary32 x }
-{
-    if x != x {
-        return NAN_32;
-    }
-    f32::to_bits(x)
-}
-
-pub fn double_bits(x: f64) -> u64
-    ensures { result ≡ to_bits binary64 x }
-{
-    if x != x {
-        return NAN_64;
-    }
-    f64::to_bits(x)
+    Value::F64(x)
 }
 
 // The value of a kind with these bits; what lies above the 32 bits of a number is not looked at.
+#[tactic(auto, using(crate::proofs::Exits::value_exits))]
 pub fn value_of(kind: u64, bits: u64) -> Value
     ensures { ValueIs kind bits result }
 {
@@ -110,6 +73,7 @@ pub fn value_of(kind: u64, bits: u64) -> Value
 }
 
 // The word of a value's kind.
+#[tactic(auto, unfolding(crate::specs::Carried::value_kind))]
 pub fn kind_word(v: Value) -> u64
     ensures { result ≡ value_kind v }
 {
@@ -126,17 +90,15 @@ pub fn kind_word(v: Value) -> u64
 }
 
 // The word of its bits.
+#[tactic(auto, unfolding(crate::specs::Carried::value_bits))]
 pub fn bits_word(v: Value) -> u64
     ensures { result ≡ value_bits v }
 {
     match v {
         Value::I32(n) => n as u64,
         Value::I64(n) => n,
-        Value::F32(x) => {
-            let bits = single_bits(x);
-            bits as u64
-        }
-        Value::F64(x) => double_bits(x),
+        Value::F32(x) => f32_to_bits_with_nan(x) as u64,
+        Value::F64(x) => f64_to_bits_with_nan(x),
         Value::Nan32(n) => n as u64,
         Value::Nan64(n) => n,
         Value::Null => 0,

@@ -1,16 +1,7 @@
 -- `run_value::single` meets its contract.
-use borrow.Author.Rules.{rules}
+use Rattle.std.proofs.Common.{rules}
 use Rattle.run_value.proofs.Exits.{float_exits}
 use Rattle.run_value.proofs.single.Goals as goal
-
-pub is_nan_32-requires : goal.is_nan_32-requires
-is_nan_32-requires c = search (float_exits, rules)
-
-pub returns-then-is_nan_32 : goal.returns-then-is_nan_32
-returns-then-is_nan_32 c = search (float_exits, rules)
-
-pub float_from_bits-result : goal.float_from_bits-result
-float_from_bits-result c = search (float_exits, rules)
 
 pub returns : goal.returns
 returns c = search (float_exits, rules)
