@@ -1,4 +1,5 @@
--- A run of told instructions, then one turn: what is still to be judged, with those before it counted, is what was to be judged.
+-- Lap after lap, what is still to be judged, with what was judged before it counted, is what was to be judged. After as many laps as
+-- there are bytes nothing is left to read.
 use Prim.Native.Nat.{ℕ, ◌-◌, ◌≤◌}
 use mathlib.Core.Path.{◌≡◌, refl, sym, ap, ◌∙◌}
 use mathlib.Core.List.{List}
