@@ -1,6 +1,6 @@
 // One line for each case: its name; `yes` with the count of instructions, or `no` with the refusal's number and place; and
 // `zero` or `not zero`, for what lent memory holds afterwards. Every element of it holds rubbish before the call.
-use cases_text::{Library, Section, read_lent, tell_refusal, zero};
+use cases_text::{Library, Section, tell_refusal, zero};
 use scope::Verdict;
 use scope::sizes::{CODES, ROWS, WORK};
 use std::alloc::{AllocError, Global};
@@ -13,10 +13,10 @@ const WORK_RUBBISH: u32 = 2779096485;
 // How many elements of each buffer are lent.
 #[derive(Clone, Copy)]
 pub struct Lent {
-    rows: usize,
-    shared: usize,
-    codes: usize,
-    work: usize,
+    pub rows: usize,
+    pub shared: usize,
+    pub codes: usize,
+    pub work: usize,
 }
 
 impl Lent {
@@ -26,18 +26,6 @@ impl Lent {
         codes: CODES,
         work: WORK,
     };
-
-    // What stands behind the `=` of a line.
-    pub fn set(&mut self, text: &[u8]) {
-        let (buffer, count) = read_lent(text);
-        let count = count as usize;
-        match buffer {
-            Some(b'r') => self.rows = count,
-            Some(b'h') => self.shared = count,
-            Some(b'c') => self.codes = count,
-            _ => self.work = count,
-        }
-    }
 
     // Whether so much can be lent: at most one element more than a buffer's size.
     fn fits(self) -> bool {

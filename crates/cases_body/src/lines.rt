@@ -6,48 +6,30 @@
 //       for `work`
 // and anything else a case: its name, and the bytes of its body.
 use crate::judging::{Lent, judged};
-use cases_text::{LENT, LIBRARY, Library, SECTION, SPACE, Section, bytes, cut, each_line};
+use cases_text::bodies::BodyCases;
+use cases_text::{Library, SPACE, Section, bytes, cut};
 use std::io;
 
-// What the lines so far have fixed.
-#[derive(Drop)]
-struct Setting {
-    library: Library,
-    section: Section,
-    lent: Lent,
-}
-
-// A case: its body is judged against the sections of the lines before it.
-fn case(rt: &(impl Print + AllocGlobal), setting: &Setting, line: &[u8]) -> io::Result<()> {
-    let (name, body) = cut(line, SPACE);
-    let body = bytes(rt.alloc(), body)?;
-    judged(
-        rt,
-        name,
-        &setting.library,
-        &setting.section,
-        body.as_slice(),
-        setting.lent,
-    )
-}
-
-// One line without its remark.
-fn read(rt: &(impl Print + AllocGlobal), setting: &mut Setting, line: &[u8]) -> io::Result<()> {
-    match line {
-        [LIBRARY, text @ ..] => setting.library = Library::read(rt.alloc(), text)?,
-        [SECTION, text @ ..] => setting.section = Section::read(rt.alloc(), text)?,
-        [LENT, text @ ..] => setting.lent.set(text),
-        _ => case(rt, setting, line)?,
+impl BodyCases for Lent {
+    fn lend(&mut self, buffer: Option<u8>, count: usize) {
+        match buffer {
+            Some(b'r') => self.rows = count,
+            Some(b'h') => self.shared = count,
+            Some(b'c') => self.codes = count,
+            _ => self.work = count,
+        }
     }
-    Ok(())
-}
 
-// Every line of a text.
-pub fn all(rt: &(impl Print + AllocGlobal), text: &[u8]) -> io::Result<()> {
-    let mut setting = Setting {
-        library: Library::none(rt.alloc())?,
-        section: Section::empty(rt.alloc()),
-        lent: Lent::SIZES,
-    };
-    each_line(text, |line| read(rt, &mut setting, line))
+    // A name, and the bytes of a body that is judged.
+    fn case<R: Print + AllocGlobal>(
+        &self,
+        rt: &R,
+        library: &Library,
+        section: &Section,
+        line: &[u8],
+    ) -> io::Result<()> {
+        let (name, body) = cut(line, SPACE);
+        let body = bytes(rt.alloc(), body)?;
+        judged(rt, name, library, section, body.as_slice(), *self)
+    }
 }

@@ -5,12 +5,15 @@
 mod judging;
 mod lines;
 
+use cases_text::bodies::read_bodies;
+use cases_text::read_text;
+use judging::Lent;
 use std::io;
 
 // the most that is read
 const MOST_TEXT: u64 = 131072;
 
 fn main(rt: HostRuntime) -> io::Result<()> {
-    let text = cases_text::read_text(&rt, MOST_TEXT)?;
-    lines::all(&rt, text.as_slice())
+    let text = read_text(&rt, MOST_TEXT)?;
+    read_bodies(&rt, text.as_slice(), Lent::SIZES)
 }

@@ -1,6 +1,6 @@
 // The memory that is lent to a run. Every element of it holds rubbish before.
 use cases_state::State;
-use cases_text::{read_lent, zero};
+use cases_text::zero;
 use scope::sizes;
 use std::alloc::{AllocError, Global};
 
@@ -13,17 +13,17 @@ const RUBBISH_64: u64 = 11936128518282651045;
 // How many elements of each buffer are lent, at most one more than its size.
 #[derive(Drop)]
 pub struct Lent {
-    rows: usize,
-    shared: usize,
-    codes: usize,
-    work: usize,
-    ends: usize,
-    counts: usize,
-    objects: usize,
-    cells: usize,
-    locals: usize,
-    operands: usize,
-    blocks: usize,
+    pub rows: usize,
+    pub shared: usize,
+    pub codes: usize,
+    pub work: usize,
+    pub ends: usize,
+    pub counts: usize,
+    pub objects: usize,
+    pub cells: usize,
+    pub locals: usize,
+    pub operands: usize,
+    pub blocks: usize,
 }
 
 impl Lent {
@@ -40,25 +40,6 @@ impl Lent {
         operands: sizes::OPERANDS,
         blocks: sizes::BLOCKS,
     };
-
-    // What stands behind the `=` of a line.
-    pub fn set(&mut self, text: &[u8]) {
-        let (buffer, count) = read_lent(text);
-        let count = count as usize;
-        match buffer {
-            Some(b'r') => self.rows = count.min(sizes::ROWS + 1),
-            Some(b'h') => self.shared = count.min(sizes::CODES + 1),
-            Some(b'c') => self.codes = count.min(sizes::CODES + 1),
-            Some(b'w') => self.work = count.min(sizes::WORK + 1),
-            Some(b'e') => self.ends = count.min(sizes::ENDS + 1),
-            Some(b'n') => self.counts = count.min(sizes::COUNTS + 1),
-            Some(b'o') => self.objects = count.min(sizes::OBJECTS + 1),
-            Some(b'f') => self.cells = count.min(sizes::CELLS + 1),
-            Some(b'l') => self.locals = count.min(sizes::LOCALS + 1),
-            Some(b's') => self.operands = count.min(sizes::OPERANDS + 1),
-            _ => self.blocks = count.min(sizes::BLOCKS + 1),
-        }
-    }
 
     pub fn scratch(&self, alloc: Global) -> Result<Scratch, AllocError> {
         let rows = vec![in alloc; RUBBISH_16; self.rows]?;

@@ -7,55 +7,42 @@
 // and anything else a case: its name, its budget, and the bytes of its body.
 use crate::lending::Lent;
 use crate::trying::tried;
-use cases_text::{
-    LENT, LIBRARY, Library, SECTION, SPACE, Section, bytes, cut, decimal, each_line, split_once,
-};
+use cases_text::bodies::BodyCases;
+use cases_text::{Library, SPACE, Section, bytes, cut, decimal, split_once};
+use scope::sizes;
 use std::io;
 
-// What the lines so far have fixed.
-#[derive(Drop)]
-struct Setting {
-    library: Library,
-    section: Section,
-    lent: Lent,
-}
-
-// A case: its body is run with the sections of the lines before it.
-fn case(rt: &(impl Print + AllocGlobal), setting: &Setting, line: &[u8]) -> io::Result<()> {
-    let Some((name, words)) = split_once(line, SPACE) else {
-        return Ok(());
-    };
-    let (budget, body) = cut(words, SPACE);
-    let budget = decimal(budget);
-    let body = bytes(rt.alloc(), body)?;
-    tried(
-        rt,
-        name,
-        &setting.library,
-        &setting.section,
-        body.as_slice(),
-        budget,
-        &setting.lent,
-    )
-}
-
-// One line without its remark.
-fn read(rt: &(impl Print + AllocGlobal), setting: &mut Setting, line: &[u8]) -> io::Result<()> {
-    match line {
-        [LIBRARY, text @ ..] => setting.library = Library::read(rt.alloc(), text)?,
-        [SECTION, text @ ..] => setting.section = Section::read(rt.alloc(), text)?,
-        [LENT, text @ ..] => setting.lent.set(text),
-        _ => case(rt, setting, line)?,
+impl BodyCases for Lent {
+    fn lend(&mut self, buffer: Option<u8>, count: usize) {
+        match buffer {
+            Some(b'r') => self.rows = count.min(sizes::ROWS + 1),
+            Some(b'h') => self.shared = count.min(sizes::CODES + 1),
+            Some(b'c') => self.codes = count.min(sizes::CODES + 1),
+            Some(b'w') => self.work = count.min(sizes::WORK + 1),
+            Some(b'e') => self.ends = count.min(sizes::ENDS + 1),
+            Some(b'n') => self.counts = count.min(sizes::COUNTS + 1),
+            Some(b'o') => self.objects = count.min(sizes::OBJECTS + 1),
+            Some(b'f') => self.cells = count.min(sizes::CELLS + 1),
+            Some(b'l') => self.locals = count.min(sizes::LOCALS + 1),
+            Some(b's') => self.operands = count.min(sizes::OPERANDS + 1),
+            _ => self.blocks = count.min(sizes::BLOCKS + 1),
+        }
     }
-    Ok(())
-}
 
-// Every line of a text.
-pub fn all(rt: &(impl Print + AllocGlobal), text: &[u8]) -> io::Result<()> {
-    let mut setting = Setting {
-        library: Library::none(rt.alloc())?,
-        section: Section::empty(rt.alloc()),
-        lent: Lent::SIZES,
-    };
-    each_line(text, |line| read(rt, &mut setting, line))
+    // A name, a budget, and the bytes of a body that is run.
+    fn case<R: Print + AllocGlobal>(
+        &self,
+        rt: &R,
+        library: &Library,
+        section: &Section,
+        line: &[u8],
+    ) -> io::Result<()> {
+        let Some((name, words)) = split_once(line, SPACE) else {
+            return Ok(());
+        };
+        let (budget, body) = cut(words, SPACE);
+        let budget = decimal(budget);
+        let body = bytes(rt.alloc(), body)?;
+        tried(rt, name, library, section, body.as_slice(), budget, self)
+    }
 }

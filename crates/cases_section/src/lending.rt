@@ -24,7 +24,6 @@ impl Lent {
     // What stands behind the `=` of a line.
     pub fn set(&mut self, text: &[u8]) {
         let (buffer, count) = read_lent(text);
-        let count = count as usize;
         match buffer {
             Some(b'r') => self.rows = count,
             Some(b'h') => self.shared = count,

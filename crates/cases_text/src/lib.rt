@@ -1,11 +1,13 @@
-// What the programs with cases in a file share. Bytes that are written as text: words of hexadecimal digits, with a space
-// between two; `512*4100` is 512 times 41 00, and `63*5001++5F00` counts: 50 01 00 5F 00, 50 01 01 5F 00 and so on. Only reading,
-// printing and memory can fail: what does not fit is left out, and a sign that is no digit counts as 0. A sign is any byte, so
-// that the text need not be UTF-8. And the reading of the cases line by line, the lines that set a library, a section and the lent
-// elements, whether lent words are zero, and a refusal as text.
+// What the programs with cases in a file share: cases_section, cases_body and cases_run. Bytes that are written as text: words of
+// hexadecimal digits, with a space between two; `512*4100` is 512 times 41 00, and `63*5001++5F00` counts: 50 01 00 5F 00,
+// 50 01 01 5F 00 and so on. Only reading, printing and memory can fail: what does not fit is left out, and a sign that is no digit
+// counts as 0. A sign is any byte, so that the text need not be UTF-8. And the reading of the cases line by line, what the lines
+// set, whether lent words are zero, and a refusal as text.
 #![tactic(auto)]
 
 ghost use Rattle.std.specs.Prelude.{◌<◌};
+
+pub mod bodies;
 
 use scope::Place;
 use scope::sizes::MOST_BYTES;
@@ -17,9 +19,6 @@ pub const SPACE: u8 = b' ';
 
 // the first sign of a line that sets the library
 pub const LIBRARY: u8 = b'<';
-
-// of one that sets the section
-pub const SECTION: u8 = b':';
 
 // and of one that sets how many elements are lent
 pub const LENT: u8 = b'=';
@@ -184,8 +183,8 @@ impl Section {
 }
 
 // What stands behind the `=` of a line: the sign of a buffer, and how many of its elements are lent.
-pub fn read_lent(text: &[u8]) -> (Option<u8>, u64) {
-    (text.first().copied(), decimal(behind(text)))
+pub fn read_lent(text: &[u8]) -> (Option<u8>, usize) {
+    (text.first().copied(), decimal(behind(text)) as usize)
 }
 
 // A refusal: `no`, its number, its place, and the input that the place is a byte of, where that is told.
