@@ -1,28 +1,17 @@
--- Each way out of a test's result; and the ways out that every calculation has: its operands are of the kind, or they are not.
+-- The ways out that every calculation has: its operands are of the kind, or they are not.
 use Prim.Native.Nat.{ℕ}
 use mathlib.Core.Path.{◌≡◌, refl, ap, ◌∙◌}
-use mathlib.Core.Bool.{Bool, true, false}
+use mathlib.Core.Bool.{Bool}
 use Rattle.std.specs.Prelude.{Ok, Err}
 use mathlib.Core.Option.{none, some}
 use Rattle.scope.specs.Syntax.{Number, i32}
 use Rattle.scope.specs.Arithmetic.{as_bits}
 use Rattle.scope.specs.Machine.{number}
-use Rattle.run_value.specs.declared.Value
 use Rattle.run_value.specs.declared.Value.{Value as Carrier}
 use Rattle.run_value.specs.Carried.{decoded}
 use Rattle.run_calculated.specs.declared.Calculated
 use Rattle.run_calculated.specs.declared.Uncalculated
 use Rattle.run_calculated.specs.Calculations.{one_gives, two_give, bits_as, by_one, by_two, TruthIs, OneIs, TwoIs}
-
--- truth
-
-pub truth-holds : {b : Bool} → b ≡ true → TruthIs b (Value.TheVariants.I32 1)
-truth-holds e = record { is = rw e refl }
-
-pub truth-not : {b : Bool} → b ≡ false → TruthIs b (Value.TheVariants.I32 0)
-truth-not e = record { is = rw e refl }
-
-pub ruleset truth_exits = (truth-holds, truth-not)
 
 -- calculations, over the kinds and the operation
 

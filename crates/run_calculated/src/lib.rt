@@ -26,5 +26,5 @@ pub type Calculation = Result<Calculated, Uncalculated>;
 pub fn truth(holds: bool) -> Value
     ensures { TruthIs holds result }
 {
-    if holds { Value::I32(1) } else { Value::I32(0) }
+    Value::I32(u32::from(holds))
 }

@@ -80,10 +80,8 @@ pub fn kind_word(v: Value) -> u64
     match v {
         Value::I32(_) => layout::I32,
         Value::I64(_) => layout::I64,
-        Value::F32(_) => layout::F32,
-        Value::F64(_) => layout::F64,
-        Value::Nan32(_) => layout::F32,
-        Value::Nan64(_) => layout::F64,
+        Value::F32(_) | Value::Nan32(_) => layout::F32,
+        Value::F64(_) | Value::Nan64(_) => layout::F64,
         Value::Null => layout::NULL,
         Value::Object(_) => layout::OBJECT,
     }
@@ -95,14 +93,11 @@ pub fn bits_word(v: Value) -> u64
     ensures { result ≡ value_bits v }
 {
     match v {
-        Value::I32(n) => n as u64,
-        Value::I64(n) => n,
-        Value::F32(x) => f32_to_bits_with_nan(x) as u64,
+        Value::I32(n) | Value::Nan32(n) => u64::from(n),
+        Value::I64(n) | Value::Nan64(n) | Value::Object(n) => n,
+        Value::F32(x) => u64::from(f32_to_bits_with_nan(x)),
         Value::F64(x) => f64_to_bits_with_nan(x),
-        Value::Nan32(n) => n as u64,
-        Value::Nan64(n) => n,
         Value::Null => 0,
-        Value::Object(o) => o,
     }
 }
 
