@@ -1,104 +1,142 @@
 // One line for each case: its name; `yes` with the count of instructions, or `no` with the refusal's number and place; and
 // `zero` or `not zero`, for what lent memory holds afterwards. Every element of it holds rubbish before the call.
-use cases_text::{Library, Section, tell_refusal, zero};
-use scope::Verdict;
+use cases_text::{tell_number, tell_refusal, zero, zero32};
+use scope::Rejected;
 use scope::sizes::{CODES, ROWS, WORK};
-use std::alloc::{AllocError, Global};
 use std::io;
 
-const RUBBISH: u16 = 42405;
+// the most that can be lent: one element more than a buffer's size
+const MORE_ROWS: usize = ROWS + 1;
 
-const WORK_RUBBISH: u32 = 2779096485;
+const MORE_CODES: usize = CODES + 1;
+
+const MORE_WORK: usize = WORK + 1;
 
 // How many elements of each buffer are lent.
 #[derive(Clone, Copy)]
 pub struct Lent {
-    pub rows: usize,
-    pub shared: usize,
-    pub codes: usize,
-    pub work: usize,
+    pub rows: u64,
+    pub shared: u64,
+    pub codes: u64,
+    pub work: u64,
 }
 
-impl Lent {
-    pub const SIZES: Lent = Lent {
-        rows: ROWS,
-        shared: CODES,
-        codes: CODES,
-        work: WORK,
-    };
-
-    // Whether so much can be lent: at most one element more than a buffer's size.
-    fn fits(self) -> bool {
-        self.rows <= ROWS + 1
-            && self.shared <= CODES + 1
-            && self.codes <= CODES + 1
-            && self.work <= WORK + 1
-    }
-}
-
-#[derive(Drop)]
-struct Memory {
-    rows: Vec<u16>,
-    shared: Vec<u16>,
-    codes: Vec<u16>,
-    work: Vec<u32>,
-}
-
-impl Memory {
-    fn rubbish(alloc: Global, lent: Lent) -> Result<Memory, AllocError> {
-        let rows = vec![in alloc; RUBBISH; lent.rows]?;
-        let shared = vec![in alloc; RUBBISH; lent.shared]?;
-        let codes = vec![in alloc; RUBBISH; lent.codes]?;
-        let work = vec![in alloc; WORK_RUBBISH; lent.work]?;
-        Ok(Memory {
-            rows,
-            shared,
-            codes,
-            work,
-        })
-    }
-
-    fn is_zero(&self) -> bool {
-        zero(self.rows.as_slice())
-            && zero(self.shared.as_slice())
-            && zero(self.codes.as_slice())
-            && zero(self.work.as_slice())
-    }
-}
-
-fn tell_verdict(rt: &impl Print, verdict: Verdict, told: bool) -> io::Result<()> {
+fn tell_verdict(rt: &impl Print, verdict: Result<u64, Rejected>, told: bool) -> io::Result<()> {
     match verdict {
-        Verdict::Accepted(count) => print!(rt; " yes {count}"),
-        Verdict::Refused(number, place) => tell_refusal(rt, number, place, told),
+        Ok(count) => {
+            rt.write_all(b" yes")?;
+            tell_number(rt, count)
+        }
+        Err(Rejected { number, place }) => tell_refusal(rt, number, place, told),
     }
 }
 
-// Judges one body in fresh memory that holds rubbish, and writes the case's line; none where more would have to be lent than
-// can be.
-pub fn judged(
-    rt: &(impl Print + AllocGlobal),
+fn tell_memory(
+    rt: &impl Print,
+    rows: &[u16],
+    shared: &[u16],
+    codes: &[u16],
+    work: &[u32],
+) -> io::Result<()> {
+    let a = zero(rows);
+    let b = zero(shared);
+    let c = zero(codes);
+    let d = zero32(work);
+    if a & b & c & d {
+        return rt.write_all(b" zero\n");
+    }
+    rt.write_all(b" not zero\n")
+}
+
+fn judged_in(
+    rt: &impl Print,
     name: &[u8],
-    library: &Library,
-    section: &Section,
+    library: &[u8],
+    section: &[u8],
     body: &[u8],
+    number: u64,
+    told: bool,
+    rows: &mut [u16],
+    shared: &mut [u16],
+    codes: &mut [u16],
+    work: &mut [u32],
+) -> io::Result<()> {
+    let verdict = body_call::judge_body(library, section, body, number, rows, shared, codes, work);
+    rt.write_all(name)?;
+    tell_verdict(rt, verdict, told)?;
+    tell_memory(rt, rows, shared, codes, work)
+}
+
+// So many elements of each buffer are lent.
+fn judged_within(
+    rt: &impl Print,
+    name: &[u8],
+    library: &[u8],
+    section: &[u8],
+    body: &[u8],
+    number: u64,
+    told: bool,
+    lent: Lent,
+    rows: &mut [u16],
+    shared: &mut [u16],
+    codes: &mut [u16],
+    work: &mut [u32],
+) -> io::Result<()> {
+    let r = lent.rows as usize;
+    let h = lent.shared as usize;
+    let c = lent.codes as usize;
+    let w = lent.work as usize;
+    if r <= rows.len() {
+        if h <= shared.len() {
+            if c <= codes.len() {
+                if w <= work.len() {
+                    return judged_in(
+                        rt,
+                        name,
+                        library,
+                        section,
+                        body,
+                        number,
+                        told,
+                        &mut rows[0..r],
+                        &mut shared[0..h],
+                        &mut codes[0..c],
+                        &mut work[0..w],
+                    );
+                }
+            }
+        }
+    }
+    Ok(())
+}
+
+// Judges one body in fresh memory that holds rubbish, and writes the case's line.
+pub fn judged(
+    rt: &impl Print,
+    name: &[u8],
+    library: &[u8],
+    section: &[u8],
+    body: &[u8],
+    number: u64,
+    told: bool,
     lent: Lent,
 ) -> io::Result<()> {
-    if !lent.fits() {
-        return Ok(());
-    }
-    let mut memory = Memory::rubbish(rt.alloc(), lent)?;
-    let verdict = body_call::judge_body(
-        library.bytes.as_slice(),
-        section.bytes.as_slice(),
+    let mut rows = [42405u16; MORE_ROWS];
+    let mut shared = [42405u16; MORE_CODES];
+    let mut codes = [42405u16; MORE_CODES];
+    let mut work = [2779096485u32; MORE_WORK];
+    judged_within(
+        rt,
+        name,
+        library,
+        section,
         body,
-        section.number,
-        &mut memory.rows,
-        &mut memory.shared,
-        &mut memory.codes,
-        &mut memory.work,
-    );
-    rt.write_all(name)?;
-    tell_verdict(rt, verdict, library.told)?;
-    let left = if memory.is_zero() { "zero" } else { "not zero" };
-    println!(rt; " {left}")
+        number,
+        told,
+        lent,
+        &mut rows,
+        &mut shared,
+        &mut codes,
+        &mut work,
+    )
 }

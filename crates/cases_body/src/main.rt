@@ -5,15 +5,16 @@
 mod judging;
 mod lines;
 
-use cases_text::bodies::read_bodies;
-use cases_text::read_text;
-use judging::Lent;
 use std::io;
 
-// the most that is read
-const MOST_TEXT: u64 = 131072;
+// one byte more than a section or a body may have
+const MORE_BYTES: usize = scope::sizes::MOST_BYTES + 1;
 
 fn main(rt: HostRuntime) -> io::Result<()> {
-    let text = read_text(&rt, MOST_TEXT)?;
-    read_bodies(&rt, text.as_slice(), Lent::SIZES)
+    let mut text = [0u8; 131072];
+    let mut library = [0u8; MORE_BYTES];
+    let mut section = [0u8; MORE_BYTES];
+    let mut body = [0u8; MORE_BYTES];
+    let count = cases_text::read_full(&mut rt.reader(), &mut text)?;
+    lines::all(&rt, &text[..count], &mut library, &mut section, &mut body)
 }

@@ -5,74 +5,175 @@
 //   ?   a question: its name, a type's number, and the bytes of the section that is asked: `?last 1 02 5F 00 ..`
 //   !   its name, and the bytes of a section whose table is told word by word
 // and anything else a case: its name, and the bytes of the section that is judged.
-use crate::asking::{asked, handed};
-use crate::judging::judged;
-use crate::lending::{Lent, lend};
-use cases_text::{LENT, LIBRARY, Library, SPACE, bytes, cut, decimal, each_line, split_once};
+use crate::lending::{Call, Lent, called};
+use cases_text::{
+    LIBRARY, LINE_END, Library, REMARK, SPACE, bytes, decimal, find, part, read_library, sign,
+};
+use scope::sizes::{CODES, ROWS};
 use std::io;
+
+const LENT: u8 = b'=';
 
 const QUESTION: u8 = b'?';
 
 const WORDS: u8 = b'!';
 
+const OF_ROWS: u8 = b'r';
+
+const OF_SHARED: u8 = b'h';
+
 // What the lines so far have fixed.
-#[derive(Drop)]
-struct Setting {
+#[derive(Clone, Copy)]
+pub struct Setting {
     library: Library,
     lent: Lent,
 }
 
-// What stands behind a `?`, answered by both calls.
-fn question(rt: &(impl Print + AllocGlobal), setting: &Setting, text: &[u8]) -> io::Result<()> {
-    let Some((name, words)) = split_once(text, SPACE) else {
-        return Ok(());
-    };
-    let (number, words) = cut(words, SPACE);
-    let number = decimal(number);
-    let section = bytes(rt.alloc(), words)?;
-    let library = &setting.library;
-    let section = section.as_slice();
-    lend(rt.alloc(), setting.lent, |memory| {
-        asked(rt, name, library, section, number, memory)
-    })?;
-    lend(rt.alloc(), setting.lent, |memory| {
-        handed(rt, name, library, section, number, memory)
-    })
+// A line that begins with `<`.
+fn with_library(old: Setting, line: &[u8], out: &mut [u8]) -> Setting {
+    let library = read_library(line, out);
+    let lent = old.lent;
+    Setting { library, lent }
 }
 
-// A case; its table is told word by word or not.
-fn case(
-    rt: &(impl Print + AllocGlobal),
-    setting: &Setting,
-    text: &[u8],
-    words: bool,
+// A line that begins with `=`.
+fn with_lent(old: Setting, line: &[u8]) -> Setting {
+    let count = decimal(part(line, 2, line.len()));
+    let library = old.library;
+    let mut lent = old.lent;
+    match sign(line, 1) {
+        OF_ROWS => lent.rows = count,
+        OF_SHARED => lent.shared = count,
+        _ => lent.codes = count,
+    }
+    Setting { library, lent }
+}
+
+// One call with the library of the lines before it.
+fn ask<'a>(
+    rt: &impl Print,
+    setting: Setting,
+    call: Call,
+    name: &[u8],
+    library: &'a [u8],
+    section: &'a [u8],
 ) -> io::Result<()> {
-    let (name, section) = cut(text, SPACE);
-    let section = bytes(rt.alloc(), section)?;
-    let library = &setting.library;
-    let section = section.as_slice();
-    lend(rt.alloc(), setting.lent, |memory| {
-        judged(rt, name, library, section, words, memory)
-    })
+    let length = setting.library.length;
+    let told = setting.library.told;
+    called(
+        rt,
+        call,
+        name,
+        part(library, 0, length),
+        section,
+        told,
+        setting.lent,
+    )
 }
 
-// One line without its remark.
-fn read(rt: &(impl Print + AllocGlobal), setting: &mut Setting, line: &[u8]) -> io::Result<()> {
-    match line {
-        [LIBRARY, text @ ..] => setting.library = Library::read(rt.alloc(), text)?,
-        [LENT, text @ ..] => setting.lent.set(text),
-        [QUESTION, text @ ..] => question(rt, setting, text)?,
-        [WORDS, text @ ..] => case(rt, setting, text, true)?,
-        _ => case(rt, setting, line, false)?,
+// A line that begins with `?`, answered by both calls.
+fn question(
+    rt: &impl Print,
+    setting: Setting,
+    line: &[u8],
+    library: &[u8],
+    section: &mut [u8],
+) -> io::Result<()> {
+    let to = find(line, 1, SPACE);
+    if line.len() <= to {
+        return Ok(());
+    }
+    let after = find(line, to + 1, SPACE);
+    let name = part(line, 1, to);
+    let number = decimal(part(line, to + 1, after));
+    let end = bytes(section, line, after);
+    ask(
+        rt,
+        setting,
+        Call::Ask(number),
+        name,
+        library,
+        part(section, 0, end),
+    )?;
+    ask(
+        rt,
+        setting,
+        Call::Hand(number),
+        name,
+        library,
+        part(section, 0, end),
+    )
+}
+
+// Any other line with a sign in it; a `!` stands before the name.
+fn case(
+    rt: &impl Print,
+    setting: Setting,
+    line: &[u8],
+    library: &[u8],
+    section: &mut [u8],
+) -> io::Result<()> {
+    let words = sign(line, 0) == WORDS;
+    let from = words as usize;
+    let to = find(line, from, SPACE);
+    let end = bytes(section, line, to);
+    ask(
+        rt,
+        setting,
+        Call::Judge(words),
+        part(line, from, to),
+        library,
+        part(section, 0, end),
+    )
+}
+
+// One line, up to its remark.
+fn read(
+    rt: &impl Print,
+    setting: Setting,
+    whole: &[u8],
+    library: &mut [u8],
+    section: &mut [u8],
+) -> io::Result<Setting> {
+    let end = find(whole, 0, REMARK);
+    let line = part(whole, 0, end);
+    match sign(line, 0) {
+        LINE_END => Ok(setting),
+        LIBRARY => Ok(with_library(setting, line, library)),
+        LENT => Ok(with_lent(setting, line)),
+        QUESTION => {
+            question(rt, setting, line, library, section)?;
+            Ok(setting)
+        }
+        _ => {
+            case(rt, setting, line, library, section)?;
+            Ok(setting)
+        }
+    }
+}
+
+// Every line of a text. Both buffers have room for one byte more than a section may have, and begin with 00.
+pub fn all(rt: &impl Print, text: &[u8], library: &mut [u8], section: &mut [u8]) -> io::Result<()> {
+    let mut setting = Setting {
+        library: Library {
+            length: 1,
+            told: false,
+        },
+        lent: Lent {
+            rows: ROWS as u64,
+            shared: CODES as u64,
+            codes: CODES as u64,
+        },
+    };
+    let mut from: usize = 0;
+    while from < text.len() {
+        let to = find(text, from, LINE_END);
+        let line = part(text, from, to);
+        setting = read(rt, setting, line, library, section)?;
+        if text.len() <= to {
+            return Ok(());
+        }
+        from = to + 1;
     }
     Ok(())
-}
-
-// Every line of a text.
-pub fn all(rt: &(impl Print + AllocGlobal), text: &[u8]) -> io::Result<()> {
-    let mut setting = Setting {
-        library: Library::none(rt.alloc())?,
-        lent: Lent::SIZES,
-    };
-    each_line(text, |line| read(rt, &mut setting, line))
 }

@@ -11,10 +11,13 @@ mod telling;
 
 use std::io;
 
-// the most that is read
-const MOST_TEXT: u64 = 65536;
+// one byte more than a section may have
+const MORE_BYTES: usize = scope::sizes::MOST_BYTES + 1;
 
 fn main(rt: HostRuntime) -> io::Result<()> {
-    let text = cases_text::read_text(&rt, MOST_TEXT)?;
-    lines::all(&rt, text.as_slice())
+    let mut text = [0u8; 65536];
+    let mut library = [0u8; MORE_BYTES];
+    let mut section = [0u8; MORE_BYTES];
+    let count = cases_text::read_full(&mut rt.reader(), &mut text)?;
+    lines::all(&rt, &text[..count], &mut library, &mut section)
 }

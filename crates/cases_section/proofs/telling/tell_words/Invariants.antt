@@ -1,0 +1,6 @@
+-- `cases_section::telling::tell_words` is safe and ends: each turn leaves one word fewer.
+use Rattle.std.proofs.Common.{◌-◌, length}
+use Rattle.cases_section.proofs.telling.tell_words.Given as goal
+
+abbrev pub decreases-loop-i : goal.decreases-loop-i
+decreases-loop-i g l = length l.m - l.i

@@ -1,0 +1,6 @@
+-- `cases_section::telling::zero_from` is safe and ends: each turn leaves one word fewer.
+use Rattle.std.proofs.Common.{◌-◌, length}
+use Rattle.cases_section.proofs.telling.zero_from.Given as goal
+
+abbrev pub decreases-loop-i : goal.decreases-loop-i
+decreases-loop-i l = length l.m - l.i
