@@ -7,13 +7,14 @@ use mathlib.Core.List.{List}
 use native.Mathlib.Omega.{arith}
 use lib.Dec.{ltb, lit≤}
 use borrow.Author.Tests.{ltb-true, ltb-false, lt-ltb, le-leb}
+use Rattle.scope.specs.Told.{no_at}
+use Rattle.std.specs.Prelude.{Result, Ok, Err}
+use Rattle.scope.specs.declared.Refused.{Refused}
 use Rattle.scope.specs.Refusals.{bytes_end, bad_number}
 use Rattle.scope.specs.Reading.{got}
 use Rattle.scope.specs.Numbers.{Bits, bits, bits_at, greatest_length, in_range, Whole, plus, minus, signed_of, within_signed, unsigned, signed, u32, s32, s33}
 use Rattle.number_bits.specs.declared.Leb.{Leb}
 use Rattle.number_bits.specs.declared.Leb
-use Rattle.number_values.specs.declared.Natural.{Natural}
-use Rattle.number_values.specs.declared.Natural
 use Rattle.number_values.specs.declared.Integer.{Integer}
 use Rattle.number_values.specs.declared.Integer
 use Rattle.number_bits.specs.Bits.{MostBytes, BitsRead}
@@ -27,18 +28,18 @@ unfolding unsigned natural_of
 natural_is_lem s at e = rw e
 
 module _ {s : List ℕ} {at : ℕ} {r : Leb} (a : BitsRead 5 s at r) where
-  pub natural_byte : {v n : ℕ} → r ≡ Leb.TheVariants.One v n → Natural.TheVariants.Is v n ≡ natural_is (u32 s at)
+  pub natural_byte : {v n : ℕ} → r ≡ Leb.TheVariants.One v n → Ok (v, n) ≡ natural_is (u32 s at)
   unfolding unsigned
   natural_byte {v} {n} e = let low = (a.one v n e).0 in rw ((a.one v n e).1 0, lt-ltb v (2 ^ 32) (omega arith))
 
-  pub natural_got : {v k n : ℕ} {q : Natural} → r ≡ Leb.TheVariants.Bits v k n → q ≡ natural_is (natural_of at v k n) → q ≡ natural_is (u32 s at)
+  pub natural_got : {v k n : ℕ} {q : Result (ℕ × ℕ) Refused} → r ≡ Leb.TheVariants.Bits v k n → q ≡ natural_is (natural_of at v k n) → q ≡ natural_is (u32 s at)
   natural_got {v} {k} {n} e f = f ∙ ap natural_is (sym (natural_is_lem s at ((a.ended v k n e).1 0)))
 
-  pub natural_cut : r ≡ Leb.TheVariants.Cut → Natural.TheVariants.Refused bytes_end at ≡ natural_is (u32 s at)
+  pub natural_cut : r ≡ Leb.TheVariants.Cut → Err (no_at bytes_end at) ≡ natural_is (u32 s at)
   unfolding unsigned
   natural_cut e = rw (a.lacking e 0)
 
-  pub natural_long : {v n : ℕ} → r ≡ Leb.TheVariants.Long v n → Natural.TheVariants.Refused bad_number at ≡ natural_is (u32 s at)
+  pub natural_long : {v n : ℕ} → r ≡ Leb.TheVariants.Long v n → Err (no_at bad_number at) ≡ natural_is (u32 s at)
   unfolding unsigned bits_at
   natural_long {v} {n} e = rw ((a.going v n e).1 0)
 

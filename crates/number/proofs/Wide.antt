@@ -7,11 +7,11 @@ use native.Mathlib.Omega.{arith}
 use lib.ListN.{get_elem?}
 use lib.Dec.{ltb, lit≤}
 use borrow.Author.Tests.{lt-ltb, le-ltb, le-leb, lt-leb, ltb-true, ltb-false}
+use Rattle.scope.specs.Told.{Maybe}
+use Rattle.std.specs.Prelude.{None, Some}
 use Rattle.scope.specs.Refusals.{bytes_end, bad_number}
 use Rattle.scope.specs.Reading.{got}
 use Rattle.scope.specs.Numbers.{Bits, bits, bits_at, unless_padded, in_range, plus, minus, signed_of, within_signed, signed, s64}
-use Rattle.number_bytes.specs.declared.Byte.{Byte}
-use Rattle.number_bytes.specs.declared.Byte
 use Rattle.number_bits.specs.declared.Leb.{Leb}
 use Rattle.number_bits.specs.declared.Leb
 use Rattle.number_values.specs.declared.Integer.{Integer}
@@ -50,15 +50,15 @@ pub ruleset wide_exits = (wide_one, wide_got, wide_cut, wide_low, wide_tenth, on
 
 -- the tenth byte
 
-module _ {s : List ℕ} {next : ℕ} {r : Byte} (a : ByteAt s next r) where
-  ten_bits : (at low : ℕ) {b : ℕ} → r ≡ Byte.TheVariants.Is b → b < 128 → bits_at 10 s at ≡ above low (2 ^ 63) 9 (bits_at 1 s next) → bits_at 10 s at ≡ bits (low + 2 ^ 63 * b) 10 (next + 1)
+module _ {s : List ℕ} {next : ℕ} {r : Maybe ℕ} (a : ByteAt s next r) where
+  ten_bits : (at low : ℕ) {b : ℕ} → r ≡ Some b → b < 128 → bits_at 10 s at ≡ above low (2 ^ 63) 9 (bits_at 1 s next) → bits_at 10 s at ≡ bits (low + 2 ^ 63 * b) 10 (next + 1)
   ten_bits at low {b} e h p = p ∙ ap (above low (2 ^ 63) 9) (bits_last 0 s next (byte_got (get_elem? s next) a.is e) h)
 
-  pub tenth_missing : {at low : ℕ} → r ≡ Byte.TheVariants.Missing → Tenth s at low next (Integer.TheVariants.Refused bytes_end at)
+  pub tenth_missing : {at low : ℕ} → r ≡ None → Tenth s at low next (Integer.TheVariants.Refused bytes_end at)
   unfolding signed
   tenth_missing e = record { is = λ h p. rw (p, bits_cut 0 s next (byte_none (get_elem? s next) a.is e)) }
 
-  pub tenth_plus : {at low b : ℕ} {q : Integer} → r ≡ Byte.TheVariants.Is b → b ≡ 0 → q ≡ integer_is (unless_padded at 10 (next + 1) within_signed (plus low)) → Tenth s at low next q
+  pub tenth_plus : {at low b : ℕ} {q : Integer} → r ≡ Some b → b ≡ 0 → q ≡ integer_is (unless_padded at 10 (next + 1) within_signed (plus low)) → Tenth s at low next q
   unfolding signed
   tenth_plus {at} {low} {b} e z f =
       record {
@@ -67,7 +67,7 @@ module _ {s : List ℕ} {next : ℕ} {r : Byte} (a : ByteAt s next r) where
             rw (ten_bits at low e (omega arith) p, value, lt-ltb low (2 ^ 69) (omega arith), lt-ltb low (2 ^ 63) h) f;
       }
 
-  pub tenth_minus : {at low b : ℕ} {q : Integer} → r ≡ Byte.TheVariants.Is b → b ≡ 127 → q ≡ integer_is (unless_padded at 10 (next + 1) within_signed (minus (2 ^ 63 - low))) → Tenth s at low next q
+  pub tenth_minus : {at low b : ℕ} {q : Integer} → r ≡ Some b → b ≡ 127 → q ≡ integer_is (unless_padded at 10 (next + 1) within_signed (minus (2 ^ 63 - low))) → Tenth s at low next q
   unfolding signed
   tenth_minus {at} {low} {b} e z f =
       record {
@@ -76,7 +76,7 @@ module _ {s : List ℕ} {next : ℕ} {r : Byte} (a : ByteAt s next r) where
             rw (ten_bits at low e (omega arith) p, le-ltb (low + 2 ^ 63 * b) (2 ^ 69) (omega arith), value, le-leb (2 ^ 63 - low) (2 ^ 63) (omega arith)) f;
       }
 
-  pub tenth_beyond : {at low b : ℕ} → r ≡ Byte.TheVariants.Is b → (b ≡ 0 → ⊥) → (b ≡ 127 → ⊥) → Tenth s at low next (Integer.TheVariants.Refused bad_number at)
+  pub tenth_beyond : {at low b : ℕ} → r ≡ Some b → (b ≡ 0 → ⊥) → (b ≡ 127 → ⊥) → Tenth s at low next (Integer.TheVariants.Refused bad_number at)
   unfolding signed bits_at
   tenth_beyond {at} {low} {b} e n m = record { is = λ h p. go (ltb b 128) refl h p }
     where

@@ -8,9 +8,8 @@ ghost use Rattle.number_values.specs.Values.{natural_is, integer_is};
 ghost use Rattle.number.specs.Widths.{SignedRead, Tenth};
 
 use number_bits::Leb;
-use number_bytes::Byte;
-use number_values::{Integer, Natural};
-use scope::refusals;
+use number_values::Integer;
+use scope::{Read, Refused, refusals};
 
 // Half of the numbers of 32 bits, of 33 and of 64: a signed one lies from minus that up to it.
 const S32_HALF: u64 = 2147483648;
@@ -27,15 +26,21 @@ const NINE: u64 = 9;
 
 const TEN: u64 = 10;
 
-pub fn u32_at(s: &[u8], at: usize) -> Natural
+pub fn u32_at(s: &[u8], at: usize) -> Read<u64>
     ensures { result ≡ natural_is (u32 s.now at) }
 {
     let read = number_bits::leb_at(s, at, FIVE);
     match read {
-        Leb::One(value, next) => Natural::Is(value, next),
+        Leb::One(value, next) => Ok((value, next)),
         Leb::Bits(value, count, next) => number_values::natural_of(value, count, next, at),
-        Leb::Cut => Natural::Refused(refusals::BYTES_END, at),
-        Leb::Long(_, _) => Natural::Refused(refusals::BAD_NUMBER, at),
+        Leb::Cut => Err(Refused {
+            number: refusals::BYTES_END,
+            at,
+        }),
+        Leb::Long(_, _) => Err(Refused {
+            number: refusals::BAD_NUMBER,
+            at,
+        }),
     }
 }
 
@@ -71,7 +76,7 @@ fn tenth_at(s: &[u8], at: usize, low: u64, next: usize) -> Integer
     ensures { Tenth s.now at low next result }
 {
     let read = number_bytes::byte_at(s, next);
-    let Byte::Is(b) = read else {
+    let Some(b) = read else {
         return Integer::Refused(refusals::BYTES_END, at);
     };
     if b == 0x00 {

@@ -12,10 +12,10 @@ use lib.Dec.{lit<}
 use borrow.Author.Tests.{lt-ltb, le-ltb}
 use mir.Syntax.{w64}
 use mir.Val.{Fits}
+use Rattle.scope.specs.Told.{Maybe}
+use Rattle.std.specs.Prelude.{None, Some}
 use Rattle.scope.specs.Numbers.{Bits, bits, cut, long, under, bits_at}
 use Rattle.scope.proofs.Impossible.{impossible}
-use Rattle.number_bytes.specs.declared.Byte.{Byte}
-use Rattle.number_bytes.specs.declared.Byte
 use Rattle.number_bits.specs.declared.Leb.{Leb}
 use Rattle.number_bits.specs.declared.Leb
 use Rattle.number_bytes.specs.Bytes.{ByteAt}
@@ -84,7 +84,7 @@ module _ {most : ℕ} (fit : MostBytes most) {s : List ℕ} {at value weight nex
   room more = omega arith
 
   -- a byte that goes on: seven bits more
-  pub part_turn : {r : Byte} {b : ℕ} → ByteAt s next r → r ≡ Byte.TheVariants.Is b → 128 ≤ b → Part most s at (value + weight * (b % 128)) (weight * 128) (next + 1) (count + 1)
+  pub part_turn : {r : Maybe ℕ} {b : ℕ} → ByteAt s next r → r ≡ Some b → 128 ≤ b → Part most s at (value + weight * (b % 128)) (weight * 128) (next + 1) (count + 1)
   part_turn {r} {b} a e h =
       record {
         few = omega arith;
@@ -98,7 +98,7 @@ module _ {most : ℕ} (fit : MostBytes most) {s : List ℕ} {at value weight nex
       }
 
   -- the last byte
-  pub part_last : {r : Byte} {b : ℕ} → ByteAt s next r → r ≡ Byte.TheVariants.Is b → b < 128 → BitsRead most s at (Leb.TheVariants.Bits (value + weight * b) (count + 1) (next + 1))
+  pub part_last : {r : Maybe ℕ} {b : ℕ} → ByteAt s next r → r ≡ Some b → b < 128 → BitsRead most s at (Leb.TheVariants.Bits (value + weight * b) (count + 1) (next + 1))
   part_last {r} {b} a e h =
       record {
         one = λ v n q. impossible cc;
@@ -117,7 +117,7 @@ module _ {most : ℕ} (fit : MostBytes most) {s : List ℕ} {at value weight nex
       }
 
   -- the bytes end
-  pub part_cut : {r : Byte} → ByteAt s next r → r ≡ Byte.TheVariants.Missing → BitsRead most s at Leb.TheVariants.Cut
+  pub part_cut : {r : Maybe ℕ} → ByteAt s next r → r ≡ None → BitsRead most s at Leb.TheVariants.Cut
   part_cut {r} a e =
       record {
         one = λ v n q. impossible cc;

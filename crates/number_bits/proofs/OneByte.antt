@@ -4,9 +4,9 @@ use mathlib.Core.Path.{◌≡◌, ap, ◌∙◌}
 use mathlib.Core.List.{List}
 use native.Mathlib.Omega.{arith}
 use lib.ListN.{get_elem?}
+use Rattle.scope.specs.Told.{Maybe}
+use Rattle.std.specs.Prelude.{None, Some}
 use Rattle.scope.proofs.Impossible.{impossible}
-use Rattle.number_bytes.specs.declared.Byte.{Byte}
-use Rattle.number_bytes.specs.declared.Byte
 use Rattle.number_bits.specs.declared.Leb.{Leb}
 use Rattle.number_bits.specs.declared.Leb
 use Rattle.scope.specs.Numbers.{bits_at}
@@ -15,12 +15,12 @@ use Rattle.number_bytes.proofs.Laws.{byte_got, byte_none, next_fits}
 use Rattle.number_bits.specs.Bits.{MostBytes, GoesOn, BitsRead}
 use Rattle.number_bits.proofs.Bits.{bits_last, bits_cut}
 
-module _ {most : ℕ} (fit : MostBytes most) {s : List ℕ} {at : ℕ} {r : Byte} (a : ByteAt s at r) where
+module _ {most : ℕ} (fit : MostBytes most) {s : List ℕ} {at : ℕ} {r : Maybe ℕ} (a : ByteAt s at r) where
   -- one byte may follow at least
   room : (more : ℕ) → most + more ≡ suc (most + more - 1)
   room more = let h : 1 ≤ most = fit.some in omega arith
 
-  pub one_byte : {b : ℕ} → r ≡ Byte.TheVariants.Is b → b < 128 → BitsRead most s at (Leb.TheVariants.One b (at + 1))
+  pub one_byte : {b : ℕ} → r ≡ Some b → b < 128 → BitsRead most s at (Leb.TheVariants.One b (at + 1))
   one_byte {b} e h =
       record {
         one = λ v n q.
@@ -32,7 +32,7 @@ module _ {most : ℕ} (fit : MostBytes most) {s : List ℕ} {at : ℕ} {r : Byte
         going = λ v n q. impossible cc;
       }
 
-  pub no_byte : r ≡ Byte.TheVariants.Missing → BitsRead most s at Leb.TheVariants.Cut
+  pub no_byte : r ≡ None → BitsRead most s at Leb.TheVariants.Cut
   no_byte e =
       record {
         one = λ v n q. impossible cc;
@@ -41,7 +41,7 @@ module _ {most : ℕ} (fit : MostBytes most) {s : List ℕ} {at : ℕ} {r : Byte
         going = λ v n q. impossible cc;
       }
 
-  pub goes_on_lem : {b : ℕ} → r ≡ Byte.TheVariants.Is b → 128 ≤ b → GoesOn s at b most
+  pub goes_on_lem : {b : ℕ} → r ≡ Some b → 128 ≤ b → GoesOn s at b most
   goes_on_lem {b} e h = record { byte = byte_got (get_elem? s at) a.is e; small = (a.small b e).0; inside = (a.small b e).1; more = h; room = fit }
 
 pub ruleset one_byte_exits = (one_byte, no_byte, goes_on_lem, next_fits)

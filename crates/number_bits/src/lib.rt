@@ -4,7 +4,6 @@
 
 ghost use Rattle.number_bits.specs.Bits.{MostBytes, GoesOn, BitsRead};
 
-use number_bytes::Byte;
 use number_values::TWO_BYTES;
 
 // A number of one byte and the place after it. Or the bits of a number's first bytes: their value, how many bytes they take, the
@@ -29,7 +28,7 @@ fn leb_loop(s: &[u8], at: usize, first: u64, most: u64) -> Leb
     let mut count: u64 = 1;
     while count < most {
         let read = number_bytes::byte_at(s, next);
-        let Byte::Is(b) = read else {
+        let Some(b) = read else {
             return Leb::Cut;
         };
         count = count + 1;
@@ -49,7 +48,7 @@ pub fn leb_at(s: &[u8], at: usize, most: u64) -> Leb
     ensures { BitsRead most s.now at result }
 {
     let read = number_bytes::byte_at(s, at);
-    let Byte::Is(first) = read else {
+    let Some(first) = read else {
         return Leb::Cut;
     };
     if first < TWO_BYTES {

@@ -6,8 +6,7 @@ use mathlib.Core.List.{List, [], ◌∷◌}
 use native.Mathlib.Omega.{arith}
 use native.Mathlib.Nat.{le_of_suc-le-suc, not-suc-le-zero}
 use lib.ListN.{length, get_or, get_elem?}
-use Rattle.number_bytes.specs.declared.Byte.{Byte}
-use Rattle.number_bytes.specs.declared.Byte
+use Rattle.std.specs.Prelude.{None, Some}
 use Rattle.number_bytes.specs.Bytes.{ByteAt}
 use Rattle.scope.proofs.Impossible.{impossible}
 
@@ -25,10 +24,10 @@ element_missing (x ∷ xs) (suc at) h = element_missing xs at (le_of_suc-le-suc 
 
 -- byte_at
 
-pub byte_there : {s : List ℕ} {at : ℕ} → at < length s → get_or s at 0 < 2 ^ 8 → ByteAt s at (Byte.TheVariants.Is (get_or s at 0))
+pub byte_there : {s : List ℕ} {at : ℕ} → at < length s → get_or s at 0 < 2 ^ 8 → ByteAt s at (Some (get_or s at 0))
 byte_there {s} {at} h small = record { is = rw (element_there s at h); small = λ b e. let q : get_or s at 0 ≡ b = cc in (omega arith, h) }
 
-pub byte_missing : {s : List ℕ} {at : ℕ} → length s ≤ at → ByteAt s at Byte.TheVariants.Missing
+pub byte_missing : {s : List ℕ} {at : ℕ} → length s ≤ at → ByteAt s at None
 byte_missing {s} {at} h =
     record { is = rw (element_missing s at h); small = λ b e. impossible cc }
 

@@ -9,12 +9,13 @@ use lib.ListN.{length, get_or, get_elem?}
 use lib.Pow.{pow-add, pow_mono}
 use mir.Syntax.{w8, w64}
 use mir.Val.{Fits}
+use Rattle.scope.specs.Told.{no_at}
+use Rattle.std.specs.Prelude.{Ok, Err}
 use Rattle.scope.specs.Refusals.{bytes_end}
 use Rattle.scope.specs.Reading.{given}
 use Rattle.scope.specs.Numbers.{little_endian, float_bytes}
 use Rattle.scope.proofs.Impossible.{impossible}
-use Rattle.number_values.specs.declared.Natural.{Natural}
-use Rattle.number_values.specs.declared.Natural
+use Rattle.scope.proofs.Told.{value_is}
 use Rattle.number_floats.specs.Floats.{FloatLength, FloatRead}
 use Rattle.number_bytes.proofs.Exits.{element_there, element_missing}
 
@@ -35,7 +36,7 @@ unfolding little_endian
 lacking zero s at l h = absurd (omega arith)
 lacking (suc n) s at l h = lacks n s at (get_elem? s at) refl h (λ m. lacking n s (at + 1) m (omega arith))
 
-pub float_short : {n : ℕ} → FloatLength n → (s : List ℕ) (at : ℕ) {there : ℕ} → there ≡ length s - at → there < n → FloatRead (2 ^ (8 * n)) (float_bytes n s at) (Natural.TheVariants.Refused bytes_end at)
+pub float_short : {n : ℕ} → FloatLength n → (s : List ℕ) (at : ℕ) {there : ℕ} → there ≡ length s - at → there < n → FloatRead (2 ^ (8 * n)) (float_bytes n s at) (Err (no_at bytes_end at))
 unfolding float_bytes
 float_short {n} fit s at e h =
     record { is = rw (lacking n s at fit.some (omega arith)); small = λ v next e. impossible cc }
@@ -81,13 +82,13 @@ module _ {n : ℕ} {s : List ℕ} {at bits i : ℕ} (p : Lower n s at bits i) wh
               ∙ ap some value;
         }
 
-  pub float_all : i ≤ 0 → FloatRead (2 ^ (8 * n)) (float_bytes n s at) (Natural.TheVariants.Is bits (at + n))
+  pub float_all : i ≤ 0 → FloatRead (2 ^ (8 * n)) (float_bytes n s at) (Ok (bits, (at + n)))
   unfolding float_bytes
   float_all h =
       let every : n - i ≡ n = omega arith in
       let start : at + i ≡ at = omega arith in
       let all : little_endian n s at ≡ some bits = ap₂ (λ (k j : ℕ). little_endian k s j) (sym every) (sym start) ∙ p.same in
       let below : bits < 2 ^ (8 * n) = rw every at p.small in
-      record { is = rw all; small = λ v next e. let same : bits ≡ v = cc in rw (← same) below }
+      record { is = rw all; small = λ v next e. let same : bits ≡ v = value_is refl e in rw (← same) below }
 
 pub ruleset float_exits = (float_short, float_first, float_product, float_sum, float_turn, float_all)

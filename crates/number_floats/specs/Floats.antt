@@ -1,9 +1,9 @@
 -- What the readers of floats answer, by scope's definitions.
 use Rattle.std.specs.Prelude.{ℕ, ◌<◌, ◌≤◌, ◌≡◌}
+use Rattle.std.specs.Prelude.{Result, Ok}
+use Rattle.scope.specs.declared.Refused.{Refused}
 use Rattle.scope.specs.Reading.{Read}
 use Rattle.number_values.specs.Values.{natural_is}
-use Rattle.number_values.specs.declared.Natural.{Natural}
-use Rattle.number_values.specs.declared.Natural
 
 -- so many bytes of a float, whose bits fit a word
 pub record FloatLength (n : ℕ) : Type 0 where
@@ -11,6 +11,6 @@ pub record FloatLength (n : ℕ) : Type 0 where
   pub fit : n ≤ 8
 
 -- the bits of a float, as the definition reads them, and that they lie below a limit
-pub record FloatRead (limit : ℕ) (o : Read ℕ) (r : Natural) : Type 0 where
+pub record FloatRead (limit : ℕ) (o : Read ℕ) (r : Result (ℕ × ℕ) Refused) : Type 0 where
   pub is : r ≡ natural_is o
-  pub small : (v next : ℕ) → r ≡ Natural.TheVariants.Is v next → v < limit
+  pub small : (v next : ℕ) → r ≡ Ok (v, next) → v < limit

@@ -6,27 +6,28 @@ use mathlib.Core.List.{List}
 use lib.ListN.{length}
 use lib.Dec.{ltb}
 use borrow.Author.Tests.{ltb-true}
+use Rattle.std.specs.Prelude.{Result, Ok, Err}
+use Rattle.scope.specs.declared.Refused.{Refused}
 use Rattle.scope.specs.Refusals.{bad_number, padded}
 use Rattle.scope.specs.Reading.{Read, got, refused}
 use Rattle.scope.specs.Numbers.{Bits, bits, cut, long, bits_at, greatest_length, in_range, within_unsigned, Whole, plus, minus, unsigned, signed, u32, s33}
 use Rattle.scope.proofs.WholeNumbers.{Within, above_zero, below-zero, signed-within}
 use Rattle.scope.proofs.Forward.{unsigned-takes, signed-takes, never_back}
 use Rattle.scope.proofs.Impossible.{impossible}
-use Rattle.number_values.specs.declared.Natural.{Natural}
-use Rattle.number_values.specs.declared.Natural
+use Rattle.scope.proofs.Told.{read_got, read_refused}
 use Rattle.number_values.specs.declared.Integer.{Integer}
 use Rattle.number_values.specs.declared.Integer
 use Rattle.number_values.specs.Values.{natural_is, integer_is}
 
 -- answers, taken apart
 
-pub natural_got : (o : Read ℕ) {r : Natural} {v next : ℕ} → r ≡ natural_is o → r ≡ Natural.TheVariants.Is v next → o ≡ got v next
-natural_got (got u m) p q = cc
+pub natural_got : (o : Read ℕ) {r : Result (ℕ × ℕ) Refused} {v next : ℕ} → r ≡ natural_is o → r ≡ Ok (v, next) → o ≡ got v next
+natural_got (got u m) p q = read_got p q
 natural_got (refused n m) p q = impossible cc
 
-pub natural_refused : (o : Read ℕ) {r : Natural} {n place : ℕ} → r ≡ natural_is o → r ≡ Natural.TheVariants.Refused n place → o ≡ refused n place
+pub natural_refused : (o : Read ℕ) {r : Result (ℕ × ℕ) Refused} {no : Refused} → r ≡ natural_is o → r ≡ Err no → o ≡ refused no.number no.at
 natural_refused (got u m) p q = impossible cc
-natural_refused (refused m k) p q = cc
+natural_refused (refused m k) p q = read_refused p q
 
 pub integer_plus : (o : Read Whole) {r : Integer} {v next : ℕ} → r ≡ integer_is o → r ≡ Integer.TheVariants.Plus v next → o ≡ got (plus v) next
 integer_plus (got (plus u) m) p q = cc
@@ -85,7 +86,7 @@ pub record Number (s : List ℕ) (at v next : ℕ) : Type 0 where
   pub forward : at < next
   pub inside : next ≤ length s
 
-pub natural_bounds : {s : List ℕ} {at v next : ℕ} {r : Natural} → r ≡ natural_is (u32 s at) → r ≡ Natural.TheVariants.Is v next → Number s at v next
+pub natural_bounds : {s : List ℕ} {at v next : ℕ} {r : Result (ℕ × ℕ) Refused} → r ≡ natural_is (u32 s at) → r ≡ Ok (v, next) → Number s at v next
 natural_bounds {s} {at} p q =
     let e = natural_got (u32 s at) p q in
     let ends = never_back (unsigned-takes 32) s at e in

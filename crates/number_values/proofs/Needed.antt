@@ -8,10 +8,10 @@ use native.Mathlib.Omega.{arith}
 use lib.Dec.{ltb, leb}
 use lib.Pow.{pow-add}
 use borrow.Author.Tests.{lt-ltb, le-ltb, le-leb, lt-leb, ltb-true, ltb-false}
+use Rattle.scope.specs.Told.{no_at}
+use Rattle.std.specs.Prelude.{Ok, Err}
 use Rattle.scope.specs.Refusals.{bad_number, padded}
 use Rattle.scope.specs.Numbers.{unless_padded, within_unsigned, plus, minus, within_signed}
-use Rattle.number_values.specs.declared.Natural.{Natural}
-use Rattle.number_values.specs.declared.Natural
 use Rattle.number_values.specs.declared.Integer.{Integer}
 use Rattle.number_values.specs.declared.Integer
 use Rattle.number_values.specs.Values.{Few, Counts, Below, SignWeight, has_spare, natural_is, natural_of, integer_is}
@@ -67,16 +67,16 @@ minus_spare v k h = ap (λ (b : Bool). ltb 1 k && b) (one_fewer v (2 ^ (7 * (k -
 -- natural_of
 
 module _ (at v k n : ℕ) where
-  pub natural_beyond : 2 ^ 32 ≤ v → Natural.TheVariants.Refused bad_number at ≡ natural_is (natural_of at v k n)
+  pub natural_beyond : 2 ^ 32 ≤ v → Err (no_at bad_number at) ≡ natural_is (natural_of at v k n)
   unfolding natural_of
   natural_beyond h = rw (le-ltb v (2 ^ 32) h)
 
   module _ (h : v < 2 ^ 32) {t : Bool} (e : t ≡ has_spare (v / 2) k) where
-    pub natural_padded : t ≡ true → Natural.TheVariants.Refused padded at ≡ natural_is (natural_of at v k n)
+    pub natural_padded : t ≡ true → Err (no_at padded at) ≡ natural_is (natural_of at v k n)
     unfolding natural_of
     natural_padded q = rw (lt-ltb v (2 ^ 32) h, ← natural_spare v k, ← e, q)
 
-    pub natural_fits : t ≡ false → Natural.TheVariants.Is v n ≡ natural_is (natural_of at v k n)
+    pub natural_fits : t ≡ false → Ok (v, n) ≡ natural_is (natural_of at v k n)
     unfolding natural_of
     natural_fits q = rw (lt-ltb v (2 ^ 32) h, ← natural_spare v k, ← e, q)
 

@@ -1,10 +1,11 @@
 -- What is said of a number's bytes, and what they are answered as, by scope's definitions.
 use Rattle.std.specs.Prelude.{ℕ, ◌-◌, ◌*◌, ◌<◌, ◌≤◌, ◌^◌, ◌≡◌, Bool, cond, ◌&&◌, ltb, leb}
+use Rattle.scope.specs.Told.{told}
+use Rattle.std.specs.Prelude.{Result}
+use Rattle.scope.specs.declared.Refused.{Refused}
 use Rattle.scope.specs.Reading.{Read, got, refused}
 use Rattle.scope.specs.Refusals.{bad_number}
 use Rattle.scope.specs.Numbers.{bits, unless_padded, in_range, within_unsigned, Whole, plus, minus, signed_of, within_signed}
-use Rattle.number_values.specs.declared.Natural.{Natural}
-use Rattle.number_values.specs.declared.Natural
 use Rattle.number_values.specs.declared.Integer.{Integer}
 use Rattle.number_values.specs.declared.Integer
 
@@ -28,9 +29,8 @@ pub record Below (v k : ℕ) : Type 0 where
 abbrev pub has_spare : ℕ → ℕ → Bool
 has_spare n k = ltb 1 k && ltb n (2 ^ (7 * (k - 1) - 1))
 
-abbrev pub natural_is : Read ℕ → Natural
-natural_is (got v next) = Natural.TheVariants.Is v next
-natural_is (refused n p) = Natural.TheVariants.Refused n p
+abbrev pub natural_is : Read ℕ → Result (ℕ × ℕ) Refused
+natural_is = told (λ v. v)
 
 abbrev pub integer_is : Read Whole → Integer
 integer_is (got (plus v) next) = Integer.TheVariants.Plus v next

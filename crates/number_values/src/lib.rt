@@ -7,7 +7,7 @@ ghost use Rattle.scope.specs.Reading.{got};
 ghost use Rattle.scope.specs.Numbers.{plus, minus, signed_of, within_signed, unless_padded};
 ghost use Rattle.number_values.specs.Values.{Few, Counts, Below, natural_is, SignWeight, has_spare, natural_of, range_of, integer_is};
 
-use scope::refusals;
+use scope::{Read, Refused, refusals};
 
 // The first number that is more than one byte.
 pub const TWO_BYTES: u64 = 128;
@@ -17,13 +17,6 @@ const SIGN: u64 = 64;
 
 // The first number that is no u32.
 const U32_LIMIT: u64 = 4294967296;
-
-// A natural number and the place after it; or a refusal's number and place.
-#[derive(Clone, Copy)]
-pub enum Natural {
-    Is(u64, usize),
-    Refused(u64, usize),
-}
 
 // A whole number by its magnitude, and the place after it; or a refusal's number and place.
 #[derive(Clone, Copy)]
@@ -64,17 +57,23 @@ fn spare(n: u64, count: u64) -> bool
 
 // The bits of so many bytes as a number of 32 bits: in range (2), and no byte to spare (32). A natural number has no sign, so
 // half of it lies below.
-pub fn natural_of(value: u64, count: u64, next: usize, at: usize) -> Natural
+pub fn natural_of(value: u64, count: u64, next: usize, at: usize) -> Read<u64>
     requires { Few 9 value count }
     ensures { result ≡ natural_is (natural_of at value count next) }
 {
     if U32_LIMIT <= value {
-        return Natural::Refused(refusals::BAD_NUMBER, at);
+        return Err(Refused {
+            number: refusals::BAD_NUMBER,
+            at,
+        });
     }
     if spare(value / 2, count) {
-        return Natural::Refused(refusals::PADDED, at);
+        return Err(Refused {
+            number: refusals::PADDED,
+            at,
+        });
     }
-    Natural::Is(value, next)
+    Ok((value, next))
 }
 
 // A number that is not negative, of so many bytes: none of them to spare (32).

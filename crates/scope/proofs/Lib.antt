@@ -36,3 +36,4 @@ pub mod ShortCuts
 pub mod OneAnswer
 pub mod Units
 pub mod Rounds
+pub mod Told

@@ -3,7 +3,8 @@
 use Prim.Native.Nat.{ℕ}
 use mathlib.Core.Path.{◌≡◌, sym, ◌∙◌}
 use mathlib.Core.List.{List}
-use Rattle.scope.specs.declared.Verdict.{Verdict}
+use Rattle.std.specs.Prelude.{Result}
+use Rattle.scope.specs.declared.Rejected.{Rejected}
 use Rattle.scope.specs.declared.Asked.{Asked}
 use Rattle.scope.specs.declared.Ran.{Ran}
 use Rattle.scope.specs.Answers.{SectionJudged, TypeAsked, TypeHanded, BodyJudged, RunMemory, RunTried}
@@ -11,7 +12,7 @@ use Rattle.scope.specs.Answers.{SectionJudged, TypeAsked, TypeHanded, BodyJudged
 same : {A : Type 0} {x y z : A} → x ≡ z → y ≡ z → x ≡ y
 same p q = p ∙ sym q
 
-pub one-section : {library s rows shared codes rows₁ shared₁ codes₁ rows₂ shared₂ codes₂ : List ℕ} {r q : Verdict} → SectionJudged library s rows shared codes rows₁ shared₁ codes₁ r → SectionJudged library s rows shared codes rows₂ shared₂ codes₂ q → (r ≡ q) × (rows₁ ≡ rows₂) × (shared₁ ≡ shared₂) × (codes₁ ≡ codes₂)
+pub one-section : {library s rows shared codes rows₁ shared₁ codes₁ rows₂ shared₂ codes₂ : List ℕ} {r q : Result ℕ Rejected} → SectionJudged library s rows shared codes rows₁ shared₁ codes₁ r → SectionJudged library s rows shared codes rows₂ shared₂ codes₂ q → (r ≡ q) × (rows₁ ≡ rows₂) × (shared₁ ≡ shared₂) × (codes₁ ≡ codes₂)
 one-section a b = (same a.answer b.answer, same a.rows_after b.rows_after, same a.shared_after b.shared_after, same a.codes_after b.codes_after)
 
 pub one_type : {library s : List ℕ} {x : ℕ} {rows shared codes rows₁ shared₁ codes₁ rows₂ shared₂ codes₂ : List ℕ} {r q : Asked} → TypeAsked library s x rows shared codes rows₁ shared₁ codes₁ r → TypeAsked library s x rows shared codes rows₂ shared₂ codes₂ q → (r ≡ q) × (rows₁ ≡ rows₂) × (shared₁ ≡ shared₂) × (codes₁ ≡ codes₂)
@@ -20,7 +21,7 @@ one_type a b = (same a.answer b.answer, same a.rows_after b.rows_after, same a.s
 pub one_part : {library s : List ℕ} {x : ℕ} {rows shared codes rows₁ shared₁ codes₁ rows₂ shared₂ codes₂ part other : List ℕ} → TypeHanded library s x rows shared codes rows₁ shared₁ codes₁ part → TypeHanded library s x rows shared codes rows₂ shared₂ codes₂ other → (part ≡ other) × (rows₁ ≡ rows₂) × (shared₁ ≡ shared₂) × (codes₁ ≡ codes₂)
 one_part a b = (same a.bytes b.bytes, same a.rows_after b.rows_after, same a.shared_after b.shared_after, same a.codes_after b.codes_after)
 
-pub one-body : {library section s : List ℕ} {x : ℕ} {rows shared codes work rows₁ shared₁ codes₁ work₁ rows₂ shared₂ codes₂ work₂ : List ℕ} {r q : Verdict} → BodyJudged library section s x rows shared codes work rows₁ shared₁ codes₁ work₁ r → BodyJudged library section s x rows shared codes work rows₂ shared₂ codes₂ work₂ q → (r ≡ q) × (rows₁ ≡ rows₂) × (shared₁ ≡ shared₂) × (codes₁ ≡ codes₂) × (work₁ ≡ work₂)
+pub one-body : {library section s : List ℕ} {x : ℕ} {rows shared codes work rows₁ shared₁ codes₁ work₁ rows₂ shared₂ codes₂ work₂ : List ℕ} {r q : Result ℕ Rejected} → BodyJudged library section s x rows shared codes work rows₁ shared₁ codes₁ work₁ r → BodyJudged library section s x rows shared codes work rows₂ shared₂ codes₂ work₂ q → (r ≡ q) × (rows₁ ≡ rows₂) × (shared₁ ≡ shared₂) × (codes₁ ≡ codes₂) × (work₁ ≡ work₂)
 one-body a b = (same a.answer b.answer, same a.rows_after b.rows_after, same a.shared_after b.shared_after, same a.codes_after b.codes_after, same a.work_after b.work_after)
 
 one_state_lem : {library section s : List ℕ} {x budget : ℕ} {m m₁ m₂ : RunMemory} {r q : Ran} → RunTried library section s x budget m m₁ r → RunTried library section s x budget m m₂ q → m₁.state ≡ m₂.state

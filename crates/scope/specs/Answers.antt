@@ -1,8 +1,9 @@
 -- The answers of the public calls: document 01's number and values for each case of an answer, and what each call
 -- promises of its answer and of every lent word. 14 comes before all else.
 use Rattle.std.specs.Prelude.{ℕ, ◌≡◌, Bool, cond, ◌&&◌, List, length, leb}
-use Rattle.scope.specs.declared.Verdict.{Verdict}
-use Rattle.scope.specs.declared.Verdict
+use Rattle.scope.specs.Told.{no_in}
+use Rattle.std.specs.Prelude.{Result, Ok, Err}
+use Rattle.scope.specs.declared.Rejected.{Rejected}
 use Rattle.scope.specs.declared.Asked.{Asked}
 use Rattle.scope.specs.declared.Asked
 use Rattle.scope.specs.declared.Ran.{Ran}
@@ -23,9 +24,9 @@ abbrev pub lent_enough : {A : Type 0} → Bool → Judged A → Judged A
 lent_enough enough judged = cond enough judged (rejected buffer_too_small (plain 0))
 
 -- a refusal's number and place, or how many were counted
-abbrev pub verdict_of : {A : Type 0} → (A → ℕ) → Judged A → Verdict
-verdict_of count (accepted x) = Verdict.TheVariants.Accepted (count x)
-verdict_of count (rejected n p) = Verdict.TheVariants.Refused n p
+abbrev pub verdict_of : {A : Type 0} → (A → ℕ) → Judged A → Result ℕ Rejected
+verdict_of count (accepted x) = Ok (count x)
+verdict_of count (rejected n p) = Err (no_in n p)
 
 -- zero after a refusal
 abbrev pub lent_after : {A : Type 0} → (A → List ℕ) → List ℕ → Judged A → List ℕ
@@ -43,7 +44,7 @@ counted j = length j.types
 abbrev pub section_call : List ℕ → List ℕ → List ℕ → List ℕ → List ℕ → Judged Joined
 section_call library s rows shared codes = lent_enough (table_lent rows shared codes) (judge_joined library s)
 
-pub record SectionJudged (library s rows shared codes rows' shared' codes' : List ℕ) (r : Verdict) : Type 0 where
+pub record SectionJudged (library s rows shared codes rows' shared' codes' : List ℕ) (r : Result ℕ Rejected) : Type 0 where
   pub answer : r ≡ verdict_of counted (section_call library s rows shared codes)
   pub rows_after : rows' ≡ lent_after joined_rows rows (section_call library s rows shared codes)
   pub shared_after : shared' ≡ lent_after joined_shared shared (section_call library s rows shared codes)
@@ -88,7 +89,7 @@ abbrev pub body_call : List ℕ → List ℕ → List ℕ → ℕ → List ℕ �
 body_call library section s x rows shared codes work =
     lent_enough (table_lent rows shared codes && holds work_size work) (judge_body library section s x)
 
-pub record BodyJudged (library section s : List ℕ) (x : ℕ) (rows shared codes work rows' shared' codes' work' : List ℕ) (r : Verdict) : Type 0 where
+pub record BodyJudged (library section s : List ℕ) (x : ℕ) (rows shared codes work rows' shared' codes' work' : List ℕ) (r : Result ℕ Rejected) : Type 0 where
   pub answer : r ≡ verdict_of instructions (body_call library section s x rows shared codes work)
   pub rows_after : rows' ≡ wiped rows
   pub shared_after : shared' ≡ wiped shared

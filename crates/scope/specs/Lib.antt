@@ -23,3 +23,4 @@ pub mod Running
 pub mod Ranges
 pub mod Memory
 pub mod Answers
+pub mod Told

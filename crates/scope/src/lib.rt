@@ -6,6 +6,16 @@ pub mod refusals;
 pub mod sizes;
 pub mod traps;
 
+// Why a reader stopped: the refusal's number, and the place of what is at fault.
+#[derive(Clone, Copy)]
+pub struct Refused {
+    pub number: u64,
+    pub at: usize,
+}
+
+// What a reader answers: a value and the place after its bytes, or why there is none.
+pub type Read<T> = Result<(T, usize), Refused>;
+
 // Where a refusal lies: a byte of the library, a byte of the add-on's own input, or a place with no input to name: a type
 // number, a place in a body, or 0.
 #[derive(Clone, Copy)]
@@ -15,11 +25,11 @@ pub enum Place {
     Plain(u64),
 }
 
-// Judging sections or a body: the count of types or of instructions; or the refusal's number and place.
+// Why sections or a body are judged with no: the refusal's number and place.
 #[derive(Clone, Copy)]
-pub enum Verdict {
-    Accepted(u64),
-    Refused(u64, Place),
+pub struct Rejected {
+    pub number: u64,
+    pub place: Place,
 }
 
 // Asking for a type: where the definition's bytes begin and end in the library, or in the add-on's section; or the refusal.
