@@ -7,11 +7,11 @@ use mathlib.Core.Option.{Option, none, some}
 use mathlib.Core.List.{List, [], ◌∷◌}
 use lib.Dec.{lit<}
 use lib.ListN.{get_or}
+use Rattle.scope.specs.Told.{Maybe}
+use Rattle.std.specs.Prelude.{None, Some}
 use Rattle.scope.specs.Abstract.{Abstract, NOFUNC, NOEXTERN, NONE, FUNC, EXTERN, ANY, EQ, I31, STRUCT, ARRAY, ten}
 use Rattle.scope.specs.Memory.{abstract_code}
 use Rattle.scope.proofs.Impossible.{impossible}
-use Rattle.type_abstract.specs.declared.AbstractType.{AbstractType}
-use Rattle.type_abstract.specs.declared.AbstractType
 use Rattle.type_abstract.specs.Heaps.{abstract_at, abstract_is}
 use Rattle.type_abstract.proofs.Table.{get_d_map}
 
@@ -55,10 +55,10 @@ unfolding abstract_at
 code_at k h = sym (get_d_map abstract_code ten k ARRAY 0 h) ∙ upward-at 10 0 k 0 h ∙ zero-add k
 
 -- an answer of abstract_of, taken apart
-pub is_inv : {r : AbstractType} {k : ℕ} (o : Option Abstract) → r ≡ abstract_is o → r ≡ AbstractType.TheVariants.Is k → (a : Abstract) × (o ≡ some a) × (k ≡ abstract_code a)
+pub is_inv : {r : Maybe ℕ} {k : ℕ} (o : Option Abstract) → r ≡ abstract_is o → r ≡ Some k → (a : Abstract) × (o ≡ some a) × (k ≡ abstract_code a)
 is_inv none e f = impossible cc
 is_inv (some a) e f = (a, refl, cc)
 
-pub not-one_inv : {r : AbstractType} (o : Option Abstract) → r ≡ abstract_is o → r ≡ AbstractType.TheVariants.NotOne → o ≡ none
+pub not-one_inv : {r : Maybe ℕ} (o : Option Abstract) → r ≡ abstract_is o → r ≡ None → o ≡ none
 not-one_inv none e f = refl
 not-one_inv (some a) e f = cc

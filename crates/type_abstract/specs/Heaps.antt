@@ -2,11 +2,11 @@
 -- in document 01's table; abstract_code of scope's Memory.antt is the way back.
 use Rattle.std.specs.Prelude.{ℕ, ◌<◌, ◌≡◌, get_or}
 use Rattle.std.proofs.Math.Option.{Option, none, some}
+use Rattle.scope.specs.Told.{Maybe}
+use Rattle.std.specs.Prelude.{None, Some}
 use Rattle.scope.specs.Abstract.{Abstract, ARRAY, Row, ten}
 use Rattle.scope.specs.Memory.{abstract_code}
 use Rattle.type_abstract.specs.declared.HeapRow.{HeapRow}
-use Rattle.type_abstract.specs.declared.AbstractType.{AbstractType}
-use Rattle.type_abstract.specs.declared.AbstractType
 
 -- the abstract type of a number; one that names none is read as the last
 unfoldable pub abstract_at : ℕ → Abstract
@@ -21,6 +21,6 @@ pub record RowNumber (a k : ℕ) : Type 0 where
 unfoldable pub coded : Row → HeapRow
 coded r = record { top = abstract_code r.top; bottom = abstract_code r.bottom }
 
-abbrev pub abstract_is : Option Abstract → AbstractType
-abstract_is none = AbstractType.TheVariants.NotOne
-abstract_is (some a) = AbstractType.TheVariants.Is (abstract_code a)
+abbrev pub abstract_is : Option Abstract → Maybe ℕ
+abstract_is none = None
+abstract_is (some a) = Some (abstract_code a)

@@ -122,13 +122,6 @@ pub const BELOW: [bool; 100] = [
     false, false, false, false, false, true, true, false, false, true,
 ];
 
-// What a code names.
-#[derive(Clone, Copy)]
-pub enum AbstractType {
-    Is(u64),
-    NotOne,
-}
-
 // The number of the row that a number is read as.
 fn row_number(a: u64) -> u64
     ensures { RowNumber a result }
@@ -145,16 +138,16 @@ fn heap_row(a: u64) -> HeapRow
 }
 
 // The abstract heap type that has this code.
-pub fn abstract_of(code: u64) -> AbstractType
+pub fn abstract_of(code: u64) -> Option<u64>
     ensures { result ≡ abstract_is (abstract_of code) }
 {
     if code < LAST_CODE {
-        return AbstractType::NotOne;
+        return None;
     }
     if FIRST_CODE < code {
-        return AbstractType::NotOne;
+        return None;
     }
-    AbstractType::Is(FIRST_CODE - code)
+    Some(FIRST_CODE - code)
 }
 
 // The top of its hierarchy.

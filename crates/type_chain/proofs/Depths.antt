@@ -11,14 +11,14 @@ use lib.Dec.{ltb}
 use lib.ListN.{set}
 use mir.Syntax.{w64}
 use mir.Val.{Fits}
+use Rattle.scope.specs.Told.{Maybe}
+use Rattle.std.specs.Prelude.{None, Some}
 use Rattle.scope.specs.Sizes.{most_steps}
 use Rattle.scope.specs.Layout.{row_span}
 use Rattle.scope.specs.Syntax.{Types, super_of}
 use Rattle.scope.specs.TypeRules.{short_chain}
 use Rattle.lent_u16.specs.Words.{word_limit, WordAt}
 use Rattle.type_table.specs.View.{view}
-use Rattle.type_table.specs.declared.Link.{Link}
-use Rattle.type_table.specs.declared.Link
 use Rattle.type_table.specs.Answers.{link_is}
 use Rattle.type_table.proofs.Laws.{link_nothing, link_to}
 use Rattle.type_span.specs.Span.{end_word, end_at, Beside}
@@ -27,11 +27,11 @@ use Rattle.type_chain.specs.Depths.{shallow, Upward, depth_from, DepthAt, Measur
 
 -- the depth of one type
 
-module _ (types : Types) (rows : List ℕ) (x : ℕ) {l : Link} (e : l ≡ link_is (super_of (types x))) where
-  pub depth_none : l ≡ Link.TheVariants.Nothing → DepthAt types rows x 0
+module _ (types : Types) (rows : List ℕ) (x : ℕ) {l : Maybe ℕ} (e : l ≡ link_is (super_of (types x))) where
+  pub depth_none : l ≡ None → DepthAt types rows x 0
   depth_none q = record { is = rw (link_nothing (super_of (types x)) e q); small = omega arith }
 
-  module _ {p : ℕ} (q : l ≡ Link.TheVariants.To p) where
+  module _ {p : ℕ} (q : l ≡ Some p) where
     pub depth_more : {w : ℕ} → p < x → WordAt rows (row_span * p + end_word) w → DepthAt types rows x (w + 1)
     depth_more h w = let small = w.small in record { is = rw (link_to (super_of (types x)) e q, lt-ltb p x h, w.is); small = omega arith }
 

@@ -9,7 +9,7 @@ ghost use Rattle.type_table.specs.View.{view, both_codes};
 ghost use Rattle.type_chain.specs.Depths.{shallow, DepthAt, Measurable, Measured};
 
 use scope::sizes;
-use type_table::{Link, Supers};
+use type_table::Supers;
 
 // Rule 1: at most one supertype; it is earlier and open.
 pub fn super_earlier_and_open(rows: &[u16], shared: &[u16], codes: &[u16], x: u64) -> bool
@@ -35,7 +35,7 @@ fn depth_of(rows: &[u16], shared: &[u16], codes: &[u16], x: u64) -> u64
     ensures { DepthAt (view rows.now (both_codes shared.now codes.now)) rows.now x result }
 {
     let above = type_table::super_of(rows, shared, codes, x);
-    let Link::To(p) = above else {
+    let Some(p) = above else {
         return 0;
     };
     if p < x {

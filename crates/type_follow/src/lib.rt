@@ -8,16 +8,14 @@ ghost use Rattle.type_table.specs.View.{view, both_codes};
 ghost use Rattle.type_table.specs.Answers.{link_option};
 ghost use Rattle.type_follow.specs.Following.{descriptor_under};
 
-use type_table::Link;
-
 // Whether x has a descriptor whose supertype is y.
 fn descriptor_under(rows: &[u16], shared: &[u16], codes: &[u16], x: u64, y: u64) -> bool
     ensures { result ≡ descriptor_under (view rows.now (both_codes shared.now codes.now)) x y }
 {
     let descriptor = type_table::descriptor_of(rows, shared, codes, x);
     match descriptor {
-        Link::Nothing => false,
-        Link::To(d) => {
+        None => false,
+        Some(d) => {
             let above = type_table::super_of(rows, shared, codes, d);
             type_rules::is_the(above, y)
         }
@@ -29,28 +27,34 @@ pub fn descriptor_follows(rows: &[u16], shared: &[u16], codes: &[u16], x: u64) -
     ensures { result ≡ descriptor_follows (view rows.now (both_codes shared.now codes.now)) x }
 {
     let above = type_table::super_of(rows, shared, codes, x);
-    let Link::To(p) = above else {
+    let Some(p) = above else {
         return true;
     };
     let descriptor = type_table::descriptor_of(rows, shared, codes, p);
     match descriptor {
-        Link::Nothing => true,
-        Link::To(y) => descriptor_under(rows, shared, codes, x, y),
+        None => true,
+        Some(y) => descriptor_under(rows, shared, codes, x, y),
     }
 }
 
 // What two types describe: both or neither, and as subtype and supertype too.
-fn described_follow(rows: &[u16], shared: &[u16], codes: &[u16], a: Link, b: Link) -> bool
+fn described_follow(
+    rows: &[u16],
+    shared: &[u16],
+    codes: &[u16],
+    a: Option<u64>,
+    b: Option<u64>,
+) -> bool
     ensures { result ≡ described_follow (view rows.now (both_codes shared.now codes.now)) (link_option a) (link_option b) }
 {
     match a {
-        Link::Nothing => match b {
-            Link::Nothing => true,
-            Link::To(_) => false,
+        None => match b {
+            None => true,
+            Some(_) => false,
         },
-        Link::To(d) => match b {
-            Link::Nothing => false,
-            Link::To(e) => {
+        Some(d) => match b {
+            None => false,
+            Some(e) => {
                 let above = type_table::super_of(rows, shared, codes, d);
                 type_rules::is_the(above, e)
             }
@@ -64,8 +68,8 @@ pub fn describes_follows(rows: &[u16], shared: &[u16], codes: &[u16], x: u64) ->
 {
     let above = type_table::super_of(rows, shared, codes, x);
     match above {
-        Link::Nothing => true,
-        Link::To(p) => {
+        None => true,
+        Some(p) => {
             let lower = type_table::describes_of(rows, shared, codes, x);
             let upper = type_table::describes_of(rows, shared, codes, p);
             described_follow(rows, shared, codes, lower, upper)

@@ -4,13 +4,13 @@ use mathlib.Core.Path.{◌≡◌, refl, sym, ap, ◌∙◌}
 use mathlib.Core.Bool.{Bool, true, false, not, ◌&&◌}
 use mathlib.Core.List.{List, [], ◌∷◌}
 use borrow.Author.Tests.{not-true, not-false}
+use Rattle.scope.specs.Told.{Maybe}
+use Rattle.std.specs.Prelude.{None, Some}
 use Rattle.scope.specs.Lists.{pairwise}
 use Rattle.scope.specs.Syntax.{Form, struct, func, Types, super_of}
 use Rattle.scope.specs.Order.{val_below}
 use Rattle.scope.specs.TypeRules.{form_matches, matches_super}
 use Rattle.type_table.specs.View.{val_at_code, field_at_code, codes_at}
-use Rattle.type_table.specs.declared.Link.{Link}
-use Rattle.type_table.specs.declared.Link
 use Rattle.type_table.specs.declared.Shape.{Shape}
 use Rattle.type_table.specs.declared.Shape
 use Rattle.type_table.specs.Answers.{link_is, shape_form}
@@ -70,12 +70,12 @@ pub ruleset lower_exits = (lower_struct, lower_func)
 
 -- rule 2
 
-module _ (ts : Types) (x : ℕ) {l : Link} (e : l ≡ link_is (super_of (ts x))) where
-  pub no_super : l ≡ Link.TheVariants.Nothing → true ≡ matches_super ts x
+module _ (ts : Types) (x : ℕ) {l : Maybe ℕ} (e : l ≡ link_is (super_of (ts x))) where
+  pub no_super : l ≡ None → true ≡ matches_super ts x
   unfolding matches_super
   no_super q = rw (link_nothing (super_of (ts x)) e q)
 
-  pub super_matched : {p : ℕ} {r : Bool} → l ≡ Link.TheVariants.To p → r ≡ form_matches ts (ts x).form (ts p).form → r ≡ matches_super ts x
+  pub super_matched : {p : ℕ} {r : Bool} → l ≡ Some p → r ≡ form_matches ts (ts x).form (ts p).form → r ≡ matches_super ts x
   unfolding matches_super
   super_matched q s = rw (link_to (super_of (ts x)) e q) s
 

@@ -12,7 +12,7 @@ ghost use Rattle.type_matching.specs.Lists.{code_matches, enough, codes_match};
 ghost use Rattle.type_hierarchy.specs.Ranged.{Ranged};
 
 use type_fit::Fit;
-use type_table::{Link, Shape};
+use type_table::Shape;
 
 // The place of the library's first code.
 const SHARED: u32 = type_table::SHARED as u32;
@@ -204,7 +204,7 @@ pub fn matches_super(rows: &[u16], shared: &[u16], codes: &[u16], x: u64) -> boo
 {
     let above = type_table::super_of(rows, shared, codes, x);
     match above {
-        Link::Nothing => true,
-        Link::To(p) => form_matches(rows, shared, codes, x, p),
+        None => true,
+        Some(p) => form_matches(rows, shared, codes, x, p),
     }
 }

@@ -6,19 +6,19 @@ use mathlib.Core.Path.{◌≡◌, refl, sym, ◌∙◌, ap}
 use mathlib.Core.Option.{Option, none, some}
 use mathlib.Core.List.{List}
 use lib.ListN.{set}
+use Rattle.scope.specs.Told.{Maybe}
+use Rattle.std.specs.Prelude.{None, Some}
 use Rattle.scope.specs.Layout.{row_span}
 use Rattle.scope.specs.Syntax.{super_of}
 use Rattle.scope.specs.Memory.{or_zero}
 use Rattle.lent_u16.specs.Words.{word_limit, WordAt}
 use Rattle.type_table.specs.View.{word_of, view}
-use Rattle.type_table.specs.declared.Link.{Link}
-use Rattle.type_table.specs.declared.Link
 use Rattle.type_table.specs.Answers.{link_is}
 use Rattle.type_span.specs.Span.{start_word, end_word, start_at, end_at, Beside}
 use Rattle.type_span.proofs.Stores.{Set, set_is, beside_more}
 use Rattle.type_numbering.specs.Ranges.{parent_of, parent_number, ParentIs, Sizeable, SizedOne, Placeable, PlacedOne}
 
-pub parent_by : (rows codes : List ℕ) (x : ℕ) {above : Link} → above ≡ link_is (super_of (view rows codes x)) → ParentIs rows codes x above
+pub parent_by : (rows codes : List ℕ) (x : ℕ) {above : Maybe ℕ} → above ≡ link_is (super_of (view rows codes x)) → ParentIs rows codes x above
 unfolding parent_of
 parent_by rows codes x a = record { is = ap parent_number a ∙ linked (super_of (view rows codes x)) }
   where
@@ -26,19 +26,19 @@ parent_by rows codes x a = record { is = ap parent_number a ∙ linked (super_of
     linked none = refl
     linked (some p) = sym (add-one p)
 
-module _ (rows codes : List ℕ) (x : ℕ) {above : Link} (a : ParentIs rows codes x above) where
-  parent_none : above ≡ Link.TheVariants.Nothing → parent_of rows codes x ≡ zero
+module _ (rows codes : List ℕ) (x : ℕ) {above : Maybe ℕ} (a : ParentIs rows codes x above) where
+  parent_none : above ≡ None → parent_of rows codes x ≡ zero
   parent_none q = sym a.is ∙ ap parent_number q
 
-  parent_is : {p : ℕ} → above ≡ Link.TheVariants.To p → parent_of rows codes x ≡ suc p
+  parent_is : {p : ℕ} → above ≡ Some p → parent_of rows codes x ≡ suc p
   parent_is {p} q = sym a.is ∙ ap parent_number q
 
-module _ {k : ℕ} {codes rows : List ℕ} (ok : Sizeable k codes rows) {above : Link} (a : ParentIs rows codes k above)
+module _ {k : ℕ} {codes rows : List ℕ} (ok : Sizeable k codes rows) {above : Maybe ℕ} (a : ParentIs rows codes k above)
     {w : ℕ} (own : WordAt rows (row_span * k + end_word) w) {rows₁ : List ℕ} (e : rows₁ ≡ set rows (row_span * k + end_word) ((w + 1) % word_limit)) where
   size_set : Set rows rows₁ k end_word (w + 1)
   size_set = set_is k end_word e (let i = own.is in let s = ok.small k (omega arith) in omega arith) ok.room (omega arith)
 
-  pub sized_alone : above ≡ Link.TheVariants.Nothing → SizedOne k codes rows rows₁
+  pub sized_alone : above ≡ None → SizedOne k codes rows rows₁
   sized_alone q =
       let none : parent_of rows codes k ≡ zero = parent_none rows codes k a q in
       let i : w ≡ end_at rows k = own.is in
@@ -51,7 +51,7 @@ module _ {k : ℕ} {codes rows : List ℕ} (ok : Sizeable k codes rows) {above :
         };
       }
 
-  module _ {q : ℕ} (to : above ≡ Link.TheVariants.To q) {t : ℕ} (part : WordAt rows₁ (row_span * q + end_word) t) where
+  module _ {q : ℕ} (to : above ≡ Some q) {t : ℕ} (part : WordAt rows₁ (row_span * q + end_word) t) where
     under : (parent_of rows codes k ≡ suc q) × (q < k)
     under = let p : parent_of rows codes k ≡ suc q = parent_is rows codes k a to in let l = ok.lower in (p, omega arith)
 
@@ -82,7 +82,7 @@ module _ {k : ℕ} {codes rows : List ℕ} (ok : Sizeable k codes rows) {above :
 
 pub ruleset size_exits = (sized_alone, sized_under)
 
-module _ {x next : ℕ} {codes rows : List ℕ} (ok : Placeable x next codes rows) {above : Link} (a : ParentIs rows codes x above)
+module _ {x next : ℕ} {codes rows : List ℕ} (ok : Placeable x next codes rows) {above : Maybe ℕ} (a : ParentIs rows codes x above)
     {w : ℕ} (own : WordAt rows (row_span * x + end_word) w) where
   -- the two words of x, with its start v
   module _ (v : ℕ) (low : v < 4_096) {rows₁ rows₂ : List ℕ} (e₁ : rows₁ ≡ set rows (row_span * x + start_word) (v % word_limit)) (e₂ : rows₂ ≡ set rows₁ (row_span * x + end_word) ((v + 1) % word_limit)) where
@@ -101,7 +101,7 @@ module _ {x next : ℕ} {codes rows : List ℕ} (ok : Placeable x next codes row
     both_others : (y k : ℕ) → (y ≡ x → ⊥) → k < row_span → word_of rows₂ y k ≡ word_of rows y k
     both_others y k f h = end-set.row y k f h ∙ start-set.row y k f h
 
-  pub placed_alone : above ≡ Link.TheVariants.Nothing → {rows₁ rows₂ : List ℕ} → rows₁ ≡ set rows (row_span * x + start_word) (next % word_limit) → rows₂ ≡ set rows₁ (row_span * x + end_word) ((next + 1) % word_limit) → PlacedOne x next codes rows rows₂ (next + w)
+  pub placed_alone : above ≡ None → {rows₁ rows₂ : List ℕ} → rows₁ ≡ set rows (row_span * x + start_word) (next % word_limit) → rows₂ ≡ set rows₁ (row_span * x + end_word) ((next + 1) % word_limit) → PlacedOne x next codes rows rows₂ (next + w)
   placed_alone q {rows₁} {rows₂} e₁ e₂ =
       let none : parent_of rows codes x ≡ zero = parent_none rows codes x a q in
       let low = ok.next_small in
@@ -119,7 +119,7 @@ module _ {x next : ℕ} {codes rows : List ℕ} (ok : Placeable x next codes row
         };
       }
 
-  module _ {q : ℕ} (to : above ≡ Link.TheVariants.To q) {t : ℕ} (part : WordAt rows (row_span * q + end_word) t) where
+  module _ {q : ℕ} (to : above ≡ Some q) {t : ℕ} (part : WordAt rows (row_span * q + end_word) t) where
     pub placed_under : {rows₁ rows₂ rows₃ : List ℕ}
         → rows₁ ≡ set rows (row_span * x + start_word) (t % word_limit)
         → rows₂ ≡ set rows₁ (row_span * x + end_word) ((t + 1) % word_limit)

@@ -1,5 +1,7 @@
 -- The two words of a row that say its range, and what the functions that put them need and leave.
 use Rattle.std.specs.Prelude.{ℕ, suc, ◌+◌, ◌*◌, ◌≤◌, ◌<◌, ◌≡◌, List, length}
+use Rattle.scope.specs.Told.{Maybe}
+use Rattle.std.specs.Prelude.{None, Some}
 use Rattle.scope.specs.Sizes.{most_types}
 use Rattle.scope.specs.Layout.{row_span}
 use Rattle.scope.specs.Syntax.{super_of}
@@ -8,8 +10,6 @@ use Rattle.scope.specs.Ranges.{total, size_in, start_in}
 use Rattle.type_forest.specs.Forest.{Lower, Sizes, Starts}
 use Rattle.type_forest.specs.Walks.{Grown, Placed}
 use Rattle.type_table.specs.View.{view}
-use Rattle.type_table.specs.declared.Link.{Link}
-use Rattle.type_table.specs.declared.Link
 use Rattle.type_span.specs.Span.{start_at, end_at, Beside}
 
 -- more than any sum of two sizes
@@ -21,11 +21,11 @@ unfoldable pub parent_of : List ℕ → List ℕ → ℕ → ℕ
 parent_of rows codes x = or_zero (super_of (view rows codes x))
 
 -- the same as the code has it
-abbrev pub parent_number : Link → ℕ
-parent_number Link.TheVariants.Nothing = 0
-parent_number (Link.TheVariants.To p) = suc p
+abbrev pub parent_number : Maybe ℕ → ℕ
+parent_number None = 0
+parent_number (Some p) = suc p
 
-pub record ParentIs (rows codes : List ℕ) (x : ℕ) (r : Link) : Type 0 where
+pub record ParentIs (rows codes : List ℕ) (x : ℕ) (r : Maybe ℕ) : Type 0 where
   pub is : parent_number r ≡ parent_of rows codes x
 
 -- the rows of n types, whose ends are cleared

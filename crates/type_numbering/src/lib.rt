@@ -6,11 +6,9 @@
 ghost use Rattle.type_table.specs.View.{both_codes};
 ghost use Rattle.type_numbering.specs.Ranges.{ParentIs, Clearable, Emptied, Sizeable, SizedOne, Numberable, Empty, Sized, Placeable, PlacedOne, Startable, Numbered};
 
-use type_table::Link;
-
 // What stands above a type in the forest: its supertype. Both walks ask here and nowhere else.
 #[tactic(auto, using(crate::proofs::Turns::parent_by))]
-fn parent_of(rows: &[u16], shared: &[u16], codes: &[u16], x: u64) -> Link
+fn parent_of(rows: &[u16], shared: &[u16], codes: &[u16], x: u64) -> Option<u64>
     ensures { ParentIs rows.now (both_codes shared.now codes.now) x result }
 {
     type_table::super_of(rows, shared, codes, x)
@@ -36,7 +34,7 @@ fn size_one(rows: &mut [u16], shared: &[u16], codes: &[u16], k: u64)
     let above = parent_of(rows, shared, codes, k);
     let size = type_span::end_of(rows, k) + 1;
     type_span::put_word(rows, k, type_span::END, size);
-    let Link::To(q) = above else {
+    let Some(q) = above else {
         return;
     };
     let part = type_span::end_of(rows, q) + size;
@@ -63,7 +61,7 @@ fn place_one(rows: &mut [u16], shared: &[u16], codes: &[u16], x: u64, next: u64)
 {
     let above = parent_of(rows, shared, codes, x);
     let size = type_span::end_of(rows, x);
-    let Link::To(q) = above else {
+    let Some(q) = above else {
         type_span::put_word(rows, x, type_span::START, next);
         type_span::put_word(rows, x, type_span::END, next + 1);
         return next + size;

@@ -9,12 +9,12 @@ use Rattle.std.proofs.Math.Bool.{and-true, and_assoc}
 use borrow.Author.Tests.{not-true, not-false, lt-ltb, le-ltb}
 use Prim.Native.Nat.{◌<◌, ◌≤◌}
 use lib.Dec.{ltb}
+use Rattle.scope.specs.Told.{Maybe}
+use Rattle.std.specs.Prelude.{None, Some}
 use Rattle.scope.specs.Lists.{as_list}
 use Rattle.scope.specs.Syntax.{Heap, Val, Form, Types}
 use Rattle.scope.specs.TypeRules.{heap_names, val_names, form_names, names, in_reach}
 use Rattle.type_table.specs.View.{heap_at_code, val_at_code, field_at_code}
-use Rattle.type_table.specs.declared.Link.{Link}
-use Rattle.type_table.specs.declared.Link
 use Rattle.type_table.specs.declared.Supers.{Supers}
 use Rattle.type_table.specs.declared.Supers
 use Rattle.type_table.specs.declared.Shape.{Shape}
@@ -126,25 +126,25 @@ pub ruleset super_exits = (no_supers, one_super_lem, two_supers_in, two_supers_o
 
 -- clauses
 
-pub link_none : (reach : ℕ) (l : Link) → l ≡ Link.TheVariants.Nothing → true ≡ link_below reach l
+pub link_none : (reach : ℕ) (l : Maybe ℕ) → l ≡ None → true ≡ link_below reach l
 unfolding link_below
 link_none reach l q = rw q (below_none reach)
 
-pub link_some : (reach : ℕ) (l : Link) {x : ℕ} → l ≡ Link.TheVariants.To x → ltb x reach ≡ link_below reach l
+pub link_some : (reach : ℕ) (l : Maybe ℕ) {x : ℕ} → l ≡ Some x → ltb x reach ≡ link_below reach l
 unfolding link_below
 link_some reach l {x} q = rw q (below_one reach x)
 
 pub ruleset link_exits = (link_none, link_some)
 
-link_in : (reach : ℕ) (o : Option ℕ) {l : Link} {r : Bool} → l ≡ link_is o → r ≡ link_below reach l → r ≡ all_below reach (as_list o)
+link_in : (reach : ℕ) (o : Option ℕ) {l : Maybe ℕ} {r : Bool} → l ≡ link_is o → r ≡ link_below reach l → r ≡ all_below reach (as_list o)
 unfolding link_below
 link_in reach o e p = p ∙ ap (λ (u : Option ℕ). all_below reach (as_list u)) (link_read o e)
 
-module _ (reach : ℕ) (o u : Option ℕ) {l : Link} {r : Bool} (e : l ≡ link_is o) (p : r ≡ link_below reach l) where
+module _ (reach : ℕ) (o u : Option ℕ) {l : Maybe ℕ} {r : Bool} (e : l ≡ link_is o) (p : r ≡ link_below reach l) where
   pub first_clause_out : not r ≡ true → false ≡ (all_below reach (as_list o) && all_below reach (as_list u))
   first_clause_out t = part_out r _ t ∙ ap (λ (b : Bool). b && all_below reach (as_list u)) (link_in reach o e p)
 
-  pub clauses_in : {m : Link} {s : Bool} → not r ≡ false → m ≡ link_is u → s ≡ link_below reach m → s ≡ (all_below reach (as_list o) && all_below reach (as_list u))
+  pub clauses_in : {m : Maybe ℕ} {s : Bool} → not r ≡ false → m ≡ link_is u → s ≡ link_below reach m → s ≡ (all_below reach (as_list o) && all_below reach (as_list u))
   clauses_in {m} {s} t f q =
       link_in reach u f q ∙ part_in r _ t ∙ ap (λ (b : Bool). b && all_below reach (as_list u)) (link_in reach o e p)
 

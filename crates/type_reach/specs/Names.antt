@@ -1,10 +1,10 @@
 -- The numbers that a definition names, as the code comes to them: by links, by codes, and by lists of codes.
 use Rattle.std.specs.Prelude.{ℕ, ◌<◌, ◌≡◌, Bool, true, false, List, map, ltb}
+use Rattle.scope.specs.Told.{Maybe}
 use Rattle.scope.specs.Lists.{every, joined, as_list}
 use Rattle.scope.specs.TypeRules.{val_names, field_names}
 use Rattle.lent_u16.specs.Words.{word_limit}
 use Rattle.type_table.specs.View.{val_at_code, field_at_code, codes_at}
-use Rattle.type_table.specs.declared.Link.{Link}
 use Rattle.type_table.specs.Answers.{link_option}
 
 -- each number is in reach
@@ -12,7 +12,7 @@ unfoldable pub all_below : ℕ → List ℕ → Bool
 all_below reach ns = every (λ y. ltb y reach) ns
 
 -- the number that a link names is in reach
-unfoldable pub link_below : ℕ → Link → Bool
+unfoldable pub link_below : ℕ → Maybe ℕ → Bool
 link_below reach link = all_below reach (as_list (link_option link))
 
 -- what a field's code names, or a value type's

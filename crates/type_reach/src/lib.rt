@@ -9,7 +9,7 @@ ghost use Rattle.type_table.specs.View.{heap_at_code, val_at_code, view, both_co
 ghost use Rattle.lent_u16.specs.Words.{WordAt};
 ghost use Rattle.type_reach.specs.Names.{all_below, link_below, codes_names, Limit};
 
-use type_table::{HeapKind, Link, Shape, Supers, ValKind};
+use type_table::{HeapKind, Shape, Supers, ValKind};
 
 // The place of the library's first code.
 const SHARED: u32 = type_table::SHARED as u32;
@@ -126,12 +126,12 @@ fn supers_in_reach(rows: &[u16], shared: &[u16], codes: &[u16], x: u64, reach: u
 }
 
 #[tactic(auto, using(crate::proofs::Naming::link_exits))]
-fn link_in_reach(link: Link, reach: u64) -> bool
+fn link_in_reach(link: Option<u64>, reach: u64) -> bool
     ensures { result ≡ link_below reach link }
 {
     match link {
-        Link::Nothing => true,
-        Link::To(x) => x < reach,
+        None => true,
+        Some(x) => x < reach,
     }
 }
 

@@ -1,6 +1,11 @@
 -- What the readers of types answer: the code of what the definitions read.
 use Rattle.std.specs.Prelude.{ℕ, Bool, true, cond, List, eqb}
 use Rattle.std.proofs.Math.Option.{Option, none, some}
+use Rattle.scope.specs.Told.{told}
+use Rattle.std.specs.Prelude.{Result, Ok, Err}
+use Rattle.scope.specs.declared.Refused.{Refused}
+use Rattle.scope.specs.Told.{Maybe}
+use Rattle.std.specs.Prelude.{None, Some}
 use Rattle.scope.specs.Refusals.{not_listed}
 use Rattle.scope.specs.Reading.{Read, got, refused, given, then}
 use Rattle.scope.specs.Numbers.{u32, s33}
@@ -10,14 +15,9 @@ use Rattle.scope.specs.Sections.{type_number, heap_at}
 use Rattle.scope.specs.Order.{number_code}
 use Rattle.scope.specs.Memory.{heap_code, val_code, field_code}
 use Rattle.type_table.specs.Kept.{kept_heap, kept_val, kept_field}
-use Rattle.type_read.specs.declared.Coded.{Coded}
-use Rattle.type_read.specs.declared.Coded
-use Rattle.type_read.specs.declared.NumberType.{NumberType}
-use Rattle.type_read.specs.declared.NumberType
 
-abbrev pub coded_is : {A : Type 0} → (A → ℕ) → Read A → Coded
-coded_is code (got x next) = Coded.TheVariants.Is (code x) next
-coded_is code (refused n p) = Coded.TheVariants.Refused n p
+abbrev pub coded_is : {A : Type 0} → (A → ℕ) → Read A → Result (ℕ × ℕ) Refused
+coded_is = told
 
 -- the codes of types as the table keeps them
 
@@ -38,9 +38,9 @@ exact_at s at = then (u32 s at) (λ x next. got (exact x) next)
 abbrev pub defined_at : List ℕ → ℕ → Read Heap
 defined_at s at = then (s33 s at) (type_number at)
 
-abbrev pub number_is : Option Number → NumberType
-number_is none = NumberType.TheVariants.NotOne
-number_is (some n) = NumberType.TheVariants.Is (number_code n)
+abbrev pub number_is : Option Number → Maybe ℕ
+number_is none = None
+number_is (some n) = Some (number_code n)
 
 abbrev pub referent_at : Bool → List ℕ → ℕ → Read Val
 referent_at nullable s at = then (heap_at s at) (λ h next. got (ref nullable h) next)

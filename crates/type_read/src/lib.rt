@@ -8,17 +8,8 @@ ghost use Rattle.scope.specs.Memory.{flag};
 ghost use Rattle.type_table.specs.Kept.{kept};
 ghost use Rattle.type_read.specs.Codes.{coded_is, heap_code_kept, val_code_kept, field_code_kept, exact_at, defined_at, number_is, referent_at, reference_at};
 
-use number_bytes::Byte;
-use number_values::{Integer, Natural};
-use scope::refusals;
-use type_abstract::AbstractType;
-
-// A type's code and the place after its bytes; or a refusal's number and place.
-#[derive(Clone, Copy)]
-pub enum Coded {
-    Is(u64, usize),
-    Refused(u64, usize),
-}
+use number_values::Integer;
+use scope::{Read, Refused, refusals};
 
 // A type number as the table keeps it.
 pub fn kept_number(x: u64) -> u64
@@ -32,81 +23,77 @@ pub fn kept_number(x: u64) -> u64
 }
 
 // 62 was read: the number of an exact type.
-fn exact_at(s: &[u8], at: usize) -> Coded
+fn exact_at(s: &[u8], at: usize) -> Read<u64>
     ensures { result ≡ coded_is heap_code_kept (exact_at s.now at) }
 {
-    let read = number::u32_at(s, at);
-    match read {
-        Natural::Is(x, next) => Coded::Is(11 + 2 * kept_number(x), next),
-        Natural::Refused(n, place) => Coded::Refused(n, place),
-    }
+    let (x, next) = number::u32_at(s, at)?;
+    Ok((11 + 2 * kept_number(x), next))
 }
 
 // A type number as a non-negative s33.
-fn defined_at(s: &[u8], at: usize) -> Coded
+fn defined_at(s: &[u8], at: usize) -> Read<u64>
     ensures { result ≡ coded_is heap_code_kept (defined_at s.now at) }
 {
     let read = number::s33_at(s, at);
     match read {
-        Integer::Plus(x, next) => Coded::Is(10 + 2 * kept_number(x), next),
-        Integer::Minus(_, _) => Coded::Refused(refusals::NOT_LISTED, at),
-        Integer::Refused(n, place) => Coded::Refused(n, place),
+        Integer::Plus(x, next) => Ok((10 + 2 * kept_number(x), next)),
+        Integer::Minus(_, _) => Err(Refused {
+            number: refusals::NOT_LISTED,
+            at,
+        }),
+        Integer::Refused(n, place) => Err(Refused {
+            number: n,
+            at: place,
+        }),
     }
 }
 
-pub fn heap_at(s: &[u8], at: usize) -> Coded
+pub fn heap_at(s: &[u8], at: usize) -> Read<u64>
     ensures { result ≡ coded_is heap_code_kept (heap_at s.now at) }
 {
     let first = number_bytes::byte_at(s, at);
-    let Byte::Is(b) = first else {
-        return Coded::Refused(refusals::BYTES_END, at);
+    let Some(b) = first else {
+        return Err(Refused {
+            number: refusals::BYTES_END,
+            at,
+        });
     };
     if b == 0x62 {
         return exact_at(s, at + 1);
     }
     let named = type_abstract::abstract_of(b);
-    let AbstractType::Is(a) = named else {
+    let Some(a) = named else {
         return defined_at(s, at);
     };
-    Coded::Is(a, at + 1)
+    Ok((a, at + 1))
 }
 
-// A number type's code, where the byte is one.
-#[derive(Clone, Copy)]
-pub enum NumberType {
-    Is(u64),
-    NotOne,
-}
-
-fn number_of(b: u64) -> NumberType
+fn number_of(b: u64) -> Option<u64>
     ensures { result ≡ number_is (number_of b) }
 {
     match b {
-        0x7F => NumberType::Is(0),
-        0x7E => NumberType::Is(1),
-        0x7D => NumberType::Is(2),
-        0x7C => NumberType::Is(3),
-        _ => NumberType::NotOne,
+        0x7F => Some(0),
+        0x7E => Some(1),
+        0x7D => Some(2),
+        0x7C => Some(3),
+        _ => None,
     }
 }
 
 // 63 or 64 was read: the heap type of a reference.
-fn referent_at(s: &[u8], at: usize, nullable: bool) -> Coded
+fn referent_at(s: &[u8], at: usize, nullable: bool) -> Read<u64>
     ensures { result ≡ coded_is val_code_kept (referent_at nullable s.now at) }
 {
-    let read = heap_at(s, at);
-    let Coded::Is(code, next) = read else {
-        return read;
-    };
+    let (code, next) = heap_at(s, at)?;
     if nullable {
-        return Coded::Is(5 + 2 * code, next);
+        return Ok((5 + 2 * code, next));
     }
-    Coded::Is(4 + 2 * code, next)
+    Ok((4 + 2 * code, next))
 }
 
 // What a first byte b at `at` that is no number's begins: a reference, whose heap type is read at `next`, or an abstract
 // code alone, which is its nullable reference.
-fn reference_at(s: &[u8], at: usize, b: u64, next: usize) -> Coded
+fn reference_at(s: &[u8], at: usize, b: u64, next: usize) -> Read<u64>
     ensures { result ≡ coded_is val_code_kept (reference_at b s.now at next) }
 {
     if b == 0x63 {
@@ -116,53 +103,59 @@ fn reference_at(s: &[u8], at: usize, b: u64, next: usize) -> Coded
         return referent_at(s, next, false);
     }
     let named = type_abstract::abstract_of(b);
-    let AbstractType::Is(a) = named else {
-        return Coded::Refused(refusals::NOT_LISTED, at);
+    let Some(a) = named else {
+        return Err(Refused {
+            number: refusals::NOT_LISTED,
+            at,
+        });
     };
-    Coded::Is(5 + 2 * a, next)
+    Ok((5 + 2 * a, next))
 }
 
-pub fn val_at(s: &[u8], at: usize) -> Coded
+pub fn val_at(s: &[u8], at: usize) -> Read<u64>
     ensures { result ≡ coded_is val_code_kept (val_at s.now at) }
 {
     let first = number_bytes::byte_at(s, at);
-    let Byte::Is(b) = first else {
-        return Coded::Refused(refusals::BYTES_END, at);
+    let Some(b) = first else {
+        return Err(Refused {
+            number: refusals::BYTES_END,
+            at,
+        });
     };
     let named = number_of(b);
-    let NumberType::Is(n) = named else {
+    let Some(n) = named else {
         return reference_at(s, at, b, at + 1);
     };
-    Coded::Is(n, at + 1)
+    Ok((n, at + 1))
 }
 
 // 00 fixed or 01 mutable, as 0 or 1.
-fn flag_at(s: &[u8], at: usize) -> Coded
+fn flag_at(s: &[u8], at: usize) -> Read<u64>
     ensures { result ≡ coded_is flag (flag_at s.now at) }
 {
     let first = number_bytes::byte_at(s, at);
-    let Byte::Is(b) = first else {
-        return Coded::Refused(refusals::BYTES_END, at);
+    let Some(b) = first else {
+        return Err(Refused {
+            number: refusals::BYTES_END,
+            at,
+        });
     };
     if b == 0 {
-        return Coded::Is(0, at + 1);
+        return Ok((0, at + 1));
     }
     if b == 1 {
-        return Coded::Is(1, at + 1);
+        return Ok((1, at + 1));
     }
-    Coded::Refused(refusals::NOT_LISTED, at)
+    Err(Refused {
+        number: refusals::NOT_LISTED,
+        at,
+    })
 }
 
-pub fn field_at(s: &[u8], at: usize) -> Coded
+pub fn field_at(s: &[u8], at: usize) -> Read<u64>
     ensures { result ≡ coded_is field_code_kept (field_at s.now at) }
 {
-    let holds = val_at(s, at);
-    let Coded::Is(code, next) = holds else {
-        return holds;
-    };
-    let mutable = flag_at(s, next);
-    let Coded::Is(bit, end) = mutable else {
-        return mutable;
-    };
-    Coded::Is(2 * code + bit, end)
+    let (code, next) = val_at(s, at)?;
+    let (bit, end) = flag_at(s, next)?;
+    Ok((2 * code + bit, end))
 }

@@ -8,8 +8,6 @@ ghost use Rattle.type_table.specs.View.{view, both_codes};
 ghost use Rattle.type_table.specs.Answers.{link_option};
 ghost use Rattle.type_rules.specs.Clauses.{descriptor_agrees, described_agrees};
 
-use type_table::Link;
-
 // Rule 3: clauses stand on structs only.
 pub fn clauses_on_struct(rows: &[u16], shared: &[u16], codes: &[u16], x: u64) -> bool
     ensures { result ≡ clauses_on_struct (view rows.now (both_codes shared.now codes.now)) x }
@@ -18,13 +16,13 @@ pub fn clauses_on_struct(rows: &[u16], shared: &[u16], codes: &[u16], x: u64) ->
         return true;
     }
     let described = type_table::describes_of(rows, shared, codes, x);
-    let Link::Nothing = described else {
+    let None = described else {
         return false;
     };
     let descriptor = type_table::descriptor_of(rows, shared, codes, x);
     match descriptor {
-        Link::Nothing => true,
-        Link::To(_) => false,
+        None => true,
+        Some(_) => false,
     }
 }
 
@@ -34,18 +32,18 @@ pub fn describes_earlier(rows: &[u16], shared: &[u16], codes: &[u16], x: u64) ->
 {
     let described = type_table::describes_of(rows, shared, codes, x);
     match described {
-        Link::Nothing => true,
-        Link::To(y) => y < x,
+        None => true,
+        Some(y) => y < x,
     }
 }
 
 // Whether this very type is the one that a link names.
-pub fn is_the(link: Link, y: u64) -> bool
+pub fn is_the(link: Option<u64>, y: u64) -> bool
     ensures { result ≡ is_the (link_option link) y }
 {
     match link {
-        Link::Nothing => false,
-        Link::To(z) => z == y,
+        None => false,
+        Some(z) => z == y,
     }
 }
 
@@ -55,8 +53,8 @@ fn descriptor_agrees(rows: &[u16], shared: &[u16], codes: &[u16], x: u64) -> boo
 {
     let descriptor = type_table::descriptor_of(rows, shared, codes, x);
     match descriptor {
-        Link::Nothing => true,
-        Link::To(y) => {
+        None => true,
+        Some(y) => {
             let back = type_table::describes_of(rows, shared, codes, y);
             is_the(back, x)
         }
@@ -69,8 +67,8 @@ fn described_agrees(rows: &[u16], shared: &[u16], codes: &[u16], x: u64) -> bool
 {
     let described = type_table::describes_of(rows, shared, codes, x);
     match described {
-        Link::Nothing => true,
-        Link::To(y) => {
+        None => true,
+        Some(y) => {
             let back = type_table::descriptor_of(rows, shared, codes, y);
             is_the(back, x)
         }

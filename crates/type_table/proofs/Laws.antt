@@ -8,6 +8,8 @@ use mathlib.Core.List.{List, [], ◌∷◌}
 use native.Mathlib.Numerals.{sub-one}
 use native.Mathlib.Omega.{arith}
 use lib.Dec.{eqb}
+use Rattle.scope.specs.Told.{Maybe}
+use Rattle.std.specs.Prelude.{None, Some}
 use Rattle.scope.specs.Syntax.{Heap, abstract, defined, exact, Number, Val, num, ref}
 use Rattle.scope.specs.Order.{number_code}
 use Rattle.scope.proofs.Impossible.{impossible}
@@ -15,8 +17,6 @@ use Rattle.type_abstract.specs.Heaps.{abstract_at}
 use Rattle.type_abstract.proofs.Laws.{at_code, code_at}
 use Rattle.lent_u16.specs.Words.{WordAt}
 use Rattle.type_table.specs.View.{heap_at_code, val_at_code, codes_at}
-use Rattle.type_table.specs.declared.Link.{Link}
-use Rattle.type_table.specs.declared.Link
 use Rattle.type_table.specs.declared.HeapKind.{HeapKind}
 use Rattle.type_table.specs.declared.HeapKind
 use Rattle.type_table.specs.declared.ValKind.{ValKind}
@@ -26,15 +26,15 @@ use Rattle.type_table.proofs.Codes.{heap_abstract, heap_exact, heap-defined, val
 
 -- a link, taken apart
 
-pub link_nothing : (o : Option ℕ) {r : Link} → r ≡ link_is o → r ≡ Link.TheVariants.Nothing → o ≡ none
+pub link_nothing : (o : Option ℕ) {r : Maybe ℕ} → r ≡ link_is o → r ≡ None → o ≡ none
 link_nothing none p q = refl
 link_nothing (some x) p q = impossible cc
 
-pub link_to : (o : Option ℕ) {r : Link} {x : ℕ} → r ≡ link_is o → r ≡ Link.TheVariants.To x → o ≡ some x
+pub link_to : (o : Option ℕ) {r : Maybe ℕ} {x : ℕ} → r ≡ link_is o → r ≡ Some x → o ≡ some x
 link_to none p q = impossible cc
 link_to (some y) p q = cc
 
-pub link_read : (o : Option ℕ) {r : Link} → r ≡ link_is o → link_option r ≡ o
+pub link_read : (o : Option ℕ) {r : Maybe ℕ} → r ≡ link_is o → link_option r ≡ o
 link_read none p = ap link_option p
 link_read (some x) p = ap link_option p
 

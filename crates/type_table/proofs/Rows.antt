@@ -8,6 +8,8 @@ use native.Mathlib.Omega.{arith}
 use borrow.Author.Tests.{eq-eqb, ne_eqb}
 use lib.Dec.{eqb}
 use lib.ListN.{length}
+use Rattle.scope.specs.Told.{Maybe}
+use Rattle.std.specs.Prelude.{None, Some}
 use Rattle.scope.specs.Layout.{row_span}
 use Rattle.scope.specs.Lists.{as_list}
 use Rattle.scope.specs.Syntax.{first_of, super_of}
@@ -16,8 +18,6 @@ use Rattle.lent_u16.specs.Words.{WordAt}
 use Rattle.lent_u16.proofs.Laws.{word_past}
 use Rattle.type_table.specs.RowWords.{form_word, count_word, results_word, open_word, super_word, describes_word, descriptor_word, from_word, to_word, reach_word, first_word, further_word, func_form}
 use Rattle.type_table.specs.View.{link_at, form_at_words, view}
-use Rattle.type_table.specs.declared.Link.{Link}
-use Rattle.type_table.specs.declared.Link
 use Rattle.type_table.specs.declared.Supers.{Supers}
 use Rattle.type_table.specs.declared.Supers
 use Rattle.type_table.specs.declared.Shape.{Shape}
@@ -41,10 +41,10 @@ link_none {w} z = rw (eq-eqb w 0 z)
 link_some : {w : ℕ} → (w ≡ 0 → ⊥) → link_at w ≡ some (w - 1)
 link_some {w} z = rw (ne_eqb w 0 z)
 
-pub link_nothing : (w : ℕ) → w ≡ 0 → Link.TheVariants.Nothing ≡ link_is (link_at w)
+pub link_nothing : (w : ℕ) → w ≡ 0 → None ≡ link_is (link_at w)
 link_nothing w z = rw (link_none z)
 
-pub link_to : (w : ℕ) → (w ≡ 0 → ⊥) → Link.TheVariants.To (w - 1) ≡ link_is (link_at w)
+pub link_to : (w : ℕ) → (w ≡ 0 → ⊥) → Some (w - 1) ≡ link_is (link_at w)
 link_to w z = rw (link_some z)
 
 module _ (rows codes : List ℕ) (x : ℕ) where
@@ -52,11 +52,11 @@ module _ (rows codes : List ℕ) (x : ℕ) where
   unfolding view
   open_is a = rw a.is
 
-  pub describes_is : {w : ℕ} {r : Link} → WordAt rows (row_span * x + describes_word) w → r ≡ link_is (link_at w) → r ≡ link_is (view rows codes x).describes
+  pub describes_is : {w : ℕ} {r : Maybe ℕ} → WordAt rows (row_span * x + describes_word) w → r ≡ link_is (link_at w) → r ≡ link_is (view rows codes x).describes
   unfolding view
   describes_is a e = rw (e, a.is)
 
-  pub descriptor_is_lem : {w : ℕ} {r : Link} → WordAt rows (row_span * x + descriptor_word) w → r ≡ link_is (link_at w) → r ≡ link_is (view rows codes x).descriptor
+  pub descriptor_is_lem : {w : ℕ} {r : Maybe ℕ} → WordAt rows (row_span * x + descriptor_word) w → r ≡ link_is (link_at w) → r ≡ link_is (view rows codes x).descriptor
   unfolding view
   descriptor_is_lem a e = rw (e, a.is)
 
@@ -90,7 +90,7 @@ module _ (rows codes : List ℕ) (x : ℕ) where
   pub supers_both : {w v : ℕ} → WordAt rows (row_span * x + super_word) w → WordAt rows (row_span * x + further_word) v → (w ≡ 0 → ⊥) → (v ≡ 0 → ⊥) → (view rows codes x).supers ≡ supers_list (Supers.TheVariants.Two (w - 1) (v - 1))
   supers_both a b e f = supers_are a b (link_some e) (link_some f)
 
-  pub super_first : {w : ℕ} → WordAt rows (row_span * x + super_word) w → (w ≡ 0 → ⊥) → Link.TheVariants.To (w - 1) ≡ link_is (super_of (view rows codes x))
+  pub super_first : {w : ℕ} → WordAt rows (row_span * x + super_word) w → (w ≡ 0 → ⊥) → Some (w - 1) ≡ link_is (super_of (view rows codes x))
   unfolding view
   super_first {w} a e = rw (← a.is, ne_eqb w 0 e)
 
@@ -98,7 +98,7 @@ module _ (rows codes : List ℕ) (x : ℕ) where
   first_of_one none = refl
   first_of_one (some p) = refl
 
-  pub super_second : {w v : ℕ} {r : Link} → WordAt rows (row_span * x + super_word) w → w ≡ 0 → WordAt rows (row_span * x + further_word) v → r ≡ link_is (link_at v) → r ≡ link_is (super_of (view rows codes x))
+  pub super_second : {w v : ℕ} {r : Maybe ℕ} → WordAt rows (row_span * x + super_word) w → w ≡ 0 → WordAt rows (row_span * x + further_word) v → r ≡ link_is (link_at v) → r ≡ link_is (super_of (view rows codes x))
   unfolding view
   super_second {w} {v} a e b f = rw (f, ← a.is, ← b.is, eq-eqb w 0 e, first_of_one (link_at v))
 

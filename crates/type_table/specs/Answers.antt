@@ -1,12 +1,12 @@
 -- What the questions asked of the table answer, by what its words say (View.antt).
 use Rattle.std.specs.Prelude.{ℕ, List, [], ◌∷◌}
 use Rattle.std.proofs.Math.Option.{Option, none, some}
+use Rattle.scope.specs.Told.{Maybe}
+use Rattle.std.specs.Prelude.{None, Some}
 use Rattle.scope.specs.Syntax.{Heap, abstract, defined, exact, Val, num, ref, Form, struct, func}
 use Rattle.scope.specs.Order.{number_code}
 use Rattle.scope.specs.Memory.{abstract_code, heap_code}
 use Rattle.type_table.specs.View.{val_at_code, field_at_code, codes_at}
-use Rattle.type_table.specs.declared.Link.{Link}
-use Rattle.type_table.specs.declared.Link
 use Rattle.type_table.specs.declared.Supers.{Supers}
 use Rattle.type_table.specs.declared.Supers
 use Rattle.type_table.specs.declared.Shape.{Shape}
@@ -16,14 +16,14 @@ use Rattle.type_table.specs.declared.HeapKind
 use Rattle.type_table.specs.declared.ValKind.{ValKind}
 use Rattle.type_table.specs.declared.ValKind
 
-abbrev pub link_is : Option ℕ → Link
-link_is none = Link.TheVariants.Nothing
-link_is (some x) = Link.TheVariants.To x
+abbrev pub link_is : Option ℕ → Maybe ℕ
+link_is none = None
+link_is (some x) = Some x
 
 -- the number that a link names, the other way
-abbrev pub link_option : Link → Option ℕ
-link_option Link.TheVariants.Nothing = none
-link_option (Link.TheVariants.To x) = some x
+abbrev pub link_option : Maybe ℕ → Option ℕ
+link_option None = none
+link_option (Some x) = some x
 
 -- the supertypes that an answer names
 abbrev pub supers_list : Supers → List ℕ

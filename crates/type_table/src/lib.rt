@@ -51,13 +51,6 @@ const NO_ROW: u64 = 576460752303423488;
 // The add-on's codes have the places below this one, the library's those from it on.
 pub const SHARED: u64 = sizes::CODES as u64;
 
-// A type number that may be missing.
-#[derive(Clone, Copy)]
-pub enum Link {
-    Nothing,
-    To(u64),
-}
-
 // The supertypes that the table keeps: rule 1 refuses a second one.
 #[derive(Clone, Copy)]
 pub enum Supers {
@@ -110,14 +103,10 @@ pub fn code_word(shared: &[u16], codes: &[u16], at: u64) -> u64
     }
 }
 
-fn link_of(w: u64) -> Link
+fn link_of(w: u64) -> Option<u64>
     ensures { result ≡ link_is (link_at w) }
 {
-    if w == 0 {
-        Link::Nothing
-    } else {
-        Link::To(w - 1)
-    }
+    if w == 0 { None } else { Some(w - 1) }
 }
 
 pub fn is_open(rows: &[u16], shared: &[u16], codes: &[u16], x: u64) -> bool
@@ -127,14 +116,14 @@ pub fn is_open(rows: &[u16], shared: &[u16], codes: &[u16], x: u64) -> bool
 }
 
 // The first supertype.
-pub fn super_of(rows: &[u16], shared: &[u16], codes: &[u16], x: u64) -> Link
+pub fn super_of(rows: &[u16], shared: &[u16], codes: &[u16], x: u64) -> Option<u64>
     ensures { result ≡ link_is (super_of (view rows.now (both_codes shared.now codes.now) x)) }
 {
     let w = row_word(rows, x, SUPER);
     if w == 0 {
         link_of(row_word(rows, x, FURTHER))
     } else {
-        Link::To(w - 1)
+        Some(w - 1)
     }
 }
 
@@ -158,13 +147,13 @@ pub fn supers_of(rows: &[u16], shared: &[u16], codes: &[u16], x: u64) -> Supers
     }
 }
 
-pub fn describes_of(rows: &[u16], shared: &[u16], codes: &[u16], x: u64) -> Link
+pub fn describes_of(rows: &[u16], shared: &[u16], codes: &[u16], x: u64) -> Option<u64>
     ensures { result ≡ link_is (view rows.now (both_codes shared.now codes.now) x).describes }
 {
     link_of(row_word(rows, x, DESCRIBES))
 }
 
-pub fn descriptor_of(rows: &[u16], shared: &[u16], codes: &[u16], x: u64) -> Link
+pub fn descriptor_of(rows: &[u16], shared: &[u16], codes: &[u16], x: u64) -> Option<u64>
     ensures { result ≡ link_is (view rows.now (both_codes shared.now codes.now) x).descriptor }
 {
     link_of(row_word(rows, x, DESCRIPTOR))

@@ -3,8 +3,8 @@ use borrow.Author.Rules.{rules}
 use Rattle.type_follow.proofs.Following.{describes_exits}
 use Rattle.type_follow.proofs.describes_follows.Goals as goal
 
-pub returns-in-Nothing : goal.returns-in-Nothing
-returns-in-Nothing c = search (describes_exits, rules)
+pub returns-in-None : goal.returns-in-None
+returns-in-None c = search (describes_exits, rules)
 
-pub returns-in-To : goal.returns-in-To
-returns-in-To c = search (describes_exits, rules)
+pub returns-in-Some : goal.returns-in-Some
+returns-in-Some c = search (describes_exits, rules)

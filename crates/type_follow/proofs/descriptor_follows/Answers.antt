@@ -6,8 +6,8 @@ use Rattle.type_follow.proofs.descriptor_follows.Goals as goal
 pub returns-in_default : goal.returns-in_default
 returns-in_default c = search (descriptor_exits, rules)
 
-pub returns-in-Nothing : goal.returns-in-Nothing
-returns-in-Nothing c = search (descriptor_exits, rules)
+pub returns-in-None : goal.returns-in-None
+returns-in-None c = search (descriptor_exits, rules)
 
-pub returns-in-To-descriptor : goal.returns-in-To-descriptor
-returns-in-To-descriptor c = search (descriptor_exits, rules)
+pub returns-in-Some-descriptor : goal.returns-in-Some-descriptor
+returns-in-Some-descriptor c = search (descriptor_exits, rules)

@@ -3,8 +3,8 @@ use borrow.Author.Rules.{rules}
 use Rattle.type_follow.proofs.Following.{descriptor_exits}
 use Rattle.type_follow.proofs.descriptor_under.Goals as goal
 
-pub returns-in-Nothing : goal.returns-in-Nothing
-returns-in-Nothing c = search (descriptor_exits, rules)
+pub returns-in-None : goal.returns-in-None
+returns-in-None c = search (descriptor_exits, rules)
 
-pub returns-in-To : goal.returns-in-To
-returns-in-To c = search (descriptor_exits, rules)
+pub returns-in-Some : goal.returns-in-Some
+returns-in-Some c = search (descriptor_exits, rules)

@@ -3,8 +3,8 @@ use borrow.Author.Rules.{rules}
 use Rattle.type_read.proofs.Heaps.{number_exits}
 use Rattle.type_read.proofs.exact_at.Goals as goal
 
-pub returns-in-Is : goal.returns-in-Is
-returns-in-Is c = search (number_exits, rules)
+pub returns : goal.returns
+returns c = search (number_exits, rules)
 
-pub returns-in-Refused : goal.returns-in-Refused
-returns-in-Refused c = search (number_exits, rules)
+pub returns-in_err-x : goal.returns-in_err-x
+returns-in_err-x c = search (number_exits, rules)

@@ -3,8 +3,8 @@ use borrow.Author.Rules.{rules}
 use Rattle.type_read.proofs.Vals.{referent_exits}
 use Rattle.type_read.proofs.referent_at.Goals as goal
 
-pub returns-in_default : goal.returns-in_default
-returns-in_default c = search (referent_exits, rules)
+pub returns-in_err-code : goal.returns-in_err-code
+returns-in_err-code c = search (referent_exits, rules)
 
 pub overflow_mul-result : goal.overflow_mul-result
 overflow_mul-result c = search (referent_exits, rules)

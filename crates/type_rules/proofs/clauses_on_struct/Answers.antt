@@ -9,8 +9,8 @@ returns-then-is_struct c = search (struct_exits, rules)
 pub returns-in_default : goal.returns-in_default
 returns-in_default c = search (struct_exits, rules)
 
-pub returns-in-Nothing-descriptor : goal.returns-in-Nothing-descriptor
-returns-in-Nothing-descriptor c = search (struct_exits, rules)
+pub returns-in-None-descriptor : goal.returns-in-None-descriptor
+returns-in-None-descriptor c = search (struct_exits, rules)
 
-pub returns-in-To : goal.returns-in-To
-returns-in-To c = search (struct_exits, rules)
+pub returns-in-Some : goal.returns-in-Some
+returns-in-Some c = search (struct_exits, rules)

@@ -3,8 +3,8 @@ use borrow.Author.Rules.{rules}
 use Rattle.type_rules.proofs.Clauses.{agree_exits}
 use Rattle.type_rules.proofs.described_agrees.Goals as goal
 
-pub returns-in-Nothing : goal.returns-in-Nothing
-returns-in-Nothing c = search (agree_exits, rules)
+pub returns-in-None : goal.returns-in-None
+returns-in-None c = search (agree_exits, rules)
 
-pub returns-in-To : goal.returns-in-To
-returns-in-To c = search (agree_exits, rules)
+pub returns-in-Some : goal.returns-in-Some
+returns-in-Some c = search (agree_exits, rules)

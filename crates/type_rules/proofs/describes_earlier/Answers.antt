@@ -3,8 +3,8 @@ use borrow.Author.Rules.{rules}
 use Rattle.type_rules.proofs.Clauses.{struct_exits}
 use Rattle.type_rules.proofs.describes_earlier.Goals as goal
 
-pub returns-in-Nothing : goal.returns-in-Nothing
-returns-in-Nothing c = search (struct_exits, rules)
+pub returns-in-None : goal.returns-in-None
+returns-in-None c = search (struct_exits, rules)
 
-pub returns-in-To : goal.returns-in-To
-returns-in-To c = search (struct_exits, rules)
+pub returns-in-Some : goal.returns-in-Some
+returns-in-Some c = search (struct_exits, rules)

@@ -3,5 +3,5 @@ use borrow.Author.Rules.{rules}
 use Rattle.type_rules.proofs.Clauses.{the_exits}
 use Rattle.type_rules.proofs.is_the.Goals as goal
 
-pub returns-in-To : goal.returns-in-To
-returns-in-To c = search (the_exits, rules)
+pub returns-in-Some : goal.returns-in-Some
+returns-in-Some c = search (the_exits, rules)
