@@ -7,9 +7,10 @@ use mathlib.Core.Bool.{true, false}
 use mathlib.Core.Option.{none, some}
 use mathlib.Core.List.{List, [], ◌∷◌}
 use lib.ListN.{replicate, get_elem?}
+use Rattle.scope.specs.Told.{no_in}
+use Rattle.std.specs.Prelude.{Result, Ok, Err}
+use Rattle.scope.specs.declared.Rejected.{Rejected}
 use Rattle.scope.specs.Sections.{empty_library}
-use Rattle.scope.specs.declared.Verdict.{Verdict}
-use Rattle.scope.specs.declared.Verdict
 use Rattle.scope.specs.declared.Ran.{Ran}
 use Rattle.scope.specs.declared.Ran
 use Rattle.scope.specs.Layout.{rows_size, codes_size, work_size, ends_size, counts_size, objects_size, cells_size, locals_size, operands_size, blocks_size}
@@ -50,7 +51,7 @@ codes = replicate codes_size 7
 abbrev shared : List ℕ
 shared = replicate codes_size 7
 
-abbrev judged : List ℕ → List ℕ → Verdict → Type 0
+abbrev judged : List ℕ → List ℕ → Result ℕ Rejected → Type 0
 judged s lent r =
     let call = section_call empty_library s lent shared codes in
     SectionJudged empty_library s lent shared codes (lent_after joined_rows lent call) (lent_after joined_shared shared call) (lent_after joined_codes codes call) r
@@ -59,7 +60,7 @@ judged s lent r =
 abbrev pair : List ℕ
 pair = 0x01 ∷ 0x4E ∷ 0x02 ∷ 0x4D ∷ 0x01 ∷ 0x5F ∷ 0x00 ∷ 0x4C ∷ 0x00 ∷ 0x5F ∷ 0x00 ∷ []
 
-pair_promise : judged pair rows (Verdict.TheVariants.Accepted 2)
+pair_promise : judged pair rows (Ok 2)
 unfolding computes
 pair_promise = record { answer = refl; rows_after = refl; shared_after = refl; codes_after = refl }
 
@@ -70,7 +71,7 @@ pair_accepted = ((sections pair_promise).accepted 2).0 refl
 abbrev swapped : List ℕ
 swapped = 0x01 ∷ 0x4E ∷ 0x02 ∷ 0x4C ∷ 0x01 ∷ 0x5F ∷ 0x00 ∷ 0x4D ∷ 0x00 ∷ 0x5F ∷ 0x00 ∷ []
 
-swapped_promise : judged swapped rows (Verdict.TheVariants.Refused describes_not_earlier (plain 0))
+swapped_promise : judged swapped rows (Err (no_in describes_not_earlier (plain 0)))
 unfolding computes
 swapped_promise = record { answer = refl; rows_after = refl; shared_after = refl; codes_after = refl }
 
@@ -81,7 +82,7 @@ swapped_refused = ((sections swapped_promise).refused describes_not_earlier (pla
 abbrev few_rows : List ℕ
 few_rows = replicate 16_383 7
 
-short_promise : judged pair few_rows (Verdict.TheVariants.Refused buffer_too_small (plain 0))
+short_promise : judged pair few_rows (Err (no_in buffer_too_small (plain 0)))
 unfolding computes
 short_promise = record { answer = refl; rows_after = refl; shared_after = refl; codes_after = refl }
 
@@ -93,10 +94,10 @@ rows_short = (sections short_promise).short.0 refl
 abbrev work : List ℕ
 work = replicate work_size 7
 
-abbrev body_judged : List ℕ → List ℕ → Verdict → Type 0
+abbrev body_judged : List ℕ → List ℕ → Result ℕ Rejected → Type 0
 body_judged s lent r = BodyJudged empty_library F1 s 2 rows shared codes lent (wiped rows) (wiped shared) (wiped codes) (wiped lent) r
 
-two_promise : body_judged two_objects work (Verdict.TheVariants.Accepted 3)
+two_promise : body_judged two_objects work (Ok 3)
 unfolding computes
 two_promise = record { answer = refl; rows_after = refl; shared_after = refl; codes_after = refl; work_after = refl }
 
@@ -106,14 +107,14 @@ two_accepted = ((bodies two_promise).accepted 3).0 refl
 abbrev unwanted : List ℕ
 unwanted = 0x00 ∷ 0xFB ∷ 0x00 ∷ 0x00 ∷ 0x0B ∷ []
 
-unwanted_promise : body_judged unwanted work (Verdict.TheVariants.Refused bad_struct (plain 1))
+unwanted_promise : body_judged unwanted work (Err (no_in bad_struct (plain 1)))
 unfolding computes
 unwanted_promise = record { answer = refl; rows_after = refl; shared_after = refl; codes_after = refl; work_after = refl }
 
 pub unwanted_refused : BodySaysNo empty_library F1 unwanted 2 bad_struct (plain 1)
 unwanted_refused = ((bodies unwanted_promise).refused bad_struct (plain 1) two_accepted.0).0 refl
 
-work_promise : body_judged two_objects [] (Verdict.TheVariants.Refused buffer_too_small (plain 0))
+work_promise : body_judged two_objects [] (Err (no_in buffer_too_small (plain 0)))
 unfolding computes
 work_promise = record { answer = refl; rows_after = refl; shared_after = refl; codes_after = refl; work_after = refl }
 
@@ -342,7 +343,7 @@ third_refused = ((of_asked third_asked).refused out_of_reach (plain 2)).0 refl
 abbrev both_rows : List ℕ
 both_rows = lent_after joined_rows rows (section_call open_struct below_it rows shared codes)
 
-both_promise : SectionJudged open_struct below_it rows shared codes both_rows (lent_after joined_shared shared (section_call open_struct below_it rows shared codes)) (lent_after joined_codes codes (section_call open_struct below_it rows shared codes)) (Verdict.TheVariants.Accepted 2)
+both_promise : SectionJudged open_struct below_it rows shared codes both_rows (lent_after joined_shared shared (section_call open_struct below_it rows shared codes)) (lent_after joined_codes codes (section_call open_struct below_it rows shared codes)) (Ok 2)
 unfolding computes
 both_promise = record { answer = refl; rows_after = refl; shared_after = refl; codes_after = refl }
 

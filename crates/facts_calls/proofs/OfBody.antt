@@ -4,8 +4,9 @@ use mathlib.Core.Path.{◌≡◌, refl, sym, ◌∙◌, ap}
 use mathlib.Core.Bool.{Bool, ◌&&◌}
 use mathlib.Core.List.{List, [], ◌∷◌}
 use lib.ListN.{length}
-use Rattle.scope.specs.declared.Verdict.{Verdict}
-use Rattle.scope.specs.declared.Verdict
+use Rattle.scope.specs.Told.{no_in}
+use Rattle.std.specs.Prelude.{Result, Ok, Err}
+use Rattle.scope.specs.declared.Rejected.{Rejected}
 use Rattle.scope.specs.Refusals.{buffer_too_small}
 use Rattle.scope.specs.Layout.{work_size}
 use Rattle.scope.specs.declared.Place.{Place}
@@ -29,7 +30,7 @@ as_many : (code : Code) → length (instructions_of code) ≡ length code
 as_many [] = refl
 as_many (i ∷ code) = rw (as_many code)
 
-module _ {library section s : List ℕ} {x : ℕ} {rows shared codes work rows' shared' codes' work' : List ℕ} {r : Verdict} (promise : BodyJudged library section s x rows shared codes work rows' shared' codes' work' r) where
+module _ {library section s : List ℕ} {x : ℕ} {rows shared codes work rows' shared' codes' work' : List ℕ} {r : Result ℕ Rejected} (promise : BodyJudged library section s x rows shared codes work rows' shared' codes' work' r) where
   abbrev lent : Bool
   lent = table_lent rows shared codes && holds work_size work
 
@@ -39,7 +40,7 @@ module _ {library section s : List ℕ} {x : ℕ} {rows shared codes work rows' 
   own_call : BodySuffices rows shared codes work → call ≡ judge_body library section s x
   own_call t = lent-call lent (judge_body library section s x) (body-lent t)
 
-  yes_allowed : (n : ℕ) → r ≡ Verdict.TheVariants.Accepted n → BodySuffices rows shared codes work × BodyOf library section s x n
+  yes_allowed : (n : ℕ) → r ≡ Ok n → BodySuffices rows shared codes work × BodyOf library section s x n
   yes_allowed n e =
       let (b, called, many) = verdict-yes instructions call (sym promise.answer ∙ e) in
       let (suffices, judged) = lent-yes lent (judge_body library section s x) called in
@@ -62,18 +63,18 @@ module _ {library section s : List ℕ} {x : ℕ} {rows shared codes work rows' 
       let (code, verdict, placed, same) = derived_body library section s x judged a.derivation in
       (_, own_call t ∙ verdict, sym (as_many code) ∙ ap length same ∙ a.many)
 
-  allowed_yes : (n : ℕ) → BodySuffices rows shared codes work × BodyOf library section s x n → r ≡ Verdict.TheVariants.Accepted n
+  allowed_yes : (n : ℕ) → BodySuffices rows shared codes work × BodyOf library section s x n → r ≡ Ok n
   allowed_yes n (t, a) =
       let (b, verdict, many) = called n t a in
-      promise.answer ∙ ap (verdict_of instructions) verdict ∙ ap Verdict.TheVariants.Accepted many
+      promise.answer ∙ ap (verdict_of instructions) verdict ∙ ap Ok many
 
-  said : {number : ℕ} {place : Place} → r ≡ Verdict.TheVariants.Refused number place → call ≡ rejected number place
+  said : {no : Rejected} → r ≡ Err no → call ≡ rejected no.number no.place
   said e = verdict-no instructions call (sym promise.answer ∙ e)
 
-  says : {number : ℕ} {place : Place} → call ≡ rejected number place → r ≡ Verdict.TheVariants.Refused number place
+  says : {no : Rejected} → call ≡ rejected no.number no.place → r ≡ Err no
   says e = promise.answer ∙ ap (verdict_of instructions) e
 
-  fourteen : (place : Place) → r ≡ Verdict.TheVariants.Refused buffer_too_small place → BodyShort rows shared codes work × (place ≡ plain 0)
+  fourteen : (place : Place) → r ≡ Err (no_in buffer_too_small place) → BodyShort rows shared codes work × (place ≡ plain 0)
   fourteen place e =
       lent-no lent (judge_body library section s x) (said e)
       (λ short at. (body_is_short short, at))

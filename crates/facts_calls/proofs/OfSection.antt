@@ -3,8 +3,9 @@
 use Prim.Native.Nat.{ℕ}
 use mathlib.Core.Path.{◌≡◌, sym, ◌∙◌, ap}
 use mathlib.Core.List.{List}
-use Rattle.scope.specs.declared.Verdict.{Verdict}
-use Rattle.scope.specs.declared.Verdict
+use Rattle.scope.specs.Told.{no_in}
+use Rattle.std.specs.Prelude.{Result, Ok, Err}
+use Rattle.scope.specs.declared.Rejected.{Rejected}
 use Rattle.scope.specs.Refusals.{buffer_too_small}
 use Rattle.scope.specs.declared.Place.{Place}
 use Rattle.scope.specs.Judging.{plain, accepted, rejected, Joined, judge_joined}
@@ -25,14 +26,14 @@ use Rattle.facts_calls.proofs.Verdicts.{accepted_is_not_rejected, verdict-yes, v
 use Rattle.facts_calls.proofs.RowTells.{row_tells}
 use Rattle.facts_calls.proofs.Fourteen.{section_never_14}
 
-module _ {library s rows shared codes rows' shared' codes' : List ℕ} {r : Verdict} (promise : SectionJudged library s rows shared codes rows' shared' codes' r) where
+module _ {library s rows shared codes rows' shared' codes' : List ℕ} {r : Result ℕ Rejected} (promise : SectionJudged library s rows shared codes rows' shared' codes' r) where
   own_call : TableSuffices rows shared codes → section_call library s rows shared codes ≡ judge_joined library s
   own_call t = lent-call (table_lent rows shared codes) (judge_joined library s) (table-lent t)
 
   too_short : TableShort rows shared codes → section_call library s rows shared codes ≡ rejected buffer_too_small (plain 0)
   too_short t = short_call (table_lent rows shared codes) (judge_joined library s) (short_table t)
 
-  yes_allowed : (n : ℕ) → r ≡ Verdict.TheVariants.Accepted n → TableSuffices rows shared codes × SectionOf library s n
+  yes_allowed : (n : ℕ) → r ≡ Ok n → TableSuffices rows shared codes × SectionOf library s n
   yes_allowed n e =
       let (j, call, many) = verdict-yes counted (section_call library s rows shared codes) (sym promise.answer ∙ e) in
       let (lent, judged) = lent-yes (table_lent rows shared codes) (judge_joined library s) call in
@@ -41,16 +42,16 @@ module _ {library s rows shared codes rows' shared' codes' : List ℕ} {r : Verd
   called : (j : Joined) → TableSuffices rows shared codes → Allowed library s j → section_call library s rows shared codes ≡ accepted j
   called j t a = own_call t ∙ (accepted_exactly library s j).1 a
 
-  allowed_yes : (n : ℕ) → TableSuffices rows shared codes × SectionOf library s n → r ≡ Verdict.TheVariants.Accepted n
-  allowed_yes n (t, a) = promise.answer ∙ ap (verdict_of counted) (called a.both t a.allowed) ∙ ap Verdict.TheVariants.Accepted a.many
+  allowed_yes : (n : ℕ) → TableSuffices rows shared codes × SectionOf library s n → r ≡ Ok n
+  allowed_yes n (t, a) = promise.answer ∙ ap (verdict_of counted) (called a.both t a.allowed) ∙ ap Ok a.many
 
-  said : {number : ℕ} {place : Place} → r ≡ Verdict.TheVariants.Refused number place → section_call library s rows shared codes ≡ rejected number place
+  said : {no : Rejected} → r ≡ Err no → section_call library s rows shared codes ≡ rejected no.number no.place
   said e = verdict-no counted (section_call library s rows shared codes) (sym promise.answer ∙ e)
 
-  says : {number : ℕ} {place : Place} → section_call library s rows shared codes ≡ rejected number place → r ≡ Verdict.TheVariants.Refused number place
+  says : {no : Rejected} → section_call library s rows shared codes ≡ rejected no.number no.place → r ≡ Err no
   says e = promise.answer ∙ ap (verdict_of counted) e
 
-  fourteen : (place : Place) → r ≡ Verdict.TheVariants.Refused buffer_too_small place → TableShort rows shared codes × (place ≡ plain 0)
+  fourteen : (place : Place) → r ≡ Err (no_in buffer_too_small place) → TableShort rows shared codes × (place ≡ plain 0)
   fourteen place e =
       lent-no (table_lent rows shared codes) (judge_joined library s) (said e)
       (λ short at. (table_is_short short, at))

@@ -4,12 +4,13 @@ use Prim.Native.Nat.{ℕ}
 use mathlib.Core.Path.{◌≡◌, refl, sym}
 use mathlib.Core.Bool.{Bool, true, false}
 use mathlib.Core.List.{List}
-use Rattle.scope.specs.declared.Verdict.{Verdict}
-use Rattle.scope.specs.declared.Verdict
+use Rattle.scope.specs.declared.Rejected.{Rejected}
+use Rattle.std.specs.Prelude.{Ok, Err}
 use Rattle.scope.specs.declared.Ran.{Ran}
 use Rattle.scope.specs.declared.Ran
 use Rattle.scope.specs.Refusals.{buffer_too_small}
 use Rattle.scope.specs.declared.Place.{Place}
+use Rattle.scope.proofs.Told.{rejected_as}
 use Rattle.scope.specs.Judging.{plain, Judged, accepted, rejected}
 use Rattle.scope.specs.Running.{Ending, done, trapped, spent, wrong, Trial}
 use Rattle.scope.specs.Answers.{lent_enough, verdict_of, ran_as, ran_of}
@@ -22,13 +23,13 @@ pub accepted_is_not_rejected : {A : Type 0} {x : A} {n : ℕ} {p : Place} → ac
 accepted_is_not_rejected e = contradiction cc
 
 module _ {A : Type 0} (count : A → ℕ) where
-  pub verdict-yes : (j : Judged A) {n : ℕ} → verdict_of count j ≡ Verdict.TheVariants.Accepted n → (x : A) × (j ≡ accepted x) × (count x ≡ n)
+  pub verdict-yes : (j : Judged A) {n : ℕ} → verdict_of count j ≡ Ok n → (x : A) × (j ≡ accepted x) × (count x ≡ n)
   verdict-yes (accepted x) {n} e = let same : count x ≡ n = cc in (x, refl, same)
   verdict-yes (rejected k p) e = absurd (contradiction cc)
 
-  pub verdict-no : (j : Judged A) {n : ℕ} {p : Place} → verdict_of count j ≡ Verdict.TheVariants.Refused n p → j ≡ rejected n p
+  pub verdict-no : (j : Judged A) {no : Rejected} → verdict_of count j ≡ Err no → j ≡ rejected no.number no.place
   verdict-no (accepted x) e = absurd (contradiction cc)
-  verdict-no (rejected k q) {n} {p} e = let number : k ≡ n = cc in let place : q ≡ p = cc in rw (number, place)
+  verdict-no (rejected k q) e = rejected_as refl e
 
 module _ (s : List ℕ) where
   ended_is_not_refused : (e : Ending) {n : ℕ} {p : Place} → ran_as s e ≡ Ran.TheVariants.Refused n p → ⊥

@@ -6,8 +6,9 @@
 use Rattle.std.specs.Prelude.{ℕ, ◌≤◌, ◌+◌, ◌*◌, ◌<◌, ◌≡◌, ◌↔◌, false, List, length}
 use Rattle.std.proofs.Math.Option.{some}
 use Rattle.std.proofs.Math.ListN.{get_elem?}
-use Rattle.scope.specs.declared.Verdict.{Verdict}
-use Rattle.scope.specs.declared.Verdict
+use Rattle.scope.specs.Told.{no_in}
+use Rattle.std.specs.Prelude.{Result, Ok, Err}
+use Rattle.scope.specs.declared.Rejected.{Rejected}
 use Rattle.scope.specs.declared.Ran.{Ran}
 use Rattle.scope.specs.declared.Ran
 use Rattle.scope.specs.Layout.{row_span, codes_size}
@@ -42,43 +43,43 @@ pub data RowTells (rows : List ℕ) (j : Joined) (x : ℕ) : Type 0 where
   a_library_row : {at : ℕ} → x < j.before → get_elem? rows (codes_begin_at x) ≡ some (codes_size + at) → at < codes_size → RowTells rows j x
   an_addon_row : {at : ℕ} → j.before ≤ x → get_elem? rows (codes_begin_at x) ≡ some at → at < codes_size → RowTells rows j x
 
-module _ {library s rows shared codes rows' shared' codes' : List ℕ} {r : Verdict} where
+module _ {library s rows shared codes rows' shared' codes' : List ℕ} {r : Result ℕ Rejected} where
   pub record OfSection (promise : SectionJudged library s rows shared codes rows' shared' codes' r) : Type 1 where
     -- yes exactly when the buffers suffice and some joined list of n definitions is allowed for these bytes
-    pub accepted : (n : ℕ) → (r ≡ Verdict.TheVariants.Accepted n) ↔ (TableSuffices rows shared codes × SectionOf library s n)
+    pub accepted : (n : ℕ) → (r ≡ Ok n) ↔ (TableSuffices rows shared codes × SectionOf library s n)
     -- "An accepted section gives its type count and its table .., zero beyond."
     pub table : (j : Joined) → TableSuffices rows shared codes → Allowed library s j
         → ZeroBeyond (joined_rows j) rows rows' × ZeroBeyond (joined_shared j) shared shared' × ZeroBeyond (joined_codes j) codes codes'
     pub tells : (j : Joined) → TableSuffices rows shared codes → Allowed library s j → (x : ℕ) → x < length j.types → RowTells rows' j x
     -- Never no to an allowed section: "Demand 2 shuts out the loader that refuses all."
-    pub never : (n number : ℕ) (place : Place) → TableSuffices rows shared codes → SectionOf library s n → ¬ (r ≡ Verdict.TheVariants.Refused number place)
+    pub never : (n number : ℕ) (place : Place) → TableSuffices rows shared codes → SectionOf library s n → ¬ (r ≡ Err (no_in number place))
     -- 14: "a lent buffer under its one size ..; never otherwise": at 0 exactly when one is short, and nowhere else
-    pub short : (r ≡ Verdict.TheVariants.Refused buffer_too_small (plain 0)) ↔ TableShort rows shared codes
-    pub only : (place : Place) → r ≡ Verdict.TheVariants.Refused buffer_too_small place → TableShort rows shared codes × (place ≡ plain 0)
+    pub short : (r ≡ Err (no_in buffer_too_small (plain 0))) ↔ TableShort rows shared codes
+    pub only : (place : Place) → r ≡ Err (no_in buffer_too_small place) → TableShort rows shared codes × (place ≡ plain 0)
     -- any other no exactly when the bytes, or the rules' first fault, say it
-    pub refused : (number : ℕ) (place : Place) → TableSuffices rows shared codes → (r ≡ Verdict.TheVariants.Refused number place) ↔ Refused library s number place
+    pub refused : (number : ℕ) (place : Place) → TableSuffices rows shared codes → (r ≡ Err (no_in number place)) ↔ Refused library s number place
     -- "A section's byte faults (1 to 5)", and 32: where nothing is written, at a byte of the library or of the add-on, or at its
     -- length; 4 and 6 to 13 at the number of a type
-    pub places : (number : ℕ) (place : Place) → TableSuffices rows shared codes → r ≡ Verdict.TheVariants.Refused number place → SaysNo library s number place
+    pub places : (number : ℕ) (place : Place) → TableSuffices rows shared codes → r ≡ Err (no_in number place) → SaysNo library s number place
     -- "Every refusal zeroes all memory lent for writing."
-    pub wipes : (number : ℕ) (place : Place) → r ≡ Verdict.TheVariants.Refused number place → Zero rows rows' × Zero shared shared' × Zero codes codes'
+    pub wipes : (number : ℕ) (place : Place) → r ≡ Err (no_in number place) → Zero rows rows' × Zero shared shared' × Zero codes codes'
 
 -- judging a body
 
-module _ {library section s : List ℕ} {x : ℕ} {rows shared codes work rows' shared' codes' work' : List ℕ} {r : Verdict} where
+module _ {library section s : List ℕ} {x : ℕ} {rows shared codes work rows' shared' codes' work' : List ℕ} {r : Result ℕ Rejected} where
   pub record OfBody (promise : BodyJudged library section s x rows shared codes work rows' shared' codes' work' r) : Type 1 where
     -- yes exactly when the buffers suffice, the sections are allowed, the type is a function's, and a derivation of n instructions
     -- exists
-    pub accepted : (n : ℕ) → (r ≡ Verdict.TheVariants.Accepted n) ↔ (BodySuffices rows shared codes work × BodyOf library section s x n)
+    pub accepted : (n : ℕ) → (r ≡ Ok n) ↔ (BodySuffices rows shared codes work × BodyOf library section s x n)
     -- never no to an allowed body
-    pub never : (n number : ℕ) (place : Place) → BodySuffices rows shared codes work → BodyOf library section s x n → ¬ (r ≡ Verdict.TheVariants.Refused number place)
+    pub never : (n number : ℕ) (place : Place) → BodySuffices rows shared codes work → BodyOf library section s x n → ¬ (r ≡ Err (no_in number place))
     -- 14 at 0 exactly when a buffer is under its size, and nowhere else
-    pub short : (r ≡ Verdict.TheVariants.Refused buffer_too_small (plain 0)) ↔ BodyShort rows shared codes work
-    pub only : (place : Place) → r ≡ Verdict.TheVariants.Refused buffer_too_small place → BodyShort rows shared codes work × (place ≡ plain 0)
+    pub short : (r ≡ Err (no_in buffer_too_small (plain 0))) ↔ BodyShort rows shared codes work
+    pub only : (place : Place) → r ≡ Err (no_in buffer_too_small place) → BodyShort rows shared codes work × (place ≡ plain 0)
     -- the first fault in document 01's order
-    pub refused : (number : ℕ) (place : Place) → BodySuffices rows shared codes work → (r ≡ Verdict.TheVariants.Refused number place) ↔ BodySaysNo library section s x number place
+    pub refused : (number : ℕ) (place : Place) → BodySuffices rows shared codes work → (r ≡ Err (no_in number place)) ↔ BodySaysNo library section s x number place
     -- "Places are byte offsets; .. An instruction's place is its first byte."
-    pub places : (number : ℕ) (place : Place) → BodySuffices rows shared codes work → r ≡ Verdict.TheVariants.Refused number place → BodyPlace library section s x number place
+    pub places : (number : ℕ) (place : Place) → BodySuffices rows shared codes work → r ≡ Err (no_in number place) → BodyPlace library section s x number place
     -- "An accepted body .. leaves scratch zero. Every refusal zeroes all memory lent for writing."
     pub wipes : Zero rows rows' × Zero shared shared' × Zero codes codes' × Zero work work'
 

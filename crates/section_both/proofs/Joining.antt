@@ -8,6 +8,12 @@ use mathlib.Core.List.{List, [], ◌∷◌, ◌++◌, append_assoc, map-append}
 use native.Mathlib.Omega.{arith}
 use lib.ListN.{length, replicate, length-append, length-map}
 use lib.Seq.{take-append_seam, drop-append_seam}
+use Rattle.std.specs.Prelude.{Result, Ok, Err}
+use Rattle.scope.proofs.Told.{rejected_as}
+use Rattle.scope.specs.Told.{no_in}
+use Rattle.std.specs.Prelude.{Result, Ok, Err}
+use Rattle.scope.specs.declared.Rejected.{Rejected}
+use Rattle.scope.specs.declared.Refused.{Refused}
 use Rattle.scope.specs.Layout.{codes_size}
 use Rattle.scope.specs.Reading.{Read, got, refused, given}
 use Rattle.scope.specs.Lists.{joined}
@@ -16,8 +22,6 @@ use Rattle.scope.specs.Sections.{read_after}
 use Rattle.scope.specs.Judging.{in_library, in_addon, plain, Judged, accepted, rejected, and_then, scan, links_fault, rule_fault, judge_types, Joined, judge_more, judge_joined}
 use Rattle.scope.specs.Memory.{starts_of, ends_of, rows_from}
 use Rattle.scope.specs.declared.Place.{Place}
-use Rattle.scope.specs.declared.Verdict.{Verdict}
-use Rattle.scope.specs.declared.Verdict
 use Rattle.scope.proofs.Impossible.{impossible}
 use Rattle.scope.proofs.Accepted.{joined-first, joined-rules, joined_more}
 use Rattle.facts_types.proofs.Longer.{skips_library}
@@ -35,23 +39,19 @@ use Rattle.section_group.specs.Lent.{kept_all}
 use Rattle.section_judge.specs.Verdict.{ruled_is, judge_from}
 use Rattle.section_judge.proofs.Scanning.{ruled_accepted, ruled_refused, judge_all}
 use Rattle.section_reader.specs.Whole.{section_is, SectionPut}
-use Rattle.section_reader.specs.declared.SectionRead.{SectionRead}
-use Rattle.section_reader.specs.declared.SectionRead
 use Rattle.section_reader.proofs.Modest.{read_lengths, read_reach}
 use Rattle.section_reader.proofs.TwoRead.{one-judged, two_viewed, two-judged, two_reach, two-rows}
-use Rattle.section_both.specs.declared.TwoJudged.{TwoJudged}
-use Rattle.section_both.specs.declared.TwoJudged
 use Rattle.section_decide.specs.Deciding.{Decided}
 use Rattle.section_both.specs.Both.{joined_is, two_of, after_is, AfterJudged, Ready, Opened, Stands, BothJudged}
 use Rattle.section_both.proofs.Opening.{read_refused, read_got, zeroed, under, under_read, under_beside, over_viewed}
 
 -- one section
 
-read_count : (before : ℕ) (o : Read (List Group)) {q : SectionRead} {count : ℕ} → q ≡ section_is before o → q ≡ SectionRead.TheVariants.Got count → (gs : List Group) (end : ℕ) → o ≡ got gs end → count ≡ before + length (joined gs)
-read_count before o x y gs end e = let z : _ ≡ SectionRead.TheVariants.Got (before + length (joined gs)) = x ∙ ap (section_is before) e in cc
+read_count : (before : ℕ) (o : Read (List Group)) {q : Result ℕ Refused} {count : ℕ} → q ≡ section_is before o → q ≡ Ok count → (gs : List Group) (end : ℕ) → o ≡ got gs end → count ≡ before + length (joined gs)
+read_count before o x y gs end e = let z : _ ≡ Ok (before + length (joined gs)) = x ∙ ap (section_is before) e in cc
 
-module _ (input : ℕ → Place) (s : List ℕ) {before base : ℕ} {rows rows₁ mine mine' : List ℕ} (both : List ℕ) {q : SectionRead} (a : SectionPut (read_after before s) before base rows rows₁ mine mine' q) where
-  after_refused : {n p : ℕ} → q ≡ SectionRead.TheVariants.Refused n p → AfterJudged input s before base rows rows₁ mine mine' both (Verdict.TheVariants.Refused n (input p))
+module _ (input : ℕ → Place) (s : List ℕ) {before base : ℕ} {rows rows₁ mine mine' : List ℕ} (both : List ℕ) {q : Result ℕ Refused} (a : SectionPut (read_after before s) before base rows rows₁ mine mine' q) where
+  after_refused : {no : Refused} → q ≡ Err no → AfterJudged input s before base rows rows₁ mine mine' both (Err (no_in no.number (input no.at)))
   after_refused e =
       record {
         read = q;
@@ -63,7 +63,7 @@ module _ (input : ℕ → Place) (s : List ℕ) {before base : ℕ} {rows rows�
         ranged = λ n g. impossible cc;
       }
 
-  pub after-judged : {rows' : List ℕ} {count : ℕ} {r : Verdict} → q ≡ SectionRead.TheVariants.Got count → Decided before count both rows₁ rows' r → AfterJudged input s before base rows rows' mine mine' both r
+  pub after-judged : {rows' : List ℕ} {count : ℕ} {r : Result ℕ Rejected} → q ≡ Ok count → Decided before count both rows₁ rows' r → AfterJudged input s before base rows rows' mine mine' both r
   after-judged {rows'} e d =
       let (gs, end, is, many) = read_got before (read_after before s) a.answer e in
       record {
@@ -76,11 +76,11 @@ module _ (input : ℕ → Place) (s : List ℕ) {before base : ℕ} {rows rows�
         ranged = λ n g. d.ranged n g;
       }
 
-module _ (s : List ℕ) {before base : ℕ} {rows rows₁ mine mine' : List ℕ} (both : List ℕ) {q : SectionRead} (a : SectionPut (read_after before s) before base rows rows₁ mine mine' q) {n p : ℕ} (e : q ≡ SectionRead.TheVariants.Refused n p) where
-  pub library_refused : AfterJudged in_library s before base rows rows₁ mine mine' both (Verdict.TheVariants.Refused n (in_library p))
+module _ (s : List ℕ) {before base : ℕ} {rows rows₁ mine mine' : List ℕ} (both : List ℕ) {q : Result ℕ Refused} (a : SectionPut (read_after before s) before base rows rows₁ mine mine' q) {no : Refused} (e : q ≡ Err no) where
+  pub library_refused : AfterJudged in_library s before base rows rows₁ mine mine' both (Err (no_in no.number (in_library no.at)))
   library_refused = after_refused in_library s both a e
 
-  pub addon_refused : AfterJudged in_addon s before base rows rows₁ mine mine' both (Verdict.TheVariants.Refused n (in_addon p))
+  pub addon_refused : AfterJudged in_addon s before base rows rows₁ mine mine' both (Err (no_in no.number (in_addon no.at)))
   addon_refused = after_refused in_addon s both a e
 
 -- a verdict that accepts counts the types
@@ -116,12 +116,12 @@ skips_kept ls ds bound within fine =
 -- the joined verdict, by what was read
 
 more_is : (ls ds : List Definition) (o : Judged ℕ) → judge_types (types_of (ls ++ ds)) (length (ls ++ ds)) ≡ o → two_of (length ls) (ruled_is o) ≡ joined_is (and_then o (λ all. accepted (record { before = length ls; types = ls ++ ds })))
-more_is ls ds (accepted m) e = ap (TwoJudged.TheVariants.Accepted (length ls)) (judged-counts (ls ++ ds) e)
+more_is ls ds (accepted m) e = ap (λ (k : ℕ). Ok (length ls, k)) (judged-counts (ls ++ ds) e)
 more_is ls ds (rejected n p) e = refl
 
-two_accepts : (before : ℕ) (r : Verdict) (j : Joined) → two_of before r ≡ joined_is (accepted j) → (n : ℕ) × (r ≡ Verdict.TheVariants.Accepted n)
-two_accepts before (Verdict.TheVariants.Accepted n) j e = (n, refl)
-two_accepts before (Verdict.TheVariants.Refused n p) j e = impossible cc
+two_accepts : (before : ℕ) (r : Result ℕ Rejected) (j : Joined) → two_of before r ≡ joined_is (accepted j) → (n : ℕ) × (r ≡ Ok n)
+two_accepts before (Ok n) j e = (n, refl)
+two_accepts before (Err why) j e = impossible cc
 
 ranged_long : (ls ds ls' ds' : List Definition) (start end : ℕ → ℕ) → length ls' ≡ length ls → length ds' ≡ length ds → length (rows_of codes_size ls' ++ rows_of 0 ds') ≡ length (rows_from start end 0 codes_size ls ++ rows_from start end (length ls) 0 ds)
 ranged_long ls ds ls' ds' start end h g =
@@ -130,7 +130,7 @@ ranged_long ls ds ls' ds' start end h g =
 
 -- the table after an acceptance: `plain` is as it was read, and the rows that are left have their ranges
 
-module _ (library addon : List ℕ) {rows shared codes plain shared₂ plain₃ codes₃ rows₄ : List ℕ} {q q' : SectionRead} (gs more : List Group) {end stop : ℕ} (ready : Ready rows shared codes)
+module _ (library addon : List ℕ) {rows shared codes plain shared₂ plain₃ codes₃ rows₄ : List ℕ} {q q' : Result ℕ Refused} (gs more : List Group) {end stop : ℕ} (ready : Ready rows shared codes)
     (a : SectionPut (read_after 0 library) 0 codes_size rows plain shared shared₂ q) (read : read_after 0 library ≡ got gs end)
     (b : SectionPut (read_after (length (joined gs)) addon) (length (joined gs)) 0 plain plain₃ codes codes₃ q') (read' : read_after (length (joined gs)) addon ≡ got more stop)
     (t : Numbered (length (joined gs) + length (joined more)) (both_codes shared₂ codes₃) plain₃ rows₄) where
@@ -163,7 +163,7 @@ module _ (library addon : List ℕ) {rows shared codes plain shared₂ plain₃ 
   two-holds (accepted m) e k g = let same : record { before = length (joined gs); types = joined gs ++ joined more } ≡ k = cc in rw (← same) (held e)
   two-holds (rejected n p) e k g = impossible cc
 
-module _ (library : List ℕ) {rows shared codes rows₂ shared₂ : List ℕ} {j : Verdict} (ready : Ready rows shared codes) (a : AfterJudged in_library library 0 codes_size rows rows₂ shared shared₂ (both_codes shared₂ codes) j) where
+module _ (library : List ℕ) {rows shared codes rows₂ shared₂ : List ℕ} {j : Result ℕ Rejected} (ready : Ready rows shared codes) (a : AfterJudged in_library library 0 codes_size rows rows₂ shared shared₂ (both_codes shared₂ codes) j) where
   library_is : (gs : List Group) {end : ℕ} → read_after 0 library ≡ got gs end → j ≡ ruled_is (judge_types (types_of (joined gs)) (length (joined gs)))
   library_is gs {end} e =
       let ts : Types = view a.placed (both_codes shared₂ codes) in
@@ -181,7 +181,7 @@ module _ (library : List ℕ) {rows shared codes rows₂ shared₂ : List ℕ} {
     many : before ≡ length (joined gs)
     beside : Beside (length (joined gs)) a.placed rows₂
 
-  accepts : {before : ℕ} → j ≡ Verdict.TheVariants.Accepted before → Accepts before
+  accepts : {before : ℕ} → j ≡ Ok before → Accepts before
   accepts {before} f = go (read_after 0 library) refl
     where
       go : (o : Read (List Group)) → read_after 0 library ≡ o → Accepts before
@@ -191,7 +191,7 @@ module _ (library : List ℕ) {rows shared codes rows₂ shared₂ : List ℕ} {
           let none : 0 + length (joined gs) ≡ length (joined gs) = omega arith in
           record { gs = gs; end = end; read = e; fine = fine; many = judged-counts (joined gs) fine; beside = (rw none at (a.numbered gs end before e f)).beside }
 
-  pub own_opened : {before : ℕ} → j ≡ Verdict.TheVariants.Accepted before → Opened before rows₂ shared₂ codes
+  pub own_opened : {before : ℕ} → j ≡ Ok before → Opened before rows₂ shared₂ codes
   own_opened f =
       let s = accepts f in
       let l = read_lengths 0 (omega arith) library s.read in
@@ -216,17 +216,16 @@ module _ (library : List ℕ) {rows shared codes rows₂ shared₂ : List ℕ} {
         beside = rw s.many s.beside;
       }
 
-module _ (library addon : List ℕ) {rows shared codes rows₂ shared₂ : List ℕ} {j : Verdict} (ready : Ready rows shared codes) (a : AfterJudged in_library library 0 codes_size rows rows₂ shared shared₂ (both_codes shared₂ codes) j) where
-  joined_refused : {n : ℕ} {p : Place} → j ≡ Verdict.TheVariants.Refused n p → judge_joined library addon ≡ rejected n p
-  joined_refused {n} {p} f = go (read_after 0 library) refl
+module _ (library addon : List ℕ) {rows shared codes rows₂ shared₂ : List ℕ} {j : Result ℕ Rejected} (ready : Ready rows shared codes) (a : AfterJudged in_library library 0 codes_size rows rows₂ shared shared₂ (both_codes shared₂ codes) j) where
+  joined_refused : {no : Rejected} → j ≡ Err no → judge_joined library addon ≡ rejected no.number no.place
+  joined_refused {no} f = go (read_after 0 library) refl
     where
-      go : (o : Read (List Group)) → read_after 0 library ≡ o → judge_joined library addon ≡ rejected n p
+      go : (o : Read (List Group)) → read_after 0 library ≡ o → judge_joined library addon ≡ rejected no.number no.place
       go (refused k m) e =
-          let said : Verdict.TheVariants.Refused n p ≡ Verdict.TheVariants.Refused k (in_library m) = sym f ∙ a.answer ∙ ap (after_is in_library (view a.placed (both_codes shared₂ codes)) 0) e in
-          joined-first library addon e ∙ cc
+          joined-first library addon e ∙ rejected_as (a.answer ∙ ap (after_is in_library (view a.placed (both_codes shared₂ codes)) 0) e) f
       go (got gs end) e = joined-rules library addon gs e (ruled_refused (judge_types (types_of (joined gs)) (length (joined gs))) (library_is library ready a gs e) f)
 
-  pub first_refused : {n : ℕ} {p : Place} → j ≡ Verdict.TheVariants.Refused n p → BothJudged library addon rows shared codes rows₂ shared₂ codes (TwoJudged.TheVariants.Refused n p)
+  pub first_refused : {no : Rejected} → j ≡ Err no → BothJudged library addon rows shared codes rows₂ shared₂ codes (Err no)
   first_refused f =
       let no-joined = joined_refused f in
       record {
@@ -238,7 +237,7 @@ module _ (library addon : List ℕ) {rows shared codes rows₂ shared₂ : List 
         ranged = λ k e. impossible cc;
       }
 
-  pub own_decides : {before : ℕ} {rows₄ codes₃ : List ℕ} {r : Verdict} {q : TwoJudged} → j ≡ Verdict.TheVariants.Accepted before → AfterJudged in_addon addon before 0 rows₂ rows₄ codes codes₃ (both_codes shared₂ codes₃) r → q ≡ two_of before r → BothJudged library addon rows shared codes rows₄ shared₂ codes₃ q
+  pub own_decides : {before : ℕ} {rows₄ codes₃ : List ℕ} {r : Result ℕ Rejected} {q : Result (ℕ × ℕ) Rejected} → j ≡ Ok before → AfterJudged in_addon addon before 0 rows₂ rows₄ codes codes₃ (both_codes shared₂ codes₃) r → q ≡ two_of before r → BothJudged library addon rows shared codes rows₄ shared₂ codes₃ q
   own_decides {before} {rows₄} {codes₃} {r} {q} f b two =
       record {
         answer = said (accepts library ready a f);
@@ -270,10 +269,10 @@ module _ (library addon : List ℕ) {rows shared codes rows₂ shared₂ : List 
       said s = rw (joined_more library addon s.gs s.read s.fine) (two ∙ ap (λ (n : ℕ). two_of n r) s.many ∙ by_read s.gs s.read s.fine s.beside (rw s.many at b) (read_after (length (joined s.gs)) addon) refl)
 
       -- where both are accepted, the add-on's verdict accepts
-      b_accepted : (k : Joined) → judge_joined library addon ≡ accepted k → (n : ℕ) × (r ≡ Verdict.TheVariants.Accepted n)
+      b_accepted : (k : Joined) → judge_joined library addon ≡ accepted k → (n : ℕ) × (r ≡ Ok n)
       b_accepted k e = two_accepts before r k (sym two ∙ said (accepts library ready a f) ∙ ap joined_is e)
 
-      filled_by : (gs : List Group) {end n : ℕ} → read_after 0 library ≡ got gs end → Beside (length (joined gs)) a.placed rows₂ → AfterJudged in_addon addon (length (joined gs)) 0 rows₂ rows₄ codes codes₃ (both_codes shared₂ codes₃) r → r ≡ Verdict.TheVariants.Accepted n
+      filled_by : (gs : List Group) {end n : ℕ} → read_after 0 library ≡ got gs end → Beside (length (joined gs)) a.placed rows₂ → AfterJudged in_addon addon (length (joined gs)) 0 rows₂ rows₄ codes codes₃ (both_codes shared₂ codes₃) r → r ≡ Ok n
           → (o : Read (List Group)) → read_after (length (joined gs)) addon ≡ o → (k : Joined) → judge_more (joined gs) o ≡ accepted k → Stands rows shared codes rows₄ shared₂ codes₃ k
       filled_by gs read beside c yes' (refused n m) e k g = impossible cc
       filled_by gs {n = n} read beside c yes' (got more stop) e k g =
@@ -287,11 +286,11 @@ module _ (library addon : List ℕ) {rows shared codes rows₂ shared₂ : List 
 
 -- the count of all types, after the library's
 
-module _ (before : ℕ) {j : Verdict} where
-  pub two_refused : {n : ℕ} {p : Place} → j ≡ Verdict.TheVariants.Refused n p → TwoJudged.TheVariants.Refused n p ≡ two_of before j
+module _ (before : ℕ) {j : Result ℕ Rejected} where
+  pub two_refused : {no : Rejected} → j ≡ Err no → Err no ≡ two_of before j
   two_refused e = rw e
 
-  pub two_accepted : {n : ℕ} → j ≡ Verdict.TheVariants.Accepted n → TwoJudged.TheVariants.Accepted before n ≡ two_of before j
+  pub two_accepted : {n : ℕ} → j ≡ Ok n → Ok (before, n) ≡ two_of before j
   two_accepted e = rw e
 
 pub ruleset two_exits = (two_refused, two_accepted)

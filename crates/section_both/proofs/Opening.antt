@@ -11,6 +11,8 @@ use borrow.Author.Tests.{ltb-true, ltb-false}
 use lib.Dec.{ltb}
 use lib.ListN.{length, get_or, take, drop, replicate, length-append, length-map, length-take, get_or-append}
 use lib.Seq.{get_or-append-add, get_or-take, get_or-drop}
+use Rattle.std.specs.Prelude.{Result, Ok, Err}
+use Rattle.scope.specs.declared.Refused.{Refused}
 use Rattle.scope.specs.Sizes.{most_types}
 use Rattle.scope.specs.Layout.{row_span, rows_size, codes_size}
 use Rattle.scope.specs.Reading.{Read, got, refused}
@@ -31,8 +33,6 @@ use Rattle.type_span.proofs.Stores.{beside_view}
 use Rattle.section_definition.specs.Rows.{low}
 use Rattle.section_group.specs.Lent.{kept_all}
 use Rattle.section_reader.specs.Whole.{section_is, SectionPut}
-use Rattle.section_reader.specs.declared.SectionRead.{SectionRead}
-use Rattle.section_reader.specs.declared.SectionRead
 use Rattle.section_reader.proofs.Modest.{read_lengths, read_reach}
 use Rattle.section_reader.proofs.TwoRead.{two_viewed, two-rows}
 use Rattle.section_decide.specs.Deciding.{Decidable}
@@ -40,15 +40,15 @@ use Rattle.section_both.specs.Both.{Ready, Opened}
 
 -- what was read, taken apart
 
-pub read_refused : (before : ℕ) (o : Read (List Group)) {q : SectionRead} {n p : ℕ} → q ≡ section_is before o → q ≡ SectionRead.TheVariants.Refused n p → o ≡ refused n p
+pub read_refused : (before : ℕ) (o : Read (List Group)) {q : Result ℕ Refused} {no : Refused} → q ≡ section_is before o → q ≡ Err no → o ≡ refused no.number no.at
 read_refused before (got gs m) x y = impossible cc
 read_refused before (refused n m) x y = cc
 
-pub read_got : (before : ℕ) (o : Read (List Group)) {q : SectionRead} {count : ℕ} → q ≡ section_is before o → q ≡ SectionRead.TheVariants.Got count → (gs : List Group) × (end : ℕ) × (o ≡ got gs end) × (count ≡ before + length (joined gs))
+pub read_got : (before : ℕ) (o : Read (List Group)) {q : Result ℕ Refused} {count : ℕ} → q ≡ section_is before o → q ≡ Ok count → (gs : List Group) × (end : ℕ) × (o ≡ got gs end) × (count ≡ before + length (joined gs))
 read_got before (got gs m) x y = (gs, m, refl, cc)
 read_got before (refused n m) x y = impossible cc
 
-pub zeroed : {o : Read (List Group)} {before base : ℕ} {rows z rows' mine mine' : List ℕ} {q : SectionRead} → rows ≡ z → SectionPut o before base rows rows' mine mine' q → SectionPut o before base z rows' mine mine' q
+pub zeroed : {o : Read (List Group)} {before base : ℕ} {rows z rows' mine mine' : List ℕ} {q : Result ℕ Refused} → rows ≡ z → SectionPut o before base rows rows' mine mine' q → SectionPut o before base z rows' mine mine' q
 zeroed e p = rw e at p
 
 -- zeros
@@ -65,7 +65,7 @@ past_word l z i h =
 
 -- the library
 
-module _ (library : List ℕ) {rows shared codes rows₁ shared₁ : List ℕ} (ready : Ready rows shared codes) {q : SectionRead} (a : SectionPut (read_after 0 library) 0 codes_size rows rows₁ shared shared₁ q) where
+module _ (library : List ℕ) {rows shared codes rows₁ shared₁ : List ℕ} (ready : Ready rows shared codes) {q : Result ℕ Refused} (a : SectionPut (read_after 0 library) 0 codes_size rows rows₁ shared shared₁ q) where
   library_read : (gs : List Group) {end : ℕ} → read_after 0 library ≡ got gs end → Decidable 0 (length (joined gs)) (both_codes shared₁ codes) rows₁
   library_read gs {end} read =
       let ws : List ℕ = map low (rows_of codes_size (kept_all (joined gs))) in
@@ -82,7 +82,7 @@ module _ (library : List ℕ) {rows shared codes rows₁ shared₁ : List ℕ} (
         past = λ x k late. rw is (past_word ws (length rows - length ws) (row_span * x + k) (omega (arith, long)));
       }
 
-  pub library_decidable : {count : ℕ} → q ≡ SectionRead.TheVariants.Got count → Decidable 0 count (both_codes shared₁ codes) rows₁
+  pub library_decidable : {count : ℕ} → q ≡ Ok count → Decidable 0 count (both_codes shared₁ codes) rows₁
   library_decidable e =
       let (gs, end, read, many) = read_got 0 (read_after 0 library) a.answer e in
       let same : _ ≡ length (joined gs) = many ∙ omega arith in
@@ -123,7 +123,7 @@ put_alike {m} {m'} {n} {n'} {at} {ws} p q i h e = put-after p i h ∙ go (ltb (i
 
 -- the add-on, over the library's rows as they were read
 
-module _ {o : Read (List Group)} {before base : ℕ} {placed rows rows₁ mine mine₁ : List ℕ} {q : SectionRead} (beside : Beside before placed rows) (b : SectionPut o before base rows rows₁ mine mine₁ q) (more : List Group) {stop : ℕ} (read : o ≡ got more stop) where
+module _ {o : Read (List Group)} {before base : ℕ} {placed rows rows₁ mine mine₁ : List ℕ} {q : Result ℕ Refused} (beside : Beside before placed rows) (b : SectionPut o before base rows rows₁ mine mine₁ q) (more : List Group) {stop : ℕ} (read : o ≡ got more stop) where
   abbrev pub words_read : List ℕ
   words_read = map low (rows_of base (kept_all (joined more)))
 
@@ -162,7 +162,7 @@ module _ {o : Read (List Group)} {before base : ℕ} {placed rows rows₁ mine m
       any x k true e h same = let less = ltb-true x before e in put_before own_put (row_span * x + k) (omega arith) ∙ same ∙ sym (put_before under-put (row_span * x + k) (omega arith))
       any x k false e h same = late_word x k (ltb-false x before e)
 
-module _ (library addon : List ℕ) (R : ℕ) (own codes : List ℕ) {shared placed rows rows₁ codes₁ : List ℕ} {q q' : SectionRead} (gs : List Group) {end m : ℕ}
+module _ (library addon : List ℕ) (R : ℕ) (own codes : List ℕ) {shared placed rows rows₁ codes₁ : List ℕ} {q q' : Result ℕ Refused} (gs : List Group) {end m : ℕ}
     (a : SectionPut (read_after 0 library) 0 codes_size (replicate R 0) placed own shared q) (read : read_after 0 library ≡ got gs end) (fine : judge_types (types_of (joined gs)) (length (joined gs)) ≡ accepted m)
     (beside : Beside (length (joined gs)) placed rows) (b : SectionPut (read_after (length (joined gs)) addon) (length (joined gs)) 0 rows rows₁ codes codes₁ q')
     (more : List Group) {stop : ℕ} (read' : read_after (length (joined gs)) addon ≡ got more stop) where
@@ -202,8 +202,8 @@ module _ (library addon : List ℕ) (R : ℕ) (own codes : List ℕ) {shared pla
         past = past_zero;
       }
 
-module _ (addon : List ℕ) {before : ℕ} {rows shared codes rows₁ codes₁ : List ℕ} (opened : Opened before rows shared codes) {q : SectionRead} (b : SectionPut (read_after before addon) before 0 rows rows₁ codes codes₁ q) where
-  pub addon_decidable : {count : ℕ} → q ≡ SectionRead.TheVariants.Got count → Decidable before count (both_codes shared codes₁) rows₁
+module _ (addon : List ℕ) {before : ℕ} {rows shared codes rows₁ codes₁ : List ℕ} (opened : Opened before rows shared codes) {q : Result ℕ Refused} (b : SectionPut (read_after before addon) before 0 rows rows₁ codes codes₁ q) where
+  pub addon_decidable : {count : ℕ} → q ≡ Ok count → Decidable before count (both_codes shared codes₁) rows₁
   addon_decidable {count} e = go (read_got before (read_after before addon) b.answer e)
     where
       go : (more : List Group) × (stop : ℕ) × (read_after before addon ≡ got more stop) × (count ≡ before + length (joined more)) → Decidable before count (both_codes shared codes₁) rows₁

@@ -7,6 +7,8 @@ use native.Mathlib.Nat.{zero-add}
 use native.Mathlib.Omega.{arith}
 use lib.ListN.{length, drop, replicate, length-append}
 use lib.Seq.{take-append_seam, drop-append_seam}
+use Rattle.std.specs.Prelude.{Result, Ok, Err}
+use Rattle.scope.specs.declared.Rejected.{Rejected}
 use Rattle.scope.specs.Layout.{codes_size}
 use Rattle.scope.specs.Reading.{got}
 use Rattle.scope.specs.Lists.{joined}
@@ -17,6 +19,7 @@ use Rattle.scope.specs.Judging.{Judged, accepted, rejected, judge_types, Joined,
 use Rattle.scope.specs.declared.Place.{Place}
 use Rattle.scope.proofs.Accepted.{joined_parts}
 use Rattle.scope.proofs.Impossible.{impossible}
+use Rattle.scope.proofs.Told.{value_is, place_is, rejected_as}
 use Rattle.type_table.specs.Kept.{kept_definition}
 use Rattle.type_table.specs.View.{view, rows_of, codes_of, both_codes}
 use Rattle.type_table.proofs.Puts.{Puts}
@@ -27,18 +30,16 @@ use Rattle.type_table.proofs.TwoSections.{two_sections, two-table-codes, few_at_
 use Rattle.type_ranges.proofs.Table.{ranged_view}
 use Rattle.section_group.specs.Lent.{kept_all}
 use Rattle.section_reader.proofs.Modest.{read_fits, read_lengths, each_reach, each_append}
-use Rattle.section_both.specs.declared.TwoJudged.{TwoJudged}
-use Rattle.section_both.specs.declared.TwoJudged
 use Rattle.section_both.specs.Both.{joined_is, Stands}
 
 -- the answer, taken apart
 
-pub both_refused : (o : Judged Joined) {v : TwoJudged} {k : ℕ} {p : Place} → v ≡ joined_is o → v ≡ TwoJudged.TheVariants.Refused k p → o ≡ rejected k p
+pub both_refused : (o : Judged Joined) {v : Result (ℕ × ℕ) Rejected} {no : Rejected} → v ≡ joined_is o → v ≡ Err no → o ≡ rejected no.number no.place
 both_refused (accepted j) x y = impossible cc
-both_refused (rejected k p) x y = cc
+both_refused (rejected k p) x y = rejected_as x y
 
-pub both_accepted : (o : Judged Joined) {v : TwoJudged} {b n : ℕ} → v ≡ joined_is o → v ≡ TwoJudged.TheVariants.Accepted b n → (j : Joined) × (o ≡ accepted j) × (b ≡ j.before) × (n ≡ length j.types)
-both_accepted (accepted j) x y = (j, refl, cc, cc)
+pub both_accepted : (o : Judged Joined) {v : Result (ℕ × ℕ) Rejected} {b n : ℕ} → v ≡ joined_is o → v ≡ Ok (b, n) → (j : Joined) × (o ≡ accepted j) × (b ≡ j.before) × (n ≡ length j.types)
+both_accepted (accepted j) x y = (j, refl, sym (value_is x y), sym (place_is x y))
 both_accepted (rejected k p) x y = impossible cc
 
 -- the table

@@ -1,5 +1,10 @@
 -- The verdict on a library and an add-on: the library's types are judged first, then the add-on's with those before them.
 use Rattle.std.specs.Prelude.{ℕ, ◌+◌, ◌≤◌, ◌≡◌, List, length, replicate}
+use Rattle.std.specs.Prelude.{Result}
+use Rattle.scope.specs.Told.{no_in}
+use Rattle.std.specs.Prelude.{Result, Ok, Err}
+use Rattle.scope.specs.declared.Rejected.{Rejected}
+use Rattle.scope.specs.declared.Refused.{Refused}
 use Rattle.scope.specs.Layout.{rows_size, codes_size}
 use Rattle.scope.specs.Reading.{Read, got, refused}
 use Rattle.scope.specs.Lists.{joined}
@@ -8,8 +13,6 @@ use Rattle.scope.specs.Sections.{read_after}
 use Rattle.scope.specs.Judging.{Judged, accepted, rejected, judge_types, Joined, judge_joined}
 use Rattle.scope.specs.Memory.{filled, joined_rows, joined_shared, joined_codes}
 use Rattle.scope.specs.declared.Place.{Place}
-use Rattle.scope.specs.declared.Verdict.{Verdict}
-use Rattle.scope.specs.declared.Verdict
 use Rattle.type_table.specs.View.{view, both_codes}
 use Rattle.type_table.proofs.Puts.{Puts}
 use Rattle.type_span.specs.Span.{Beside}
@@ -17,34 +20,31 @@ use Rattle.type_numbering.specs.Ranges.{Numbered}
 use Rattle.type_hierarchy.specs.Ranged.{Ranged}
 use Rattle.section_judge.specs.Verdict.{ruled_is, judge_from}
 use Rattle.section_reader.specs.Whole.{Enough, SectionPut}
-use Rattle.section_reader.specs.declared.SectionRead.{SectionRead}
-use Rattle.section_both.specs.declared.TwoJudged.{TwoJudged}
-use Rattle.section_both.specs.declared.TwoJudged
 
 -- how many types are the library's, and how many there are; or the refusal
-abbrev pub joined_is : Judged Joined → TwoJudged
-joined_is (accepted j) = TwoJudged.TheVariants.Accepted j.before (length j.types)
-joined_is (rejected n p) = TwoJudged.TheVariants.Refused n p
+abbrev pub joined_is : Judged Joined → Result (ℕ × ℕ) Rejected
+joined_is (accepted j) = Ok (j.before, (length j.types))
+joined_is (rejected n p) = Err (no_in n p)
 
 -- the count of all of them comes after the library's
-abbrev pub two_of : ℕ → Verdict → TwoJudged
-two_of before (Verdict.TheVariants.Accepted count) = TwoJudged.TheVariants.Accepted before count
-two_of before (Verdict.TheVariants.Refused n p) = TwoJudged.TheVariants.Refused n p
+abbrev pub two_of : ℕ → Result ℕ Rejected → Result (ℕ × ℕ) Rejected
+two_of before (Ok count) = Ok (before, count)
+two_of before (Err why) = Err why
 
 -- a section that was read after so many types, its bytes in such an input, and the verdict on its own types as the table has them
-abbrev pub after_is : (ℕ → Place) → Types → ℕ → Read (List Group) → Verdict
+abbrev pub after_is : (ℕ → Place) → Types → ℕ → Read (List Group) → Result ℕ Rejected
 after_is input ts before (got gs end) = ruled_is (judge_from before ts (before + length (joined gs)))
-after_is input ts before (refused n p) = Verdict.TheVariants.Refused n (input p)
+after_is input ts before (refused n p) = Err (no_in n (input p))
 
 -- the rows as they were read, and the rows that are left: the same, but that accepted types have their ranges, all that stand there
-pub record AfterJudged (input : ℕ → Place) (s : List ℕ) (before base : ℕ) (rows rows' mine mine' both : List ℕ) (r : Verdict) : Type 0 where
-  pub read : SectionRead
+pub record AfterJudged (input : ℕ → Place) (s : List ℕ) (before base : ℕ) (rows rows' mine mine' both : List ℕ) (r : Result ℕ Rejected) : Type 0 where
+  pub read : Result ℕ Refused
   pub placed : List ℕ
   pub put : SectionPut (read_after before s) before base rows placed mine mine' read
   pub answer : r ≡ after_is input (view placed both) before (read_after before s)
   pub rows_kept : length rows' ≡ length rows
-  pub numbered : (gs : List Group) (end n : ℕ) → read_after before s ≡ got gs end → r ≡ Verdict.TheVariants.Accepted n → Numbered (before + length (joined gs)) both placed rows'
-  pub ranged : (n : ℕ) → r ≡ Verdict.TheVariants.Accepted n → Ranged rows' both
+  pub numbered : (gs : List Group) (end n : ℕ) → read_after before s ≡ got gs end → r ≡ Ok n → Numbered (before + length (joined gs)) both placed rows'
+  pub ranged : (n : ℕ) → r ≡ Ok n → Ranged rows' both
 
 -- lent memory of its sizes, the rows all zero
 pub record Ready (rows shared codes : List ℕ) : Type 0 where
@@ -65,7 +65,7 @@ pub record Opened (before : ℕ) (rows shared codes : List ℕ) : Type 0 where
   pub room : ℕ
   pub own : List ℕ
   pub placed : List ℕ
-  pub answer : SectionRead
+  pub answer : Result ℕ Refused
   pub put : SectionPut (read_after 0 library) 0 codes_size (replicate room 0) placed own shared answer
   pub beside : Beside before placed rows
 
@@ -75,7 +75,7 @@ pub record Stands (rows shared codes rows' shared' codes' : List ℕ) (j : Joine
   pub shared_put : Puts shared shared' 0 (joined_shared j)
   pub codes_put : Puts codes codes' 0 (joined_codes j)
 
-pub record BothJudged (library addon rows shared codes rows' shared' codes' : List ℕ) (r : TwoJudged) : Type 0 where
+pub record BothJudged (library addon rows shared codes rows' shared' codes' : List ℕ) (r : Result (ℕ × ℕ) Rejected) : Type 0 where
   pub answer : r ≡ joined_is (judge_joined library addon)
   pub rows_kept : length rows' ≡ length rows
   pub shared_kept : length shared' ≡ length shared

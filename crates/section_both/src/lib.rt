@@ -8,21 +8,28 @@ ghost use Rattle.scope.specs.Judging.{in_library, in_addon};
 ghost use Rattle.type_table.specs.View.{both_codes};
 ghost use Rattle.section_both.specs.Both.{AfterJudged, Ready, Opened, two_of, BothJudged};
 
-use scope::{Place, Verdict};
-use section_reader::SectionRead;
+use scope::{Place, Refused, Rejected};
 
 // The library: its rows are the first, its codes lie in the shared buffer.
-fn judge_library(library: &[u8], rows: &mut [u16], shared: &mut [u16], codes: &[u16]) -> Verdict
+fn judge_library(
+    library: &[u8],
+    rows: &mut [u16],
+    shared: &mut [u16],
+    codes: &[u16],
+) -> Result<u64, Rejected>
     requires { Ready rows.old shared.old codes.now }
     ensures { let both = both_codes shared.new codes.now in
         AfterJudged in_library library.now 0 codes_size rows.old rows.new shared.old shared.new both result }
 {
     let read = section_reader::read_section(library, 0, type_table::SHARED, rows, shared);
     match read {
-        SectionRead::Refused(number, place) => {
-            Verdict::Refused(number, Place::Library(place as u64))
+        Err(Refused { number, at: place }) => {
+            Err(Rejected {
+                number,
+                place: Place::Library(place as u64),
+            })
         }
-        SectionRead::Got(count) => section_decide::decide(rows, shared, codes, 0, count),
+        Ok(count) => section_decide::decide(rows, shared, codes, 0, count),
     }
 }
 
@@ -33,31 +40,27 @@ fn judge_addon(
     rows: &mut [u16],
     shared: &[u16],
     codes: &mut [u16],
-) -> Verdict
+) -> Result<u64, Rejected>
     requires { Opened before rows.old shared.now codes.old }
     ensures { let both = both_codes shared.now codes.new in
         AfterJudged in_addon section.now before 0 rows.old rows.new codes.old codes.new both result }
 {
     let read = section_reader::read_section(section, before, 0, rows, codes);
     match read {
-        SectionRead::Refused(number, place) => Verdict::Refused(number, Place::Addon(place as u64)),
-        SectionRead::Got(count) => section_decide::decide(rows, shared, codes, before, count),
+        Err(Refused { number, at: place }) => Err(Rejected {
+            number,
+            place: Place::Addon(place as u64),
+        }),
+        Ok(count) => section_decide::decide(rows, shared, codes, before, count),
     }
 }
 
-// Both sections are accepted: how many types are the library's, and how many there are; or the refusal's number and place.
-#[derive(Clone, Copy)]
-pub enum TwoJudged {
-    Accepted(u64, u64),
-    Refused(u64, Place),
-}
-
-fn with_before(before: u64, judged: Verdict) -> TwoJudged
+fn with_before(before: u64, judged: Result<u64, Rejected>) -> Result<(u64, u64), Rejected>
     ensures { result ≡ two_of before judged }
 {
     match judged {
-        Verdict::Refused(number, place) => TwoJudged::Refused(number, place),
-        Verdict::Accepted(count) => TwoJudged::Accepted(before, count),
+        Err(e) => Err(e),
+        Ok(count) => Ok((before, count)),
     }
 }
 
@@ -68,14 +71,14 @@ pub fn judge_both(
     rows: &mut [u16],
     shared: &mut [u16],
     codes: &mut [u16],
-) -> TwoJudged
+) -> Result<(u64, u64), Rejected>
     requires { Ready rows.old shared.old codes.old }
     ensures { BothJudged library.now section.now rows.old shared.old codes.old rows.new shared.new codes.new result }
 {
     let first = judge_library(library, rows, shared, codes);
     match first {
-        Verdict::Refused(number, place) => TwoJudged::Refused(number, place),
-        Verdict::Accepted(before) => {
+        Err(e) => Err(e),
+        Ok(before) => {
             let second = judge_addon(section, before, rows, shared, codes);
             with_before(before, second)
         }

@@ -8,6 +8,8 @@ use native.Mathlib.Omega.{arith}
 use lib.ListN.{length, replicate}
 use lib.Dec.{ltb, leb}
 use borrow.Author.Tests.{lt-ltb, le-ltb}
+use Rattle.std.specs.Prelude.{Result, Ok, Err}
+use Rattle.scope.specs.declared.Rejected.{Rejected}
 use Rattle.scope.specs.Refusals.{out_of_reach}
 use Rattle.scope.specs.Layout.{rows_size, codes_size}
 use Rattle.scope.specs.Syntax.{Definition, Types, types_of}
@@ -15,16 +17,12 @@ use Rattle.scope.specs.Judging.{plain, Judged, accepted, rejected, and_then, Joi
 use Rattle.scope.specs.Memory.{filled, joined_rows, joined_shared, joined_codes}
 use Rattle.scope.specs.Answers.{holds, table_lent, lent_enough, verdict_of, lent_after, counted, section_call, SectionJudged, ask_call, asked_of, ask_table, TypeAsked, TypeHanded}
 use Rattle.scope.specs.declared.Place.{Place}
-use Rattle.scope.specs.declared.Verdict.{Verdict}
-use Rattle.scope.specs.declared.Verdict
 use Rattle.scope.specs.declared.Asked.{Asked}
 use Rattle.scope.specs.declared.Asked
 use Rattle.scope.proofs.Impossible.{impossible}
 use Rattle.type_table.specs.View.{view, both_codes}
 use Rattle.section_handing.specs.Handing.{Cleared, asked_at, bytes_named}
 use Rattle.section_handing.proofs.Places.{lying_at, asked_library, asked_addon, asked-refusal}
-use Rattle.section_both.specs.declared.TwoJudged.{TwoJudged}
-use Rattle.section_both.specs.declared.TwoJudged
 use Rattle.section_both.specs.Both.{joined_is}
 use Rattle.section_both.proofs.Viewing.{both_refused, both_accepted, filled_viewed}
 use Rattle.section_call.specs.Calls.{TableJudged}
@@ -68,12 +66,12 @@ module _ (library section rows shared codes : List ℕ) {rows₁ shared₁ codes
 lying-asked : (ts : Types) (x before : ℕ) (ds : List Definition) → ts ≡ types_of ds → lying_at ts x (ltb x before) ≡ asked_of (accepted (held_at (record { before = before; types = ds }) x))
 lying-asked ts x before ds e = rw e
 
-module _ {library section rows shared codes rows₁ shared₁ codes₁ : List ℕ} {v : TwoJudged} (a : TableJudged library section rows shared codes rows₁ shared₁ codes₁ v) where
-  pub asked_refused : (x : ℕ) {k : ℕ} {p : Place} → v ≡ TwoJudged.TheVariants.Refused k p → TypeAsked library section x rows shared codes rows₁ shared₁ codes₁ (Asked.TheVariants.Refused k p)
-  asked_refused x {k} {p} e =
-      let no-section : section_call library section rows shared codes ≡ rejected k p = both_refused (section_call library section rows shared codes) a.answer e in
-      let no-type : ask_call library section x rows shared codes ≡ rejected k p = ask_is library section x rows shared codes ∙ rw no-section in
-      let no_table : ask_table library section x rows shared codes ≡ rejected k p = rw no-section in
+module _ {library section rows shared codes rows₁ shared₁ codes₁ : List ℕ} {v : Result (ℕ × ℕ) Rejected} (a : TableJudged library section rows shared codes rows₁ shared₁ codes₁ v) where
+  pub asked_refused : (x : ℕ) {no : Rejected} → v ≡ Err no → TypeAsked library section x rows shared codes rows₁ shared₁ codes₁ (Asked.TheVariants.Refused no.number no.place)
+  asked_refused x {no} e =
+      let no-section : section_call library section rows shared codes ≡ rejected no.number no.place = both_refused (section_call library section rows shared codes) a.answer e in
+      let no-type : ask_call library section x rows shared codes ≡ rejected no.number no.place = ask_is library section x rows shared codes ∙ rw no-section in
+      let no_table : ask_table library section x rows shared codes ≡ rejected no.number no.place = rw no-section in
       record {
         answer = rw no-type;
         rows_after = a.rows_after ∙ ap (lent_after joined_rows rows) (no-section ∙ sym no_table);
@@ -106,7 +104,7 @@ module _ {library section rows shared codes rows₁ shared₁ codes₁ : List �
           codes_after = rw no_table (c.codes_after ∙ ap (λ (n : ℕ). replicate n 0) same_codes);
         }
 
-  module _ (x : ℕ) {before n : ℕ} (e : v ≡ TwoJudged.TheVariants.Accepted before n) {q : Asked} (b : q ≡ asked_at (view rows₁ (both_codes shared₁ codes₁)) x before n) where
+  module _ (x : ℕ) {before n : ℕ} (e : v ≡ Ok (before, n)) {q : Asked} (b : q ≡ asked_at (view rows₁ (both_codes shared₁ codes₁)) x before n) where
     -- an answer that lies somewhere
     lies_there : x < n → q ≡ lying_at (view rows₁ (both_codes shared₁ codes₁)) x (ltb x before) → TypeAsked library section x rows shared codes rows₁ shared₁ codes₁ q
     lies_there h is =

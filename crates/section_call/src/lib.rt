@@ -6,8 +6,7 @@
 ghost use Rattle.scope.specs.Answers.{SectionJudged, TypeAsked, TypeHanded};
 ghost use Rattle.section_call.specs.Calls.{Blank, LentJudged, TableJudged};
 
-use scope::{Asked, Place, Verdict, refusals};
-use section_both::TwoJudged;
+use scope::{Asked, Place, Rejected, refusals};
 
 // Both sections, and zero after a refusal.
 fn judge_lent(
@@ -16,16 +15,16 @@ fn judge_lent(
     rows: &mut [u16],
     shared: &mut [u16],
     codes: &mut [u16],
-) -> TwoJudged
+) -> Result<(u64, u64), Rejected>
     requires { Blank rows.old shared.old codes.old }
     ensures { LentJudged library.now section.now rows.old shared.old codes.old rows.new shared.new codes.new result }
 {
     let judged = section_both::judge_both(library, section, rows, shared, codes);
     match judged {
-        TwoJudged::Accepted(before, count) => TwoJudged::Accepted(before, count),
-        TwoJudged::Refused(number, place) => {
+        Ok((before, count)) => Ok((before, count)),
+        Err(Rejected { number, place }) => {
             section_handing::clear(rows, shared, codes);
-            TwoJudged::Refused(number, place)
+            Err(Rejected { number, place })
         }
     }
 }
@@ -37,12 +36,15 @@ fn judge_table(
     rows: &mut [u16],
     shared: &mut [u16],
     codes: &mut [u16],
-) -> TwoJudged
+) -> Result<(u64, u64), Rejected>
     ensures { TableJudged library.now section.now rows.old shared.old codes.old rows.new shared.new codes.new result }
 {
     section_handing::clear(rows, shared, codes);
     if !lent_limits::table_enough(rows, shared, codes) {
-        return TwoJudged::Refused(refusals::BUFFER_TOO_SMALL, Place::Plain(0));
+        return Err(Rejected {
+            number: refusals::BUFFER_TOO_SMALL,
+            place: Place::Plain(0),
+        });
     }
     judge_lent(library, section, rows, shared, codes)
 }
@@ -54,13 +56,13 @@ pub fn judge_section(
     rows: &mut [u16],
     shared: &mut [u16],
     codes: &mut [u16],
-) -> Verdict
+) -> Result<u64, Rejected>
     ensures { SectionJudged library.now section.now rows.old shared.old codes.old rows.new shared.new codes.new result }
 {
     let judged = judge_table(library, section, rows, shared, codes);
     match judged {
-        TwoJudged::Accepted(_, count) => Verdict::Accepted(count),
-        TwoJudged::Refused(number, place) => Verdict::Refused(number, place),
+        Ok((_, count)) => Ok(count),
+        Err(e) => Err(e),
     }
 }
 
@@ -77,8 +79,13 @@ pub fn ask_type(
 {
     let judged = judge_table(library, section, rows, shared, codes);
     match judged {
-        TwoJudged::Refused(refusal, place) => Asked::Refused(refusal, place),
-        TwoJudged::Accepted(before, count) => {
+        Err(
+            Rejected {
+                number: refusal,
+                place,
+            },
+        ) => Asked::Refused(refusal, place),
+        Ok((before, count)) => {
             let asked = section_handing::place_of(rows, shared, codes, number, before, count);
             match asked {
                 Asked::Library(from, to) => Asked::Library(from, to),

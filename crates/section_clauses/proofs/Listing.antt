@@ -1,6 +1,6 @@
 -- The list of supertypes. The loop and the definition walk the same numbers; of those that are done the loop holds the
 -- first link and the greatest of the others, and one more number changes just what the kept list's links change by.
-use Prim.Native.Nat.{ℕ, ◌+◌, ◌-◌, ◌^◌, ◌≤◌, ◌<◌, max}
+use Prim.Native.Nat.{ℕ, ◌+◌, ◌-◌, ◌≤◌, ◌<◌, max}
 use mathlib.Core.Path.{◌≡◌, refl, sym, ap, ap₂, ◌∙◌}
 use mathlib.Core.List.{List, [], ◌∷◌, ◌++◌, append-nil}
 use native.Mathlib.Omega.{arith}
@@ -8,18 +8,19 @@ use lib.ListN.{length, length-append}
 use borrow.Author.Tests.{eq-eqb, ne_eqb}
 use mir.Syntax.{w64}
 use mir.Val.{Fits}
+use Rattle.std.specs.Prelude.{Result, Ok, Err}
+use Rattle.scope.specs.declared.Refused.{Refused}
 use Rattle.scope.specs.Reading.{got, entries}
 use Rattle.scope.specs.Numbers.{u32}
 use Rattle.scope.specs.Sections.{supers_at}
-use Rattle.number_values.specs.declared.Natural.{Natural}
-use Rattle.number_values.specs.declared.Natural
+use Rattle.scope.specs.Told.{told}
+use Rattle.scope.proofs.Told.{passed}
 use Rattle.number_values.specs.Values.{natural_is}
 use Rattle.number_values.proofs.Laws.{natural_got, natural_refused}
 use Rattle.type_table.specs.Kept.{kept, greatest}
 use Rattle.section_forms.proofs.Lists.{onto, onto-none, onto_more, entries-step, entries_refused, entries-done}
-use Rattle.section_clauses.specs.declared.Supers.{Supers}
-use Rattle.section_clauses.specs.declared.Supers
-use Rattle.section_clauses.specs.Links.{first_link, further_link, first_of_kept, further_of_kept, supers_is}
+use Rattle.section_clauses.specs.Links.{first_link, further_link, first_of_kept, further_of_kept, links_of}
+use Rattle.section_clauses.specs.declared.Links.{Links}
 
 -- first_link and further_link
 
@@ -83,17 +84,17 @@ linked_first n s at =
     }
 
 module _ {n : ℕ} {s : List ℕ} {at next count first further : ℕ} (p : Linked n s at next count first further) where
-  pub linked_done : n ≤ count → Supers.TheVariants.Got first further next ≡ supers_is (entries u32 n n s at)
+  pub linked_done : n ≤ count → let links : Links = record { first = first; further = further } in Ok (links, next) ≡ told links_of (entries u32 n n s at)
   linked_done h =
       let all : entries u32 n n s at ≡ got (p.done ++ []) next = p.same ∙ ap (onto p.done) (entries-done u32 (n - count) (n - count) s next (omega arith)) in
       rw (all, append-nil, p.firsts, p.furthers)
 
-  module _ (more : count < n) {r : Natural} (a : r ≡ natural_is (u32 s next)) where
-    pub linked_refused : {k place : ℕ} → r ≡ Natural.TheVariants.Refused k place → Supers.TheVariants.Refused k place ≡ supers_is (entries u32 n n s at)
+  module _ (more : count < n) where
+    pub linked_refused : {no : Refused} → Err no ≡ natural_is (u32 s next) → Err no ≡ told links_of (entries u32 n n s at)
     linked_refused e =
-        rw (p.same, entries_refused u32 (n - count) (n - count) s next (omega arith) (omega arith) (natural_refused (u32 s next) a e))
+        rw (p.same, entries_refused u32 (n - count) (n - count) s next (omega arith) (omega arith) (natural_refused (u32 s next) e refl))
 
-    pub linked_turn : {x after k first' further' : ℕ} → r ≡ Natural.TheVariants.Is x after → k ≡ kept x → first' ≡ first_link count first (k + 1) → further' ≡ further_link count further (k + 1) → Linked n s at after (count + 1) first' further'
+    pub linked_turn : {x after k first' further' : ℕ} → Ok (x, after) ≡ natural_is (u32 s next) → k ≡ kept x → first' ≡ first_link count first (k + 1) → further' ≡ further_link count further (k + 1) → Linked n s at after (count + 1) first' further'
     linked_turn {x} {after} {k} e same-k f g =
         let q : length p.done ≡ count = p.counted in
         record {
@@ -102,30 +103,27 @@ module _ {n : ℕ} {s : List ℕ} {at next count first further : ℕ} (p : Linke
           fewer = omega arith;
           same =
               p.same
-              ∙ ap (onto p.done) (entries-step u32 (n - count) (n - count) s next (omega arith) (omega arith) (natural_got (u32 s next) a e))
+              ∙ ap (onto p.done) (entries-step u32 (n - count) (n - count) s next (omega arith) (omega arith) (natural_got (u32 s next) e refl))
               ∙ onto_more p.done x (entries u32 (n - count - 1) (n - count - 1) s after)
               ∙ ap₂ (λ (i j : ℕ). onto (p.done ++ x ∷ []) (entries u32 i j s after)) (omega arith) (omega arith);
           firsts = f ∙ rw (same-k, p.firsts, ← q) (sym (first_more p.done x));
           furthers = g ∙ rw (same-k, p.furthers, ← q) (sym (further_more p.done x));
         }
 
-  pub link_count_fits : count < n → n < 2 ^ 64 → Fits w64 (count + 1)
-  link_count_fits h k = record { fits = omega arith }
-
 pub link_fits : (x : ℕ) {k : ℕ} → k ≡ kept x → Fits w64 (k + 1)
 link_fits x e = record { fits = omega arith }
 
-pub ruleset super_exits = (linked_first, linked_done, linked_refused, linked_turn, link_count_fits, link_fits)
+pub ruleset super_exits = (linked_first, linked_turn, link_fits)
 
 -- supers_at
 
-module _ (s : List ℕ) (at : ℕ) {c : Natural} (a : c ≡ natural_is (u32 s at)) where
-  pub supers_refused : {k place : ℕ} → c ≡ Natural.TheVariants.Refused k place → Supers.TheVariants.Refused k place ≡ supers_is (supers_at s at)
+module _ (s : List ℕ) (at : ℕ) where
+  pub supers_refused : {no : Refused} → Err no ≡ natural_is (u32 s at) → Err no ≡ told links_of (supers_at s at)
   unfolding supers_at
-  supers_refused e = rw (natural_refused (u32 s at) a e)
+  supers_refused e = rw (natural_refused (u32 s at) e refl)
 
-  pub supers_got : {n next : ℕ} {r : Supers} → c ≡ Natural.TheVariants.Is n next → r ≡ supers_is (entries u32 n n s next) → r ≡ supers_is (supers_at s at)
+  pub supers_got : {n next : ℕ} {r : Result (Links × ℕ) Refused} → Ok (n, next) ≡ natural_is (u32 s at) → r ≡ told links_of (entries u32 n n s next) → r ≡ told links_of (supers_at s at)
   unfolding supers_at
-  supers_got e f = f ∙ sym (rw (natural_got (u32 s at) a e))
+  supers_got e f = f ∙ sym (rw (natural_got (u32 s at) e refl))
 
-pub ruleset supers_exits = (supers_refused, supers_got)
+pub ruleset supers_exits = (passed, supers_refused, supers_got)

@@ -5,21 +5,42 @@
 ghost use Rattle.std.specs.Prelude.{◌≡◌};
 ghost use Rattle.scope.specs.Reading.{entries};
 ghost use Rattle.scope.specs.Numbers.{u32};
-ghost use Rattle.scope.specs.Sections.{supers_at, head_at, clause_at, descriptor_code};
-ghost use Rattle.section_clauses.specs.Links.{first_link, further_link, supers_is, sub_is, head_is, named_at, clause_is, descriptor_is, clauses_at, clauses_is, front_at, front_is};
+ghost use Rattle.scope.specs.Sections.{supers_at, head_at, clause_at};
+ghost use Rattle.scope.specs.Told.{told};
+ghost use Rattle.section_clauses.specs.Links.{first_link, further_link, links_of, opened_of, head_of, named_at, clause_of, clauses_at, clauses_of, front_at, front_of};
 
-use number_bytes::Byte;
-use number_values::Natural;
-use scope::refusals;
+use scope::{Read, Refused, refusals};
 
-// The first supertype and the greatest of the others, as links, and the place after; or a refusal's number and place.
+// The links of a list of supertypes: its first, and the greatest of the others.
 #[derive(Clone, Copy)]
-pub enum Supers {
-    Got(u64, u64, usize),
-    Refused(u64, usize),
+pub struct Links {
+    pub first: u64,
+    pub further: u64,
+}
+
+// 1 where others may extend the type, and its supertypes.
+#[derive(Clone, Copy)]
+pub struct Head {
+    pub opens: u64,
+    pub supers: Links,
+}
+
+// What the type describes, and what describes it.
+#[derive(Clone, Copy)]
+pub struct Clauses {
+    pub described: u64,
+    pub describing: u64,
+}
+
+// All that stands before a form.
+#[derive(Clone, Copy)]
+pub struct Front {
+    pub head: Head,
+    pub clauses: Clauses,
 }
 
 // The first link of a list is that of its first entry.
+#[tactic(auto, using(crate::proofs::Listing::link_exits))]
 fn first_link(count: u64, first: u64, link: u64) -> u64
     ensures { result ≡ first_link count first link }
 {
@@ -30,6 +51,7 @@ fn first_link(count: u64, first: u64, link: u64) -> u64
 }
 
 // The further link of a list is the greatest but the first entry's.
+#[tactic(auto, using(crate::proofs::Listing::link_exits))]
 fn further_link(count: u64, further: u64, link: u64) -> u64
     ensures { result ≡ further_link count further link }
 {
@@ -43,65 +65,49 @@ fn further_link(count: u64, further: u64, link: u64) -> u64
 }
 
 // n supertypes. Several are no byte fault, so each of them is read.
-fn super_entries(s: &[u8], at: usize, n: u64) -> Supers
-    ensures { result ≡ supers_is (entries u32 n n s.now at) }
+#[tactic(auto, using(crate::proofs::Listing::super_exits))]
+fn super_entries(s: &[u8], at: usize, n: u64) -> Read<Links>
+    ensures { result ≡ told links_of (entries u32 n n s.now at) }
 {
     let mut next = at;
-    let mut count: u64 = 0;
     let mut first: u64 = 0;
     let mut further: u64 = 0;
-    while count < n {
-        let read = number::u32_at(s, next);
-        match read {
-            Natural::Refused(number, place) => {
-                return Supers::Refused(number, place);
-            }
-            Natural::Is(x, after) => {
-                let link = type_read::kept_number(x) + 1;
-                first = first_link(count, first, link);
-                further = further_link(count, further, link);
-                next = after;
-                count = count + 1;
-            }
-        }
+    for count in 0..n {
+        let (x, after) = number::u32_at(s, next)?;
+        let link = type_read::kept_number(x) + 1;
+        first = first_link(count, first, link);
+        further = further_link(count, further, link);
+        next = after;
     }
-    Supers::Got(first, further, next)
+    Ok((Links { first, further }, next))
 }
 
-fn supers_at(s: &[u8], at: usize) -> Supers
-    ensures { result ≡ supers_is (supers_at s.now at) }
+#[tactic(auto, using(crate::proofs::Listing::supers_exits))]
+fn supers_at(s: &[u8], at: usize) -> Read<Links>
+    ensures { result ≡ told links_of (supers_at s.now at) }
 {
-    let counted = number::u32_at(s, at);
-    match counted {
-        Natural::Refused(number, place) => Supers::Refused(number, place),
-        Natural::Is(n, next) => super_entries(s, next, n),
-    }
-}
-
-// What stands before the clauses: open or final, the supertypes' links, the place after; or a refusal.
-#[derive(Clone, Copy)]
-pub enum HeadRead {
-    Got(u64, u64, u64, usize),
-    Refused(u64, usize),
+    let (n, next) = number::u32_at(s, at)?;
+    super_entries(s, next, n)
 }
 
 // 50 or 4F was read: a list of supertypes.
-fn sub_at(s: &[u8], at: usize, opens: u64) -> HeadRead
-    ensures { result ≡ sub_is opens (supers_at s.now at) }
+#[tactic(auto, using(crate::proofs::Heading::sub_exits))]
+fn sub_at(s: &[u8], at: usize, opens: u64) -> Read<Head>
+    ensures { result ≡ told (opened_of opens) (supers_at s.now at) }
 {
-    let read = supers_at(s, at);
-    match read {
-        Supers::Refused(number, place) => HeadRead::Refused(number, place),
-        Supers::Got(first, further, next) => HeadRead::Got(opens, first, further, next),
-    }
+    let (supers, next) = supers_at(s, at)?;
+    Ok((Head { opens, supers }, next))
 }
 
-fn head_at(s: &[u8], at: usize) -> HeadRead
-    ensures { result ≡ head_is (head_at s.now at) }
+#[tactic(auto, using(crate::proofs::Heading::head_exits))]
+fn head_at(s: &[u8], at: usize) -> Read<Head>
+    ensures { result ≡ told head_of (head_at s.now at) }
 {
-    let first = number_bytes::byte_at(s, at);
-    let Byte::Is(b) = first else {
-        return HeadRead::Refused(refusals::BYTES_END, at);
+    let Some(b) = number_bytes::byte_at(s, at) else {
+        return Err(Refused {
+            number: refusals::BYTES_END,
+            at,
+        });
     };
     if b == 0x50 {
         return sub_at(s, at + 1, 1);
@@ -109,79 +115,58 @@ fn head_at(s: &[u8], at: usize) -> HeadRead
     if b == 0x4F {
         return sub_at(s, at + 1, 0);
     }
-    HeadRead::Got(0, 0, 0, at)
-}
-
-// A clause's link, 0 where it is not there, and the place after; or a refusal.
-#[derive(Clone, Copy)]
-pub enum ClauseRead {
-    Got(u64, usize),
-    Refused(u64, usize),
+    let supers = Links {
+        first: 0,
+        further: 0,
+    };
+    Ok((Head { opens: 0, supers }, at))
 }
 
 // The number of a clause whose code was read.
-fn named_at(s: &[u8], at: usize) -> ClauseRead
-    ensures { result ≡ clause_is (named_at s.now at) }
+#[tactic(auto, using(crate::proofs::Heading::named_exits))]
+fn named_at(s: &[u8], at: usize) -> Read<u64>
+    ensures { result ≡ told clause_of (named_at s.now at) }
 {
-    let read = number::u32_at(s, at);
-    match read {
-        Natural::Refused(number, place) => ClauseRead::Refused(number, place),
-        Natural::Is(x, next) => ClauseRead::Got(type_read::kept_number(x) + 1, next),
-    }
+    let (x, next) = number::u32_at(s, at)?;
+    Ok((type_read::kept_number(x) + 1, next))
 }
 
-fn clause_at(s: &[u8], at: usize, code: u64) -> ClauseRead
-    ensures { result ≡ clause_is (clause_at code s.now at) }
+#[tactic(auto, using(crate::proofs::Heading::clause_exits))]
+fn clause_at(s: &[u8], at: usize, code: u64) -> Read<u64>
+    ensures { result ≡ told clause_of (clause_at code s.now at) }
 {
-    let first = number_bytes::byte_at(s, at);
-    let Byte::Is(b) = first else {
-        return ClauseRead::Refused(refusals::BYTES_END, at);
+    let Some(b) = number_bytes::byte_at(s, at) else {
+        return Err(Refused {
+            number: refusals::BYTES_END,
+            at,
+        });
     };
     if b == code {
         return named_at(s, at + 1);
     }
-    ClauseRead::Got(0, at)
+    Ok((0, at))
 }
 
-// All that stands before the form: open or final, the supertypes' links, describes, descriptor, the place after.
-#[derive(Clone, Copy)]
-pub enum Front {
-    Got(u64, u64, u64, u64, u64, usize),
-    Refused(u64, usize),
-}
-
-// The descriptor's clause, after what stands before it.
-fn descriptor_at(s: &[u8], at: usize, opens: u64, first: u64, further: u64, described: u64) -> Front
-    ensures { result ≡ descriptor_is opens first further described (clause_at descriptor_code s.now at) }
+#[tactic(auto, using(crate::proofs::Heading::clauses_exits))]
+fn clauses_at(s: &[u8], at: usize) -> Read<Clauses>
+    ensures { result ≡ told clauses_of (clauses_at s.now at) }
 {
-    let clause = clause_at(s, at, 0x4D);
-    match clause {
-        ClauseRead::Refused(number, place) => Front::Refused(number, place),
-        ClauseRead::Got(describing, next) => Front::Got(
-            opens, first, further, described, describing, next,
-        ),
-    }
+    let (described, next) = clause_at(s, at, 0x4C)?;
+    let (describing, form) = clause_at(s, next, 0x4D)?;
+    Ok((
+        Clauses {
+            described,
+            describing,
+        },
+        form,
+    ))
 }
 
-// The two clauses, after a head.
-fn clauses_at(s: &[u8], at: usize, opens: u64, first: u64, further: u64) -> Front
-    ensures { result ≡ clauses_is opens first further (clauses_at s.now at) }
+#[tactic(auto, using(crate::proofs::Heading::front_exits))]
+pub fn front_at(s: &[u8], at: usize) -> Read<Front>
+    ensures { result ≡ told front_of (front_at s.now at) }
 {
-    let clause = clause_at(s, at, 0x4C);
-    match clause {
-        ClauseRead::Refused(number, place) => Front::Refused(number, place),
-        ClauseRead::Got(described, next) => descriptor_at(
-            s, next, opens, first, further, described,
-        ),
-    }
-}
-
-pub fn front_at(s: &[u8], at: usize) -> Front
-    ensures { result ≡ front_is (front_at s.now at) }
-{
-    let head = head_at(s, at);
-    match head {
-        HeadRead::Refused(number, place) => Front::Refused(number, place),
-        HeadRead::Got(opens, first, further, next) => clauses_at(s, next, opens, first, further),
-    }
+    let (head, next) = head_at(s, at)?;
+    let (clauses, form) = clauses_at(s, next)?;
+    Ok((Front { head, clauses }, form))
 }

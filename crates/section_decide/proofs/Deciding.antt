@@ -4,11 +4,11 @@ use native.Mathlib.Omega.{arith}
 use mathlib.Core.Path.{◌≡◌, refl, sym, ◌∙◌, ap}
 use mathlib.Core.Bool.{true, false}
 use mathlib.Core.List.{List}
+use Rattle.std.specs.Prelude.{Result, Ok, Err}
+use Rattle.scope.specs.declared.Rejected.{Rejected}
 use Rattle.scope.specs.Judging.{accepted, links_fault, scan}
 use Rattle.scope.specs.Syntax.{Types}
 use Rattle.scope.specs.declared.Place.{Place}
-use Rattle.scope.specs.declared.Verdict.{Verdict}
-use Rattle.scope.specs.declared.Verdict
 use Rattle.scope.proofs.Impossible.{impossible}
 use Rattle.type_table.specs.View.{view}
 use Rattle.type_span.proofs.Stores.{beside_view}
@@ -22,8 +22,8 @@ use Rattle.section_judge.proofs.Scanning.{ruled_accepted, links_refused, links_a
 use Rattle.section_decide.specs.Deciding.{Decidable, Deep, Decided}
 use Rattle.section_decide.proofs.Linking.{passed_numberable, passed_ranged}
 
-module _ {first n : ℕ} (codes : List ℕ) {rows : List ℕ} (deep : Deep first n codes rows) {l : Verdict} (a : l ≡ ruled_is (scan (fault_of true (view rows codes)) first (n - first))) where
-  pub first_refuses : {k : ℕ} {p : Place} → l ≡ Verdict.TheVariants.Refused k p → Decided first n codes rows rows (Verdict.TheVariants.Refused k p)
+module _ {first n : ℕ} (codes : List ℕ) {rows : List ℕ} (deep : Deep first n codes rows) {l : Result ℕ Rejected} (a : l ≡ ruled_is (scan (fault_of true (view rows codes)) first (n - first))) where
+  pub first_refuses : {no : Rejected} → l ≡ Err no → Decided first n codes rows rows (Err no)
   first_refuses q =
       record {
         answer = links_refused (view rows codes) first n a q;
@@ -32,7 +32,7 @@ module _ {first n : ℕ} (codes : List ℕ) {rows : List ℕ} (deep : Deep first
         ranged = λ m f. impossible cc;
       }
 
-  module _ {m : ℕ} (q : l ≡ Verdict.TheVariants.Accepted m) where
+  module _ {m : ℕ} (q : l ≡ Ok m) where
     passed : scan (links_fault (view rows codes)) first (n - first) ≡ accepted m
     unfolding fault_of
     passed = ruled_accepted (scan (fault_of true (view rows codes)) first (n - first)) a q
@@ -44,7 +44,7 @@ module _ {first n : ℕ} (codes : List ℕ) {rows : List ℕ} (deep : Deep first
       pub links_ranged : Ranged rows₁ codes
       links_ranged = passed_ranged codes deep.ok passed t
 
-      pub second_decides : {r : Verdict} → r ≡ ruled_is (scan (fault_of false (view rows₁ codes)) first (n - first)) → Decided first n codes rows rows₁ r
+      pub second_decides : {r : Result ℕ Rejected} → r ≡ ruled_is (scan (fault_of false (view rows₁ codes)) first (n - first)) → Decided first n codes rows rows₁ r
       second_decides {r} e =
           let over : r ≡ ruled_is (scan (fault_of false (view rows codes)) first (n - first)) = e ∙ ap (λ (ts : Types). ruled_is (scan (fault_of false ts) first (n - first))) (beside_view t.beside codes) in
           record {
@@ -82,7 +82,7 @@ module _ {first n : ℕ} (codes : List ℕ) {rows : List ℕ} (ok : Decidable fi
         depths = d.depths;
       }
 
-  pub measured_decided : {rows₂ : List ℕ} {r : Verdict} → Decided first n codes rows₁ rows₂ r → Decided first n codes rows rows₂ r
+  pub measured_decided : {rows₂ : List ℕ} {r : Result ℕ Rejected} → Decided first n codes rows₁ rows₂ r → Decided first n codes rows rows₂ r
   measured_decided t =
       record {
         answer = t.answer ∙ ap (λ (ts : Types). ruled_is (judge_from first ts n)) same;

@@ -1,11 +1,11 @@
 -- What the verdict needs of the table, and what it leaves: the rows with their ranges, and else as they were.
 use Rattle.std.specs.Prelude.{ℕ, ◌*◌, ◌≤◌, ◌<◌, ◌≡◌, List, length}
 use Rattle.std.proofs.Math.Option.{none}
+use Rattle.std.specs.Prelude.{Result, Ok}
+use Rattle.scope.specs.declared.Rejected.{Rejected}
 use Rattle.scope.specs.Sizes.{most_types}
 use Rattle.scope.specs.Layout.{row_span}
 use Rattle.scope.specs.Judging.{links_fault}
-use Rattle.scope.specs.declared.Verdict.{Verdict}
-use Rattle.scope.specs.declared.Verdict
 use Rattle.type_table.specs.View.{word_of, view}
 use Rattle.type_numbering.specs.Ranges.{Numbered}
 use Rattle.type_chain.specs.Depths.{Depths}
@@ -24,8 +24,8 @@ pub record Deep (first n : ℕ) (codes rows : List ℕ) : Type 0 where
   pub ok : Decidable first n codes rows
   pub depths : Depths n codes rows
 
-pub record Decided (first n : ℕ) (codes rows rows' : List ℕ) (r : Verdict) : Type 0 where
+pub record Decided (first n : ℕ) (codes rows rows' : List ℕ) (r : Result ℕ Rejected) : Type 0 where
   pub answer : r ≡ ruled_is (judge_from first (view rows codes) n)
   pub size : length rows' ≡ length rows
-  pub numbered : (m : ℕ) → r ≡ Verdict.TheVariants.Accepted m → Numbered n codes rows rows'
-  pub ranged : (m : ℕ) → r ≡ Verdict.TheVariants.Accepted m → Ranged rows' codes
+  pub numbered : (m : ℕ) → r ≡ Ok m → Numbered n codes rows rows'
+  pub ranged : (m : ℕ) → r ≡ Ok m → Ranged rows' codes

@@ -5,24 +5,36 @@
 ghost use Rattle.type_table.specs.View.{both_codes};
 ghost use Rattle.section_decide.specs.Deciding.{Decidable, Deep, Decided};
 
-use scope::Verdict;
+use scope::Rejected;
 
 // The two passes, with the ranges between them, once the end words are depths.
-fn decide_deep(rows: &mut [u16], shared: &[u16], codes: &[u16], first: u64, n: u64) -> Verdict
+fn decide_deep(
+    rows: &mut [u16],
+    shared: &[u16],
+    codes: &[u16],
+    first: u64,
+    n: u64,
+) -> Result<u64, Rejected>
     requires { Deep first n (both_codes shared.now codes.now) rows.old }
     ensures { Decided first n (both_codes shared.now codes.now) rows.old rows.new result }
 {
     let links = section_judge::judge_links(rows, shared, codes, first, n);
     match links {
-        Verdict::Refused(number, place) => Verdict::Refused(number, place),
-        Verdict::Accepted(_) => {
+        Err(e) => Err(e),
+        Ok(_) => {
             type_numbering::number(rows, shared, codes, n);
             section_judge::judge_rules(rows, shared, codes, first, n)
         }
     }
 }
 
-pub fn decide(rows: &mut [u16], shared: &[u16], codes: &[u16], first: u64, n: u64) -> Verdict
+pub fn decide(
+    rows: &mut [u16],
+    shared: &[u16],
+    codes: &[u16],
+    first: u64,
+    n: u64,
+) -> Result<u64, Rejected>
     requires { Decidable first n (both_codes shared.now codes.now) rows.old }
     ensures { Decided first n (both_codes shared.now codes.now) rows.old rows.new result }
 {

@@ -9,22 +9,23 @@ use native.Mathlib.Nat.{le_trans}
 use lib.ListN.{length}
 use mir.Syntax.{w64}
 use mir.Val.{Fits}
+use Rattle.std.specs.Prelude.{Result, Ok, Err, IsErrAnd}
+use Rattle.scope.specs.Told.{told}
+use Rattle.scope.specs.declared.Refused.{Refused}
 use Rattle.scope.specs.Reading.{Read, got, refused, then}
 use Rattle.scope.specs.Syntax.{Form, Definition}
 use Rattle.scope.specs.Sections.{Head, head_at, clause_at, describes_code, descriptor_code, form_at, definition_at}
-use Rattle.scope.specs.Memory.{form_codes, flag, or_zero}
+use Rattle.scope.specs.Memory.{form_codes}
 use Rattle.scope.proofs.Forward.{Ends, stops, reaches, ends_then, head_ends, clause_ends}
 use Rattle.scope.proofs.Impossible.{impossible}
-use Rattle.type_table.specs.Kept.{kept_option, kept_form, kept_definition}
+use Rattle.scope.proofs.Told.{told_got, told_refused, passed}
+use Rattle.type_table.specs.Kept.{kept_form, kept_definition}
 use Rattle.type_table.specs.View.{row}
 use Rattle.type_table.proofs.Puts.{Puts}
 use Rattle.section_forms.proofs.Ahead.{form_ahead}
+use Rattle.section_clauses.specs.Links.{clauses_at, FrontOf, front_at, front_of}
 use Rattle.section_clauses.specs.declared.Front.{Front}
-use Rattle.section_clauses.specs.declared.Front
-use Rattle.section_clauses.specs.Links.{first_of_kept, further_of_kept, clauses_at, FrontOf, front_at, front_is}
-use Rattle.section_definition.specs.declared.DefinitionRead.{DefinitionRead}
-use Rattle.section_definition.specs.declared.DefinitionRead
-use Rattle.section_definition.specs.Rows.{low, row_of, RowRoom, formed_is, FormedRead, definition_is, DefinitionPut}
+use Rattle.section_definition.specs.Rows.{low, row_of, front_row, RowRoom, formed_is, FormedRead, definition_is, DefinitionPut}
 
 -- the definition of a front and a form
 abbrev defined : FrontOf → Form → ℕ → ℕ → ℕ → Definition
@@ -62,16 +63,6 @@ definition_is_lem reach s at = go (head_at s at)
     go (got h clauses) = second h (clause_at describes_code s clauses)
     go (refused n p) = refl
 
--- the answer of front_at, taken apart
-
-front_got : (o : Read FrontOf) {r : Front} {i f g d e n : ℕ} → r ≡ front_is o → r ≡ Front.TheVariants.Got i f g d e n → (x : FrontOf) × (o ≡ got x n) × (Front.TheVariants.Got i f g d e n ≡ front_is (got x n))
-front_got (got x m) {n = n} p q = let e : m ≡ n = cc in (x, ap (got x) e, sym q ∙ p ∙ ap (λ (k : ℕ). front_is (got x k)) e)
-front_got (refused k m) p q = impossible cc
-
-front_refused : (o : Read FrontOf) {r : Front} {k place : ℕ} → r ≡ front_is o → r ≡ Front.TheVariants.Refused k place → o ≡ refused k place
-front_refused (got x m) p q = impossible cc
-front_refused (refused n m) p q = cc
-
 front_ends : (s : List ℕ) (at : ℕ) → Ends at (length s) (front_at s at)
 front_ends s at =
     ends_then (head_ends s at) (λ h clauses a b.
@@ -87,22 +78,23 @@ front_inside s at {x} {n} e = go (front_ends s at) e
     go stops q = impossible cc
     go (reaches {next = m} a b) q = let same : m ≡ n = cc in (omega arith, omega arith)
 
-module _ (s : List ℕ) (at : ℕ) {r : Front} (a : r ≡ front_is (front_at s at)) where
-  pub definition_refused : (reach : ℕ) (rows : List ℕ) (line : ℕ) (codes : List ℕ) (base filled : ℕ) {k place : ℕ} → r ≡ Front.TheVariants.Refused k place → DefinitionPut reach s at rows rows line codes codes base filled (DefinitionRead.TheVariants.Refused k place)
-  definition_refused reach rows line codes base filled {k} {place} e =
-      let none : definition_at reach s at ≡ refused k place = definition_is_lem reach s at ∙ rw (front_refused (front_at s at) a e) in
-      record {
+module _ (s : List ℕ) (at : ℕ) where
+  pub definition_refused : (reach : ℕ) (rows : List ℕ) (line : ℕ) (codes : List ℕ) (base filled : ℕ) {no : Refused} {r : Result (ℕ × ℕ) Refused} → Err no ≡ told front_of (front_at s at) → IsErrAnd r (λ y. y ≡ no) → DefinitionPut reach s at rows rows line codes codes base filled r
+  definition_refused reach rows line codes base filled {no} e is =
+      let none : definition_at reach s at ≡ refused no.number no.at = definition_is_lem reach s at ∙ rw (told_refused front_of (front_at s at) e) in
+      rw (passed is refl)
+      (record {
         answer = rw none;
         row_put = λ d end g. impossible cc;
         codes_put = λ d end g. impossible cc;
         rows_kept = refl;
         codes_kept = refl;
-      }
+      })
 
-  module _ {i f g d e n : ℕ} (is : r ≡ Front.TheVariants.Got i f g d e n) where
+  module _ {front : Front} {n : ℕ} (is : Ok (front, n) ≡ told front_of (front_at s at)) where
     pub form_place : {rows codes : List ℕ} {line used filled : ℕ} → RowRoom s rows codes at line used filled → RowRoom s rows codes n line used filled
     form_place place =
-        let (x, read, same) = front_got (front_at s at) a is in
+        let (x, read, same) = told_got front_of (front_at s at) is in
         let inside = front_inside s at read in
         record {
           room = record { behind = le_trans place.room.behind inside.0; inside = inside.1; enough = omega (arith, place.room.enough, inside.0); small = place.room.small };
@@ -110,20 +102,14 @@ module _ (s : List ℕ) (at : ℕ) {r : Front} (a : r ≡ front_is (front_at s a
           line = place.line;
         }
 
-    same_row : (x : FrontOf) (k : Form) (reach used end : ℕ) → Front.TheVariants.Got i f g d e n ≡ front_is (got x n) → row_of i f d e at reach used g (kept_form k) end ≡ map low (row used (kept_definition (defined x k at end reach)))
+    same_row : (x : FrontOf) (k : Form) (reach used end : ℕ) → front ≡ front_of x → front_row front at reach used (kept_form k) end ≡ map low (row used (kept_definition (defined x k at end reach)))
     unfolding row_of row kept_definition
-    same_row x k reach used end same =
-        let a₁ : i ≡ flag x.head.is_open = cc in
-        let a₂ : f ≡ first_of_kept x.head.supers = cc in
-        let a₃ : g ≡ further_of_kept x.head.supers = cc in
-        let a₄ : d ≡ or_zero (kept_option x.clauses.describes) = cc in
-        let a₅ : e ≡ or_zero (kept_option x.clauses.descriptor) = cc in
-        rw (a₁, a₂, a₃, a₄, a₅)
+    same_row x k reach used end same = rw same
 
-    definition_read : {reach line base filled : ℕ} {rows rows' codes codes' : List ℕ} {q : DefinitionRead} (x : FrontOf) → front_at s at ≡ got x n → Front.TheVariants.Got i f g d e n ≡ front_is (got x n) → FormedRead (row_of i f d e at reach (base + filled) g) s n rows rows' line codes codes' filled q → DefinitionPut reach s at rows rows' line codes codes' base filled q
+    definition_read : {reach line base filled : ℕ} {rows rows' codes codes' : List ℕ} {q : Result (ℕ × ℕ) Refused} (x : FrontOf) → front_at s at ≡ got x n → front ≡ front_of x → FormedRead (front_row front at reach (base + filled)) s n rows rows' line codes codes' filled q → DefinitionPut reach s at rows rows' line codes codes' base filled q
     definition_read {reach} {line} {base} {filled} {rows} {rows'} {codes} {codes'} {q} x read same b =
         record {
-          answer = b.answer ∙ told (form_at s n) ∙ ap (definition_is filled) (sym whole);
+          answer = b.answer ∙ answered (form_at s n) ∙ ap (definition_is filled) (sym whole);
           row_put = λ y end h. put (form_at s n) refl y end (sym whole ∙ h);
           codes_put = λ y end h. coded (form_at s n) refl y end (sym whole ∙ h);
           rows_kept = b.rows_kept;
@@ -133,9 +119,9 @@ module _ (s : List ℕ) (at : ℕ) {r : Front} (a : r ≡ front_is (front_at s a
         whole : definition_at reach s at ≡ then (form_at s n) (λ k end. got (defined x k at end reach) end)
         whole = definition_is_lem reach s at ∙ rw read
 
-        told : (o : Read Form) → formed_is filled o ≡ definition_is filled (then o (λ k end. got (defined x k at end reach) end))
-        told (got k end) = refl
-        told (refused m p) = refl
+        answered : (o : Read Form) → formed_is filled o ≡ definition_is filled (then o (λ k end. got (defined x k at end reach) end))
+        answered (got k end) = refl
+        answered (refused m p) = refl
 
         put : (o : Read Form) → form_at s n ≡ o → (y : Definition) (end : ℕ) → then o (λ k stop. got (defined x k at stop reach) stop) ≡ got y end → Puts rows rows' line (map low (row (base + filled) (kept_definition y)))
         put (refused m p) u y end h = impossible cc
@@ -147,13 +133,11 @@ module _ (s : List ℕ) (at : ℕ) {r : Front} (a : r ≡ front_is (front_at s a
         coded (refused m p) u y end h = impossible cc
         coded (got k stop) u y end h = let it : defined x k at stop reach ≡ y = cc in rw (← it) (b.codes_put k stop u)
 
-    pub definition_got : {reach line base filled : ℕ} {rows rows' codes codes' : List ℕ} {q : DefinitionRead} → FormedRead (row_of i f d e at reach (base + filled) g) s n rows rows' line codes codes' filled q → DefinitionPut reach s at rows rows' line codes codes' base filled q
-    definition_got b = let (x, read, same) = front_got (front_at s at) a is in definition_read x read same b
+    pub definition_got : {reach line base filled : ℕ} {rows rows' codes codes' : List ℕ} {q : Result (ℕ × ℕ) Refused} → FormedRead (front_row front at reach (base + filled)) s n rows rows' line codes codes' filled q → DefinitionPut reach s at rows rows' line codes codes' base filled q
+    definition_got b = let (x, read, same) = told_got front_of (front_at s at) is in definition_read x read same b
 
 pub used_fits : {s rows codes : List ℕ} {at line used filled : ℕ} → RowRoom s rows codes at line used filled → Fits w64 used
 used_fits place = record { fits = omega (arith, place.behind, place.room.inside, place.room.small) }
-
-pub ruleset definition_exits = (definition_refused, form_place, definition_got, used_fits)
 
 -- a definition's codes took a byte each
 pub definition_ahead : (reach : ℕ) (s : List ℕ) (at : ℕ) {y : Definition} {end : ℕ} → definition_at reach s at ≡ got y end → at + length (form_codes (kept_form y.form)) < end
@@ -171,13 +155,3 @@ definition_ahead reach s at {y} {end} e = go (front_at s at) refl (sym (definiti
     go : (o : Read FrontOf) → front_at s at ≡ o → then o (λ x form. then (form_at s form) (λ f stop. got (defined x f at stop reach) stop)) ≡ got y end → at + length (form_codes (kept_form y.form)) < end
     go (refused k p) u q = impossible cc
     go (got x n) u q = more x n (front_inside s at u).0 (form_at s n) refl q
-
--- the answer, taken apart
-
-pub definition_inv : (filled : ℕ) (o : Read Definition) {r : DefinitionRead} {next more : ℕ} → r ≡ definition_is filled o → r ≡ DefinitionRead.TheVariants.Got next more → (d : Definition) × (o ≡ got d next) × (more ≡ filled + length (form_codes (kept_form d.form)))
-definition_inv filled (got d m) {next = next} p q = let e : m ≡ next = cc in (d, ap (got d) e, cc)
-definition_inv filled (refused k m) p q = impossible cc
-
-pub definition_refused_inv : (filled : ℕ) (o : Read Definition) {r : DefinitionRead} {k place : ℕ} → r ≡ definition_is filled o → r ≡ DefinitionRead.TheVariants.Refused k place → o ≡ refused k place
-definition_refused_inv filled (got d m) p q = impossible cc
-definition_refused_inv filled (refused n m) p q = cc

@@ -5,10 +5,11 @@
 ghost use Rattle.std.specs.Prelude.{◌+◌, ◌≤◌, ◌∷◌, [], length};
 ghost use Rattle.scope.specs.Layout.{row_span};
 ghost use Rattle.type_table.proofs.Puts.{Puts};
-ghost use Rattle.section_definition.specs.Rows.{low, row_low, row_of, RowRoom, FormedRead, DefinitionPut};
+ghost use Rattle.section_definition.specs.Rows.{low, front_low, front_row, RowRoom, FormedRead, DefinitionPut};
 
+use scope::Read;
 use section_clauses::Front;
-use section_forms::FormRead;
+use section_forms::Shape;
 
 // Four words, one after the other.
 fn put_four(m: &mut [u16], at: u64, a: u64, b: u64, c: u64, d: u64)
@@ -28,30 +29,27 @@ fn put_row(
     kind: u64,
     n: u64,
     results: u64,
-    opens: u64,
-    first: u64,
-    described: u64,
-    describing: u64,
+    front: Front,
     from: u64,
     to: u64,
     reach: u64,
     used: u64,
-    further: u64,
 )
     requires { at + row_span ≤ length m.old }
-    ensures { Puts m.old m.new at (row_low kind n results opens first described describing from to reach used further) }
+    ensures { Puts m.old m.new at (front_low kind n results front from to reach used) }
 {
-    put_four(m, at, kind, n, results, opens);
-    put_four(m, at + 4, first, described, describing, from);
-    put_four(m, at + 8, to, reach, used, further);
+    let Front { head, clauses } = front;
+    put_four(m, at, kind, n, results, head.opens);
+    put_four(
+        m,
+        at + 4,
+        head.supers.first,
+        clauses.described,
+        clauses.describing,
+        from,
+    );
+    put_four(m, at + 8, to, reach, used, head.supers.further);
     put_four(m, at + 12, 0, 0, 0, 0);
-}
-
-// The place after a definition and how far the part is filled then; or a refusal's number and place.
-#[derive(Clone, Copy)]
-pub enum DefinitionRead {
-    Got(usize, u64),
-    Refused(u64, usize),
 }
 
 // The form of a definition that began at `from`, and then its row, which says that `used` codes are before its own.
@@ -60,70 +58,56 @@ fn formed_at(
     at: usize,
     from: usize,
     reach: u64,
-    opens: u64,
-    first: u64,
-    further: u64,
-    described: u64,
-    describing: u64,
+    front: Front,
     rows: &mut [u16],
     row: u64,
     codes: &mut [u16],
     used: u64,
     filled: u64,
-) -> DefinitionRead
+) -> Read<u64>
     requires { RowRoom s.now rows.old codes.old at row used filled }
-    ensures { let words = row_of opens first described describing from reach used further in
-        FormedRead words s.now at rows.old rows.new row codes.old codes.new filled result }
+    ensures { FormedRead (front_row front from reach used) s.now at rows.old rows.new row codes.old codes.new filled result }
 {
-    let form = section_forms::form_at(s, at, codes, filled);
-    match form {
-        FormRead::Refused(number, place) => DefinitionRead::Refused(number, place),
-        FormRead::Struct(n, end) => {
+    let (shape, end) = section_forms::form_at(s, at, codes, filled)?;
+    match shape {
+        Shape::Struct(n) => {
             put_row(
                 rows,
                 row,
                 type_table::STRUCT,
                 n,
                 0,
-                opens,
-                first,
-                described,
-                describing,
+                front,
                 from as u64,
                 end as u64,
                 reach,
                 used,
-                further,
             );
             let full = filled + n;
-            DefinitionRead::Got(end, full)
+            Ok((full, end))
         }
-        FormRead::Func(n, m, end) => {
+        Shape::Func(n, m) => {
             put_row(
                 rows,
                 row,
                 type_table::FUNC,
                 n,
                 m,
-                opens,
-                first,
-                described,
-                describing,
+                front,
                 from as u64,
                 end as u64,
                 reach,
                 used,
-                further,
             );
             let parameters = filled + n;
             let full = parameters + m;
-            DefinitionRead::Got(end, full)
+            Ok((full, end))
         }
     }
 }
 
 // A definition of a group that reaches so far, its row put at `row` and its codes into the part from `filled` on; `base`
-// codes are before the part.
+// codes are before the part. How far the part is filled then is the answer.
 pub fn definition_at(
     s: &[u8],
     at: usize,
@@ -133,17 +117,11 @@ pub fn definition_at(
     codes: &mut [u16],
     base: u64,
     filled: u64,
-) -> DefinitionRead
+) -> Read<u64>
     requires { RowRoom s.now rows.old codes.old at row (base + filled) filled }
     ensures { DefinitionPut reach s.now at rows.old rows.new row codes.old codes.new base filled result }
 {
     let used = base + filled;
-    let front = section_clauses::front_at(s, at);
-    match front {
-        Front::Refused(number, place) => DefinitionRead::Refused(number, place),
-        Front::Got(opens, first, further, described, describing, next) => formed_at(
-            s, next, at, reach, opens, first, further, described, describing, rows, row, codes,
-            used, filled,
-        ),
-    }
+    let (front, next) = section_clauses::front_at(s, at)?;
+    formed_at(s, next, at, reach, front, rows, row, codes, used, filled)
 }

@@ -7,6 +7,7 @@ use mathlib.Core.List.{List, map}
 use native.Mathlib.Omega.{arith}
 use lib.ListN.{length, length-map, length-append, get_elem?}
 use lib.Dec.{eqb}
+use Rattle.std.specs.Prelude.{Ok}
 use Rattle.scope.specs.Refusals.{bytes_end, not_listed}
 use Rattle.scope.specs.Reading.{Read, got, refused, given, then}
 use Rattle.scope.specs.Syntax.{Val, Field, Form, struct, func}
@@ -14,28 +15,23 @@ use Rattle.scope.specs.Sections.{val_at, field_at, few_at, form_at}
 use Rattle.scope.specs.Memory.{val_code, field_code, form_codes}
 use Rattle.scope.proofs.Forward.{val_takes, field_takes}
 use Rattle.scope.proofs.Impossible.{impossible}
+use Rattle.scope.proofs.Told.{value_is, place_is}
 use Rattle.type_table.specs.Kept.{kept_val, kept_field, kept_form}
-use Rattle.section_forms.specs.declared.FormRead.{FormRead}
-use Rattle.section_forms.specs.declared.FormRead
+use Rattle.section_forms.specs.declared.Shape
 use Rattle.section_forms.specs.Reads.{form_is, struct_at, func_at}
 use Rattle.section_forms.proofs.Counting.{few_ahead}
 
 -- the answer, taken apart
 
-pub struct_inv : (o : Read Form) {r : FormRead} {n end : ℕ} → r ≡ form_is o → r ≡ FormRead.TheVariants.Struct n end → (fs : List Field) × (o ≡ got (struct fs) end) × (n ≡ length fs)
-struct_inv (got (struct fs) m) {end = end} p q = let e : m ≡ end = cc in (fs, ap (got (struct fs)) e, cc)
-struct_inv (got (func ps rs) m) p q = impossible cc
-struct_inv (refused k m) p q = impossible cc
+pub struct_inv : (o : Read Form) {n end : ℕ} → Ok (Shape.TheVariants.Struct n, end) ≡ form_is o → (fs : List Field) × (o ≡ got (struct fs) end) × (n ≡ length fs)
+struct_inv (got (struct fs) m) p = let e = value_is p refl in (fs, ap (got (struct fs)) (place_is p refl), cc)
+struct_inv (got (func ps rs) m) p = let e = value_is p refl in impossible cc
+struct_inv (refused k m) p = impossible cc
 
-pub func_inv : (o : Read Form) {r : FormRead} {n k end : ℕ} → r ≡ form_is o → r ≡ FormRead.TheVariants.Func n k end → (ps : List Val) × (rs : List Val) × (o ≡ got (func ps rs) end) × (n ≡ length ps) × (k ≡ length rs)
-func_inv (got (struct fs) m) p q = impossible cc
-func_inv (got (func ps rs) m) {end = end} p q = let e : m ≡ end = cc in (ps, rs, ap (got (func ps rs)) e, cc, cc)
-func_inv (refused k m) p q = impossible cc
-
-pub form_refused_inv : (o : Read Form) {r : FormRead} {n place : ℕ} → r ≡ form_is o → r ≡ FormRead.TheVariants.Refused n place → o ≡ refused n place
-form_refused_inv (got (struct fs) m) p q = impossible cc
-form_refused_inv (got (func ps rs) m) p q = impossible cc
-form_refused_inv (refused k m) p q = cc
+pub func_inv : (o : Read Form) {n k end : ℕ} → Ok (Shape.TheVariants.Func n k, end) ≡ form_is o → (ps : List Val) × (rs : List Val) × (o ≡ got (func ps rs) end) × (n ≡ length ps) × (k ≡ length rs)
+func_inv (got (struct fs) m) p = let e = value_is p refl in impossible cc
+func_inv (got (func ps rs) m) p = let e = value_is p refl in (ps, rs, ap (got (func ps rs)) (place_is p refl), cc, cc)
+func_inv (refused k m) p = impossible cc
 
 -- how many codes a form has
 

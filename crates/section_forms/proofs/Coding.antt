@@ -5,6 +5,8 @@ use mathlib.Core.Path.{◌≡◌, refl, sym, ap, ◌∙◌}
 use mathlib.Core.Bool.{true, false}
 use mathlib.Core.List.{List, ◌∷◌, map, map-map}
 use lib.ListN.{length, length-map}
+use Rattle.std.specs.Prelude.{Ok, Err}
+use Rattle.scope.specs.declared.Refused.{Refused}
 use Rattle.scope.specs.Sizes.{most_each}
 use Rattle.scope.specs.Reading.{Read, got, refused, Reader, then, entries}
 use Rattle.scope.specs.Numbers.{u32}
@@ -12,10 +14,9 @@ use Rattle.scope.specs.Syntax.{Val, Field, struct}
 use Rattle.scope.specs.Sections.{val_at, field_at, few_at}
 use Rattle.scope.specs.Memory.{val_code, field_code, form_codes}
 use Rattle.scope.proofs.Impossible.{impossible}
+use Rattle.scope.proofs.Told.{read_refused, value_is, place_is}
 use Rattle.type_table.specs.Kept.{kept_val, kept_field, kept_form}
 use Rattle.type_read.specs.Codes.{val_code_kept, field_code_kept}
-use Rattle.section_forms.specs.declared.Entries.{Entries}
-use Rattle.section_forms.specs.declared.Entries
 use Rattle.section_forms.specs.Reads.{coding, code_at, entries_is}
 
 module _ {A : Type 0} (one : Reader A) (code : A → ℕ) (coded : Reader ℕ) (same : (s : List ℕ) (at : ℕ) → coded s at ≡ coding code (one s at)) where
@@ -54,16 +55,13 @@ vals_coded = few_coded val_at val_code_kept (code_at false) (λ s at. refl)
 -- the answer of few_at, taken apart
 
 module _ {A : Type 0} (code : A → ℕ) where
-  pub list_got : (o : Read (List A)) {r : Entries} {n next : ℕ} → r ≡ entries_is (coding (map code) o) → r ≡ Entries.TheVariants.Got n next → (xs : List A) × (o ≡ got xs next) × (n ≡ length xs)
-  list_got (got xs m) {n = n} {next = next} p q =
-      let e : length (map code xs) ≡ n = cc in
-      let f : m ≡ next = cc in
-      (xs, ap (got xs) f, sym e ∙ length-map xs code)
-  list_got (refused k m) p q = impossible cc
+  pub list_got : (o : Read (List A)) {n next : ℕ} → Ok (n, next) ≡ entries_is (coding (map code) o) → (xs : List A) × (o ≡ got xs next) × (n ≡ length xs)
+  list_got (got xs m) p = (xs, ap (got xs) (place_is p refl), sym (value_is p refl) ∙ length-map xs code)
+  list_got (refused k m) p = impossible cc
 
-  pub list_refused : (o : Read (List A)) {r : Entries} {k place : ℕ} → r ≡ entries_is (coding (map code) o) → r ≡ Entries.TheVariants.Refused k place → o ≡ refused k place
-  list_refused (got xs m) p q = impossible cc
-  list_refused (refused n m) p q = cc
+  pub list_refused : (o : Read (List A)) {no : Refused} → Err no ≡ entries_is (coding (map code) o) → o ≡ refused no.number no.at
+  list_refused (got xs m) p = impossible cc
+  list_refused (refused n m) p = read_refused p refl
 
 -- a form's codes
 

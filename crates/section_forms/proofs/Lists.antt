@@ -9,21 +9,21 @@ use native.Mathlib.Nat.{mod-eq_of_lt}
 use lib.ListN.{length, set, length-append}
 use mir.Syntax.{w64}
 use mir.Val.{Fits}
+use Rattle.scope.specs.Told.{no_at}
+use Rattle.std.specs.Prelude.{Result, Ok, Err, IsErrAnd}
+use Rattle.scope.specs.declared.Refused.{Refused}
 use Rattle.scope.specs.Refusals.{oversize}
 use Rattle.scope.specs.Sizes.{most_each}
 use Rattle.scope.specs.Reading.{Read, got, refused, Reader, then, entries}
 use Rattle.scope.specs.Sections.{val_at, field_at}
 use Rattle.scope.proofs.Forward.{Ends, stops, reaches, Takes, val_takes, field_takes, never_back}
 use Rattle.scope.proofs.Impossible.{contradiction}
+use Rattle.scope.proofs.Told.{passed}
 use Rattle.lent_u16.specs.Words.{word_limit}
 use Rattle.type_table.proofs.Puts.{Puts, puts_none, puts_one, puts_more, puts_length}
-use Rattle.type_read.specs.declared.Coded.{Coded}
-use Rattle.type_read.specs.declared.Coded
 use Rattle.type_read.specs.Codes.{coded_is, val_code_kept, field_code_kept}
 use Rattle.type_read.proofs.Vals.{coded_got, coded_refused}
 use Rattle.type_read.proofs.Fields.{val_code_most, field_code_most}
-use Rattle.section_forms.specs.declared.Entries.{Entries}
-use Rattle.section_forms.specs.declared.Entries
 use Rattle.section_forms.specs.Reads.{Room, itself, coding, code_at, entries_is, EntriesRead}
 
 -- code_at
@@ -32,7 +32,7 @@ coded-coding : {A : Type 0} (f : A → ℕ) (o : Read A) → coded_is f o ≡ co
 coded-coding f (got x n) = refl
 coded-coding f (refused n p) = refl
 
-module _ (s : List ℕ) (at : ℕ) {r : Coded} {fields : Bool} where
+module _ (s : List ℕ) (at : ℕ) {r : Result (ℕ × ℕ) Refused} {fields : Bool} where
   pub code_field : fields ≡ true → r ≡ coded_is field_code_kept (field_at s at) → r ≡ coded_is itself (code_at fields s at)
   unfolding code_at
   code_field e f = rw e (f ∙ coded-coding field_code_kept (field_at s at))
@@ -120,16 +120,16 @@ listed-first {s} {codes} {at} {used} n fields room =
     }
 
 module _ {fields : Bool} {n : ℕ} {s : List ℕ} {at : ℕ} {codes₀ codes : List ℕ} {used next count : ℕ} (p : Listed fields n s at codes₀ codes used next count) where
-  no_list : {r : Entries} → ((xs : List ℕ) (stop : ℕ) → entries (code_at fields) most_each n s at ≡ got xs stop → ⊥) → r ≡ entries_is (entries (code_at fields) most_each n s at) → EntriesRead (code_at fields) n s at codes₀ codes used r
+  no_list : {r : Result (ℕ × ℕ) Refused} → ((xs : List ℕ) (stop : ℕ) → entries (code_at fields) most_each n s at ≡ got xs stop → ⊥) → r ≡ entries_is (entries (code_at fields) most_each n s at) → EntriesRead (code_at fields) n s at codes₀ codes used r
   no_list never e = record { answer = e; memory = λ xs stop f. absurd (never xs stop f); size = puts_length p.puts }
 
-  refused_list : {k place : ℕ} → entries (code_at fields) most_each n s at ≡ refused k place → EntriesRead (code_at fields) n s at codes₀ codes used (Entries.TheVariants.Refused k place)
+  refused_list : {no : Refused} → entries (code_at fields) most_each n s at ≡ refused no.number no.at → EntriesRead (code_at fields) n s at codes₀ codes used (Err no)
   refused_list e = no_list (λ xs stop f. contradiction cc) (rw e)
 
-  pub listed-done : n ≤ count → EntriesRead (code_at fields) n s at codes₀ codes used (Entries.TheVariants.Got count next)
+  pub listed-done : n ≤ count → EntriesRead (code_at fields) n s at codes₀ codes used (Ok (n, next))
   listed-done h =
       let all : entries (code_at fields) most_each n s at ≡ got (p.done ++ []) next = p.same ∙ ap (onto p.done) (entries-done (code_at fields) (most_each - count) (n - count) s next (omega arith)) in
-      let long : length (p.done ++ []) ≡ count = length-append p.done [] ∙ (let q = p.counted in omega arith) in
+      let long : length (p.done ++ []) ≡ n = length-append p.done [] ∙ (let q = p.counted in let few = p.fewer in omega arith) in
       record {
         answer = rw (all, long);
         memory = λ xs stop f. let q : p.done ++ [] ≡ xs = cc in rw (← q, append-nil) p.puts;
@@ -137,19 +137,20 @@ module _ {fields : Bool} {n : ℕ} {s : List ℕ} {at : ℕ} {codes₀ codes : L
       }
 
   module _ (more : count < n) where
-    pub listed_over : most_each ≤ count → EntriesRead (code_at fields) n s at codes₀ codes used (Entries.TheVariants.Refused oversize next)
+    pub listed_over : most_each ≤ count → EntriesRead (code_at fields) n s at codes₀ codes used (Err (no_at oversize next))
     listed_over h = refused_list (p.same ∙ ap (onto p.done) (entries_over (code_at fields) (most_each - count) (n - count) s next (omega arith) (omega arith)))
 
-    module _ (room : count < most_each) {r : Coded} (a : r ≡ coded_is itself (code_at fields s next)) where
-      pub listed_refused : {k place : ℕ} → r ≡ Coded.TheVariants.Refused k place → EntriesRead (code_at fields) n s at codes₀ codes used (Entries.TheVariants.Refused k place)
-      listed_refused e =
-          refused_list
+    module _ (room : count < most_each) where
+      pub listed_refused : {no : Refused} {r : Result (ℕ × ℕ) Refused} → Err no ≡ coded_is itself (code_at fields s next) → IsErrAnd r (λ y. y ≡ no) → EntriesRead (code_at fields) n s at codes₀ codes used r
+      listed_refused e is =
+          rw (passed is refl)
+          (refused_list
           (p.same
-          ∙ ap (onto p.done) (entries_refused (code_at fields) (most_each - count) (n - count) s next (omega arith) (omega arith) (coded_refused itself (code_at fields s next) a e)))
+          ∙ ap (onto p.done) (entries_refused (code_at fields) (most_each - count) (n - count) s next (omega arith) (omega arith) (coded_refused itself (code_at fields s next) e refl))))
 
-      module _ {code after : ℕ} (e : r ≡ Coded.TheVariants.Is code after) where
+      module _ {code after : ℕ} (e : Ok (code, after) ≡ coded_is itself (code_at fields s next)) where
         code_read : code_at fields s next ≡ got code after
-        code_read = let (x, read, same) = coded_got itself (code_at fields s next) a e in read ∙ ap (λ (c : ℕ). got c after) (sym same)
+        code_read = let (x, read, same) = coded_got itself (code_at fields s next) e refl in read ∙ ap (λ (c : ℕ). got c after) (sym same)
 
         pub listed_turn : {codes' : List ℕ} → codes' ≡ set codes (used + count) (code % word_limit) → Room s codes₀ at used → Listed fields n s at codes₀ codes' used after (count + 1)
         listed_turn {codes'} f space =
@@ -177,10 +178,7 @@ module _ {fields : Bool} {n : ℕ} {s : List ℕ} {at : ℕ} {codes₀ codes : L
   pub place_fits : count < n → count < most_each → Room s codes₀ at used → Fits w64 (used + count)
   place_fits h k space = record { fits = omega (arith, space.behind, space.inside, space.small) }
 
-  pub count_fits : count < n → count < most_each → Fits w64 (count + 1)
-  count_fits h k = record { fits = omega arith }
-
   pub listed_size : length codes ≡ length codes₀
   listed_size = puts_length p.puts
 
-pub ruleset list_exits = (listed-first, listed-done, listed_over, listed_refused, listed_turn, place_fits, count_fits, listed_size)
+pub ruleset list_exits = (listed-first, listed-done, listed_over, listed_refused, listed_turn, place_fits, listed_size)

@@ -7,6 +7,9 @@ use native.Mathlib.Omega.{arith}
 use lib.ListN.{length, length-append, length-map}
 use mir.Syntax.{w64}
 use mir.Val.{Fits}
+use Rattle.scope.specs.Told.{no_at}
+use Rattle.std.specs.Prelude.{Result, Ok, Err, IsErrAnd}
+use Rattle.scope.specs.declared.Refused.{Refused}
 use Rattle.scope.specs.Layout.{row_span, codes_size}
 use Rattle.scope.specs.Refusals.{oversize}
 use Rattle.scope.specs.Sizes.{most_types}
@@ -16,18 +19,16 @@ use Rattle.scope.specs.Sections.{definition_at}
 use Rattle.scope.specs.Memory.{form_codes}
 use Rattle.scope.proofs.Forward.{definition_takes, never_back}
 use Rattle.scope.proofs.Impossible.{impossible}
+use Rattle.scope.proofs.Told.{told_got, told_refused, passed}
 use Rattle.type_table.specs.Kept.{kept_form, kept_definition}
 use Rattle.type_table.specs.View.{row, rows_of, codes_of}
 use Rattle.type_table.proofs.Puts.{Puts, puts_none, puts_more, puts_length}
 use Rattle.type_table.proofs.Growing.{rows-length, codes-append, rows_append}
 use Rattle.section_forms.specs.Reads.{Room}
 use Rattle.section_forms.proofs.Lists.{onto, onto-none, onto_more, entries-step, entries_refused, entries_over, entries-done}
-use Rattle.section_definition.specs.declared.DefinitionRead.{DefinitionRead}
-use Rattle.section_definition.specs.declared.DefinitionRead
-use Rattle.section_definition.specs.Rows.{low, RowRoom, DefinitionPut}
-use Rattle.section_definition.proofs.Defining.{definition_ahead, definition_inv, definition_refused_inv}
-use Rattle.section_group.specs.declared.GroupRead.{GroupRead}
-use Rattle.section_group.specs.declared.GroupRead
+use Rattle.section_definition.specs.Rows.{low, RowRoom, full_by, DefinitionPut}
+use Rattle.section_definition.proofs.Defining.{definition_ahead}
+use Rattle.section_group.specs.declared.Group.{Group}
 use Rattle.section_group.specs.Lent.{Lent, entries_at, kept_all, GroupPut}
 
 pub record Grouped (reach first n : ℕ) (s : List ℕ) (at : ℕ) (rows₀ rows codes₀ codes : List ℕ) (used next count filled : ℕ) : Type 0 where
@@ -92,12 +93,13 @@ module _ {reach first n : ℕ} {s : List ℕ} {at : ℕ} {rows₀ rows codes₀ 
   pub grouped_codes_size : length codes ≡ length codes₀
   grouped_codes_size = puts_length p.codes_put
 
-  pub grouped_done : n ≤ count → GroupPut (entries_at reach first n) s at rows₀ rows codes₀ codes used (GroupRead.TheVariants.Got count next (used + filled))
+  pub grouped_done : n ≤ count → let group : Group = record { count = n; used = used + filled } in GroupPut (entries_at reach first n) s at rows₀ rows codes₀ codes used (Ok (group, next))
   grouped_done h =
       let all : entries_at reach first n s at ≡ got (p.done ++ []) next = p.same ∙ ap (onto p.done) (entries-done (definition_at reach) (most_types - first - count) (n - count) s next (omega arith)) in
       let whole : entries_at reach first n s at ≡ got p.done next = all ∙ ap (λ ds. got ds next) (append-nil p.done) in
+      let long : length p.done ≡ n = let q = p.counted in let few = p.fewer in omega arith in
       record {
-        answer = rw (whole, p.fills, p.counted);
+        answer = rw (whole, p.fills, long);
         rows_put = λ ds stop e. let same : p.done ≡ ds = cc in rw (← same) p.rows_put;
         codes_put = λ ds stop e. let same : p.done ≡ ds = cc in rw (← same) p.codes_put;
         rows_kept = grouped_rows_size;
@@ -111,7 +113,7 @@ module _ {reach first n : ℕ} {s : List ℕ} {at : ℕ} {rows₀ rows codes₀ 
   grouped_number-fits = let f = p.few in record { fits = omega arith }
 
   module _ (more : count < n) where
-    no_group : {rows' codes' : List ℕ} {k place : ℕ} → length rows' ≡ length rows₀ → length codes' ≡ length codes₀ → entries_at reach first n s at ≡ refused k place → GroupPut (entries_at reach first n) s at rows₀ rows' codes₀ codes' used (GroupRead.TheVariants.Refused k place)
+    no_group : {rows' codes' : List ℕ} {no : Refused} → length rows' ≡ length rows₀ → length codes' ≡ length codes₀ → entries_at reach first n s at ≡ refused no.number no.at → GroupPut (entries_at reach first n) s at rows₀ rows' codes₀ codes' used (Err no)
     no_group a b e =
         record {
           answer = rw e;
@@ -121,7 +123,7 @@ module _ {reach first n : ℕ} {s : List ℕ} {at : ℕ} {rows₀ rows codes₀ 
           codes_kept = b;
         }
 
-    pub grouped_over : most_types ≤ first + count → GroupPut (entries_at reach first n) s at rows₀ rows codes₀ codes used (GroupRead.TheVariants.Refused oversize next)
+    pub grouped_over : most_types ≤ first + count → GroupPut (entries_at reach first n) s at rows₀ rows codes₀ codes used (Err (no_at oversize next))
     grouped_over h =
         no_group grouped_rows_size grouped_codes_size
         (p.same ∙ ap (onto p.done) (entries_over (definition_at reach) (most_types - first - count) (n - count) s next (omega arith) (omega arith)))
@@ -130,30 +132,22 @@ module _ {reach first n : ℕ} {s : List ℕ} {at : ℕ} {rows₀ rows codes₀ 
       pub grouped_line_fits : Fits w64 (row_span * count)
       grouped_line_fits = record { fits = omega arith }
 
-      pub grouped_count_fits : Fits w64 (count + 1)
-      grouped_count_fits = record { fits = omega arith }
-
       pub grouped_place : Lent s rows₀ codes₀ at first used → RowRoom s rows codes next (row_span * count) (used + filled) filled
       grouped_place lent =
           let size = grouped_rows_size in
           let lines = lent.lines in
           record { room = p.room; behind = p.behind; line = omega arith }
 
-      module _ {rows' codes' : List ℕ} {r : DefinitionRead} (a : DefinitionPut reach s next rows rows' (row_span * count) codes codes' used filled r) where
-        pub grouped_rows-kept : length rows' ≡ length rows₀
-        grouped_rows-kept = a.rows_kept ∙ grouped_rows_size
+      pub grouped_refused : {rows' codes' : List ℕ} {no : Refused} {r : Result (Group × ℕ) Refused} → DefinitionPut reach s next rows rows' (row_span * count) codes codes' used filled (Err no) → IsErrAnd r (λ y. y ≡ no) → GroupPut (entries_at reach first n) s at rows₀ rows' codes₀ codes' used r
+      grouped_refused a is =
+          rw (passed is refl)
+          (no_group (a.rows_kept ∙ grouped_rows_size) (a.codes_kept ∙ grouped_codes_size)
+          (p.same
+          ∙ ap (onto p.done) (entries_refused (definition_at reach) (most_types - first - count) (n - count) s next (omega arith) (omega arith) (told_refused (full_by filled) (definition_at reach s next) a.answer))))
 
-        pub grouped_codes-kept : length codes' ≡ length codes₀
-        grouped_codes-kept = a.codes_kept ∙ grouped_codes_size
-
-        pub grouped_refused : {k place : ℕ} → r ≡ DefinitionRead.TheVariants.Refused k place → GroupPut (entries_at reach first n) s at rows₀ rows' codes₀ codes' used (GroupRead.TheVariants.Refused k place)
-        grouped_refused e =
-            no_group grouped_rows-kept grouped_codes-kept
-            (p.same
-            ∙ ap (onto p.done) (entries_refused (definition_at reach) (most_types - first - count) (n - count) s next (omega arith) (omega arith) (definition_refused_inv filled (definition_at reach s next) a.answer e)))
-
-        defined_turn : {after later : ℕ} (d : Definition) → definition_at reach s next ≡ got d after → later ≡ filled + length (form_codes (kept_form d.form)) → Grouped reach first n s at rows₀ rows' codes₀ codes' used after (count + 1) later
-        defined_turn {after} {later} d read count-codes =
+      module _ {rows' codes' : List ℕ} {after later : ℕ} (a : DefinitionPut reach s next rows rows' (row_span * count) codes codes' used filled (Ok (later, after))) where
+        defined_turn : (d : Definition) → definition_at reach s next ≡ got d after → later ≡ filled + length (form_codes (kept_form d.form)) → Grouped reach first n s at rows₀ rows' codes₀ codes' used after (count + 1) later
+        defined_turn d read count-codes =
             let q : length p.done ≡ count = p.counted in
             let t : filled ≡ length (codes_of (kept_all p.done)) = p.fills in
             let ends = never_back (definition_takes reach) s next read in
@@ -186,7 +180,7 @@ module _ {reach first n : ℕ} {s : List ℕ} {at : ℕ} {rows₀ rows codes₀ 
               behind = omega (arith, p.behind);
             }
 
-        pub grouped_turn : {after later : ℕ} → r ≡ DefinitionRead.TheVariants.Got after later → Grouped reach first n s at rows₀ rows' codes₀ codes' used after (count + 1) later
-        grouped_turn e = let (d, read, codes-count) = definition_inv filled (definition_at reach s next) a.answer e in defined_turn d read codes-count
+        pub grouped_turn : Grouped reach first n s at rows₀ rows' codes₀ codes' used after (count + 1) later
+        grouped_turn = let (d, read, codes-count) = told_got (full_by filled) (definition_at reach s next) a.answer in defined_turn d read codes-count
 
-pub ruleset group_exits = (grouped_first, grouped_rows_size, grouped_codes_size, grouped_done, grouped_taken-fits, grouped_number-fits, grouped_over, grouped_line_fits, grouped_count_fits, grouped_place, grouped_rows-kept, grouped_codes-kept, grouped_refused, grouped_turn)
+pub ruleset group_exits = (grouped_first, grouped_rows_size, grouped_codes_size, grouped_done, grouped_taken-fits, grouped_number-fits, grouped_over, grouped_line_fits, grouped_place, grouped_refused, grouped_turn)

@@ -5,16 +5,13 @@
 ghost use Rattle.scope.specs.Sections.{group_at};
 ghost use Rattle.section_group.specs.Lent.{Lent, GroupPut, entries_at, several_at, alone_at};
 
-use number_bytes::Byte;
-use number_values::Natural;
-use scope::{refusals, sizes};
-use section_definition::DefinitionRead;
+use scope::{Read, Refused, refusals, sizes};
 
-// How many definitions were read, the place after them and how many codes of the table are used then; or a refusal.
+// How many definitions a group has, and how many codes of the table are used after it.
 #[derive(Clone, Copy)]
-pub enum GroupRead {
-    Got(u64, usize, u64),
-    Refused(u64, usize),
+pub struct Group {
+    pub count: u64,
+    pub used: u64,
 }
 
 // n definitions of a group that reaches so far and whose first type has the number `first`.
@@ -27,40 +24,34 @@ fn entries_at(
     rows: &mut [u16],
     codes: &mut [u16],
     used: u64,
-) -> GroupRead
+) -> Read<Group>
     requires { Lent s.now rows.old codes.old at first used }
     ensures { GroupPut (entries_at reach first n) s.now at rows.old rows.new codes.old codes.new used result }
 {
     let mut next = at;
-    let mut count: u64 = 0;
     let mut filled: u64 = 0;
-    while count < n {
+    for count in 0..n {
         if sizes::MOST_TYPES <= first + count {
-            return GroupRead::Refused(refusals::OVERSIZE, next);
+            return Err(Refused {
+                number: refusals::OVERSIZE,
+                at: next,
+            });
         }
-        let read = section_definition::definition_at(
-            s,
-            next,
-            reach,
-            rows,
-            sizes::ROW * count,
-            codes,
-            used,
-            filled,
-        );
-        match read {
-            DefinitionRead::Refused(number, place) => {
-                return GroupRead::Refused(number, place);
-            }
-            DefinitionRead::Got(after, more) => {
-                next = after;
-                filled = more;
-                count = count + 1;
-            }
-        }
+        let row = sizes::ROW * count;
+        let (more, after) = section_definition::definition_at(
+            s, next, reach, rows, row, codes, used, filled,
+        )?;
+        next = after;
+        filled = more;
     }
     let taken = used + filled;
-    GroupRead::Got(count, next, taken)
+    Ok((
+        Group {
+            count: n,
+            used: taken,
+        },
+        next,
+    ))
 }
 
 // 4E was read: a list of definitions.
@@ -71,15 +62,12 @@ fn several_at(
     rows: &mut [u16],
     codes: &mut [u16],
     used: u64,
-) -> GroupRead
+) -> Read<Group>
     requires { Lent s.now rows.old codes.old at first used }
     ensures { GroupPut (several_at first) s.now at rows.old rows.new codes.old codes.new used result }
 {
-    let counted = number::u32_at(s, at);
-    match counted {
-        Natural::Refused(number, place) => GroupRead::Refused(number, place),
-        Natural::Is(n, next) => entries_at(s, next, n, first + n, first, rows, codes, used),
-    }
+    let (n, next) = number::u32_at(s, at)?;
+    entries_at(s, next, n, first + n, first, rows, codes, used)
 }
 
 // One definition alone, where there is a row for it.
@@ -90,24 +78,30 @@ fn alone_at(
     rows: &mut [u16],
     codes: &mut [u16],
     used: u64,
-) -> GroupRead
+) -> Read<Group>
     requires { Lent s.now rows.old codes.old at first used }
     ensures { GroupPut (alone_at first) s.now at rows.old rows.new codes.old codes.new used result }
 {
     if sizes::MOST_TYPES <= first {
-        return GroupRead::Refused(refusals::OVERSIZE, at);
+        return Err(Refused {
+            number: refusals::OVERSIZE,
+            at,
+        });
     }
-    let read = section_definition::definition_at(s, at, first + 1, rows, 0, codes, used, 0);
-    match read {
-        DefinitionRead::Refused(number, place) => GroupRead::Refused(number, place),
-        DefinitionRead::Got(next, filled) => {
-            let taken = used + filled;
-            GroupRead::Got(1, next, taken)
-        }
-    }
+    let reach = first + 1;
+    let (filled, next) = section_definition::definition_at(s, at, reach, rows, 0, codes, used, 0)?;
+    let taken = used + filled;
+    Ok((
+        Group {
+            count: 1,
+            used: taken,
+        },
+        next,
+    ))
 }
 
 // A group: 4E and a list of definitions, or one definition alone.
+#[tactic(auto, using(crate::proofs::Ways::way_exits), unfolding(scope::specs::Sections::group_at))]
 pub fn group_at(
     s: &[u8],
     at: usize,
@@ -115,13 +109,15 @@ pub fn group_at(
     rows: &mut [u16],
     codes: &mut [u16],
     used: u64,
-) -> GroupRead
+) -> Read<Group>
     requires { Lent s.now rows.old codes.old at first used }
     ensures { GroupPut (group_at first) s.now at rows.old rows.new codes.old codes.new used result }
 {
-    let form = number_bytes::byte_at(s, at);
-    let Byte::Is(b) = form else {
-        return GroupRead::Refused(refusals::BYTES_END, at);
+    let Some(b) = number_bytes::byte_at(s, at) else {
+        return Err(Refused {
+            number: refusals::BYTES_END,
+            at,
+        });
     };
     if b == 0x4E {
         return several_at(s, at + 1, first, rows, codes, used);

@@ -8,13 +8,15 @@ use native.Mathlib.Omega.{arith}
 use borrow.Author.Count.{below_more}
 use mathlib.Core.Logic.{◌⊎◌, inl, inr}
 use Rattle.std.proofs.lemmas.Bool.{cases_lt}
+use Rattle.scope.specs.Told.{no_in}
+use Rattle.std.specs.Prelude.{Result, Ok, Err}
+use Rattle.scope.specs.declared.Rejected.{Rejected}
 use Rattle.scope.specs.Reading.{given}
 use Rattle.scope.specs.Syntax.{Types}
 use Rattle.scope.specs.Judging.{plain, Judged, accepted, rejected, and_then, scan, judge_types}
 use Rattle.scope.specs.declared.Place.{Place}
-use Rattle.scope.specs.declared.Verdict.{Verdict}
-use Rattle.scope.specs.declared.Verdict
 use Rattle.scope.proofs.Impossible.{impossible}
+use Rattle.scope.proofs.Told.{rejected_as}
 use Rattle.section_judge.specs.declared.Fault.{Fault}
 use Rattle.section_judge.specs.declared.Fault
 use Rattle.section_judge.specs.Verdict.{fault_is, ruled_is, fault_of, judge_from}
@@ -29,13 +31,13 @@ pub fault_number : (o : Option ℕ) {r : Fault} {k : ℕ} → r ≡ fault_is o �
 fault_number none p q = impossible cc
 fault_number (some j) p q = cc
 
-pub ruled_accepted : (o : Judged ℕ) {r : Verdict} {n : ℕ} → r ≡ ruled_is o → r ≡ Verdict.TheVariants.Accepted n → o ≡ accepted n
+pub ruled_accepted : (o : Judged ℕ) {r : Result ℕ Rejected} {n : ℕ} → r ≡ ruled_is o → r ≡ Ok n → o ≡ accepted n
 ruled_accepted (accepted m) p q = cc
 ruled_accepted (rejected k x) p q = impossible cc
 
-pub ruled_refused : (o : Judged ℕ) {r : Verdict} {k : ℕ} {place : Place} → r ≡ ruled_is o → r ≡ Verdict.TheVariants.Refused k place → o ≡ rejected k place
+pub ruled_refused : (o : Judged ℕ) {r : Result ℕ Rejected} {no : Rejected} → r ≡ ruled_is o → r ≡ Err no → o ≡ rejected no.number no.place
 ruled_refused (accepted m) p q = impossible cc
-ruled_refused (rejected j y) p q = cc
+ruled_refused (rejected j y) p q = rejected_as p q
 
 -- what a pass holds
 
@@ -55,15 +57,15 @@ unfolding scan
 no-type fault x n h = let none_left_lem : n - x ≡ zero = omega arith in rw none_left_lem
 
 module _ {fault : ℕ → Option ℕ} {first n x : ℕ} (p : Pass fault first n x) where
-  pub pass_done : (first ≤ n → x ≤ n) → n ≤ x → {most : ℕ} → most ≡ max first n → Verdict.TheVariants.Accepted most ≡ ruled_is (scan fault first (n - first))
+  pub pass_done : (first ≤ n → x ≤ n) → n ≤ x → {most : ℕ} → most ≡ max first n → Ok most ≡ ruled_is (scan fault first (n - first))
   pass_done near h {most} e = go (cases_lt first n)
     where
-      go : (first < n) ⊎ (n ≤ first) → Verdict.TheVariants.Accepted most ≡ ruled_is (scan fault first (n - first))
+      go : (first < n) ⊎ (n ≤ first) → Ok most ≡ ruled_is (scan fault first (n - first))
       go (inl less) = let all : x ≡ most = omega (arith, near (omega arith)) in rw (← all) (sym (ap ruled_is (p.same ∙ no-type fault x n h)))
       go (inr over) = let all : first ≡ most = omega arith in rw (← all) (sym (ap ruled_is (no-type fault first n over)))
 
   module _ (h : x < n) {r : Fault} (e : r ≡ fault_is (fault x)) where
-    pub pass_fault : {number : ℕ} → r ≡ Fault.TheVariants.Number number → Verdict.TheVariants.Refused number (plain x) ≡ ruled_is (scan fault first (n - first))
+    pub pass_fault : {number : ℕ} → r ≡ Fault.TheVariants.Number number → Err (no_in number (plain x)) ≡ ruled_is (scan fault first (n - first))
     pass_fault q = sym (ap ruled_is (p.same ∙ one_type fault x n h (fault_number (fault x) e q)))
 
     pub pass_turn : r ≡ Fault.TheVariants.Nothing → Pass fault first n (x + 1)
@@ -75,15 +77,15 @@ pub ruleset pass_exits = (pass_first, pass_done, pass_fault, pass_turn)
 
 -- the two passes
 
-module _ (ts : Types) (first n : ℕ) {l : Verdict} (e : l ≡ ruled_is (scan (fault_of true ts) first (n - first))) where
+module _ (ts : Types) (first n : ℕ) {l : Result ℕ Rejected} (e : l ≡ ruled_is (scan (fault_of true ts) first (n - first))) where
   first_pass : judge_from first ts n ≡ and_then (scan (fault_of true ts) first (n - first)) (λ links. scan (fault_of false ts) first (n - first))
   unfolding judge_from fault_of
   first_pass = refl
 
-  pub links_refused : {number : ℕ} {place : Place} → l ≡ Verdict.TheVariants.Refused number place → Verdict.TheVariants.Refused number place ≡ ruled_is (judge_from first ts n)
+  pub links_refused : {no : Rejected} → l ≡ Err no → Err no ≡ ruled_is (judge_from first ts n)
   links_refused q = rw (first_pass, ruled_refused (scan (fault_of true ts) first (n - first)) e q)
 
-  pub links_accepted : {m : ℕ} {r : Verdict} → l ≡ Verdict.TheVariants.Accepted m → r ≡ ruled_is (scan (fault_of false ts) first (n - first)) → r ≡ ruled_is (judge_from first ts n)
+  pub links_accepted : {m : ℕ} {r : Result ℕ Rejected} → l ≡ Ok m → r ≡ ruled_is (scan (fault_of false ts) first (n - first)) → r ≡ ruled_is (judge_from first ts n)
   links_accepted q p = rw (first_pass, ruled_accepted (scan (fault_of true ts) first (n - first)) e q) p
 
 pub ruleset judge_exits = (links_refused, links_accepted)

@@ -1,12 +1,13 @@
 -- What the judge of types answers, and the parts in which it asks the rules.
 use Rattle.std.specs.Prelude.{ℕ, ◌-◌, Bool, true, false, [], ◌∷◌}
 use Rattle.std.proofs.Math.Option.{Option, none, some}
+use Rattle.scope.specs.Told.{no_in}
+use Rattle.std.specs.Prelude.{Result, Ok, Err}
+use Rattle.scope.specs.declared.Rejected.{Rejected}
 use Rattle.scope.specs.Refusals.{clause_not_on_struct, describes_not_earlier, clauses_disagree, bad_descriptor, bad_describes}
 use Rattle.scope.specs.Syntax.{Types}
 use Rattle.scope.specs.TypeRules.{clauses_on_struct, describes_earlier, clauses_agree, descriptor_follows, describes_follows}
 use Rattle.scope.specs.Judging.{Judged, accepted, rejected, and_then, first_broken, links_fault, rule_fault, scan}
-use Rattle.scope.specs.declared.Verdict.{Verdict}
-use Rattle.scope.specs.declared.Verdict
 use Rattle.section_judge.specs.declared.Fault.{Fault}
 use Rattle.section_judge.specs.declared.Fault
 
@@ -15,9 +16,9 @@ fault_is none = Fault.TheVariants.Nothing
 fault_is (some number) = Fault.TheVariants.Number number
 
 -- the number that is accepted, or the refusal
-abbrev pub ruled_is : Judged ℕ → Verdict
-ruled_is (accepted n) = Verdict.TheVariants.Accepted n
-ruled_is (rejected number place) = Verdict.TheVariants.Refused number place
+abbrev pub ruled_is : Judged ℕ → Result ℕ Rejected
+ruled_is (accepted n) = Ok n
+ruled_is (rejected number place) = Err (no_in number place)
 
 -- 12 and 13, of one type
 unfoldable pub follow_fault : Types → ℕ → Option ℕ

@@ -10,7 +10,7 @@ ghost use Rattle.type_hierarchy.specs.Ranged.{Ranged};
 ghost use Rattle.section_judge.specs.Verdict.{fault_is, ruled_is, clauses_fault, follow_fault, fault_of};
 ghost use Rattle.section_judge.specs.Ready.{Chained, Ready, Linkable, Scannable};
 
-use scope::{Place, Verdict, refusals};
+use scope::{Place, Rejected, refusals};
 
 // The number of the first rule that a type breaks.
 #[derive(Clone, Copy)]
@@ -102,22 +102,31 @@ fn scan_types(
     links: bool,
     first: u64,
     n: u64,
-) -> Verdict
+) -> Result<u64, Rejected>
     requires { Scannable links first n rows.now (both_codes shared.now codes.now) }
     ensures { let types = view rows.now (both_codes shared.now codes.now) in
         result ≡ ruled_is (scan (fault_of links types) first (n - first)) }
 {
     for x in first..n {
         if let Fault::Number(number) = fault_of(rows, shared, codes, links, x) {
-            return Verdict::Refused(number, Place::Plain(x));
+            return Err(Rejected {
+                number,
+                place: Place::Plain(x),
+            });
         }
     }
-    Verdict::Accepted(first.max(n))
+    Ok(first.max(n))
 }
 
 // The first pass, over the types from `first` on of n, once the end words are depths.
 #[tactic(auto, using(crate::proofs::Passes::ready_exits))]
-pub fn judge_links(rows: &[u16], shared: &[u16], codes: &[u16], first: u64, n: u64) -> Verdict
+pub fn judge_links(
+    rows: &[u16],
+    shared: &[u16],
+    codes: &[u16],
+    first: u64,
+    n: u64,
+) -> Result<u64, Rejected>
     requires { Linkable first n rows.now (both_codes shared.now codes.now) }
     ensures { let types = view rows.now (both_codes shared.now codes.now) in
         result ≡ ruled_is (scan (fault_of true types) first (n - first)) }
@@ -127,7 +136,13 @@ pub fn judge_links(rows: &[u16], shared: &[u16], codes: &[u16], first: u64, n: u
 
 // The second pass, once the table has its ranges.
 #[tactic(auto, using(crate::proofs::Passes::ready_exits))]
-pub fn judge_rules(rows: &[u16], shared: &[u16], codes: &[u16], first: u64, n: u64) -> Verdict
+pub fn judge_rules(
+    rows: &[u16],
+    shared: &[u16],
+    codes: &[u16],
+    first: u64,
+    n: u64,
+) -> Result<u64, Rejected>
     requires { Ranged rows.now (both_codes shared.now codes.now) }
     ensures { let types = view rows.now (both_codes shared.now codes.now) in
         result ≡ ruled_is (scan (fault_of false types) first (n - first)) }

@@ -1,14 +1,16 @@
 -- Two sections read one after the other into rows that were zero: the rows of the add-on follow the library's, each section's
 -- codes stand first in a buffer of their own, and the table says the joined list of types, as it is kept.
-use Prim.Native.Nat.{ℕ, ◌+◌, ◌-◌, ◌*◌, ◌≤◌, ◌<◌}
-use mathlib.Core.Path.{◌≡◌, refl, sym, ap, ap₂, ◌∙◌}
-use mathlib.Core.List.{List, [], ◌∷◌, ◌++◌, map, append_assoc, append-nil, map-append}
+use Prim.Native.Nat.{ℕ, ◌+◌, ◌-◌, ◌*◌, ◌≤◌}
+use mathlib.Core.Path.{◌≡◌, sym, ap, ◌∙◌}
+use mathlib.Core.List.{List, [], ◌++◌, append_assoc, append-nil, map-append}
 use native.Mathlib.Nat.{zero-add}
 use native.Mathlib.Omega.{arith}
-use lib.ListN.{length, drop, replicate, length-append, length-map}
-use Rattle.scope.specs.Sizes.{most_types, most_bytes}
+use lib.ListN.{length, drop, replicate, length-map}
+use Rattle.std.specs.Prelude.{Result}
+use Rattle.scope.specs.declared.Refused.{Refused}
+use Rattle.scope.specs.Sizes.{most_types}
 use Rattle.scope.specs.Layout.{row_span, codes_size}
-use Rattle.scope.specs.Reading.{Read, got}
+use Rattle.scope.specs.Reading.{got}
 use Rattle.scope.specs.Lists.{joined}
 use Rattle.scope.specs.Sections.{read_after}
 use Rattle.scope.specs.Syntax.{Definition, Group, types_of}
@@ -20,16 +22,14 @@ use Rattle.type_table.proofs.AtMost.{kept_few}
 use Rattle.type_table.proofs.Growing.{rows-length}
 use Rattle.type_table.proofs.KeptVerdict.{ReachWithin, kept-verdict}
 use Rattle.type_table.proofs.TwoSections.{two_sections}
-use Rattle.section_definition.specs.Rows.{low}
 use Rattle.section_group.specs.Lent.{kept_all}
 use Rattle.section_reader.specs.Whole.{SectionPut}
-use Rattle.section_reader.specs.declared.SectionRead.{SectionRead}
 use Rattle.section_reader.proofs.Modest.{read_fits, read_lengths, read_reach, each_reach, each_append}
 use Rattle.section_reader.proofs.LowTable.{low-table}
 
 -- the library alone
 
-module _ (library : List ℕ) (R : ℕ) (shared codes : List ℕ) {rows₂ shared₂ : List ℕ} {q : SectionRead} (gs : List Group) {end : ℕ}
+module _ (library : List ℕ) (R : ℕ) (shared codes : List ℕ) {rows₂ shared₂ : List ℕ} {q : Result ℕ Refused} (gs : List Group) {end : ℕ}
     (a : SectionPut (read_after 0 library) 0 codes_size (replicate R 0) rows₂ shared shared₂ q) (read : read_after 0 library ≡ got gs end) where
   first_rows : Puts (replicate R 0) rows₂ 0 (rows_of codes_size (kept_all (joined gs)))
   first_rows = rw (low-table 0 codes_size (omega arith) (omega arith) library read) at (a.rows_put gs end read)
@@ -53,7 +53,7 @@ module _ (library : List ℕ) (R : ℕ) (shared codes : List ℕ) {rows₂ share
 
 -- both
 
-module _ (library section : List ℕ) (R : ℕ) (shared codes : List ℕ) {rows₂ rows₃ shared₂ codes₂ : List ℕ} {q q' : SectionRead} (gs gs' : List Group) {end end' : ℕ}
+module _ (library section : List ℕ) (R : ℕ) (shared codes : List ℕ) {rows₂ rows₃ shared₂ codes₂ : List ℕ} {q q' : Result ℕ Refused} (gs gs' : List Group) {end end' : ℕ}
     (a : SectionPut (read_after 0 library) 0 codes_size (replicate R 0) rows₂ shared shared₂ q) (read : read_after 0 library ≡ got gs end)
     (b : SectionPut (read_after (length (joined gs)) section) (length (joined gs)) 0 rows₂ rows₃ codes codes₂ q') (read' : read_after (length (joined gs)) section ≡ got gs' end') where
   few : length (joined gs) ≤ most_types

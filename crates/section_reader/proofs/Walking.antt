@@ -9,25 +9,27 @@ use lib.Seq.{take_all, drop-length}
 use mir.Syntax.{w64}
 use mir.Val.{Fits}
 use borrow.Rule.Slice.PartMut.{mid_of, put_mid, Post-is, same_len_mid}
+use Rattle.std.specs.Prelude.{Result, Ok, Err, IsErrAnd}
+use Rattle.scope.specs.declared.Refused.{Refused}
 use Rattle.scope.specs.Layout.{row_span, codes_size}
 use Rattle.scope.specs.Sizes.{most_types}
-use Rattle.scope.specs.Reading.{Read, got, refused, then}
+use Rattle.scope.specs.Reading.{got, refused, then}
 use Rattle.scope.specs.Lists.{joined}
-use Rattle.scope.specs.Syntax.{Definition, Group}
+use Rattle.scope.specs.Syntax.{Group}
 use Rattle.scope.specs.Sections.{group_at, groups_at}
 use Rattle.scope.proofs.Forward.{group_takes, never_back}
 use Rattle.scope.proofs.Impossible.{impossible}
+use Rattle.scope.proofs.Told.{told_got, told_refused, passed}
 use Rattle.type_table.specs.View.{rows_of, codes_of}
 use Rattle.type_table.proofs.Puts.{Puts, puts_none, puts_more, puts_length, puts_part}
 use Rattle.type_table.proofs.Growing.{codes-append, rows_append}
 use Rattle.section_forms.specs.Reads.{Room}
 use Rattle.section_forms.proofs.Lists.{onto, onto-none, onto_more}
 use Rattle.section_definition.specs.Rows.{low}
-use Rattle.section_group.specs.declared.GroupRead.{GroupRead}
-use Rattle.section_group.specs.declared.GroupRead
-use Rattle.section_group.specs.Lent.{Lent, kept_all, group_is, GroupPut}
+use Rattle.section_group.specs.declared.Group as told_group
+use Rattle.section_group.specs.Lent.{Lent, kept_all, group_of, GroupPut}
 use Rattle.section_group.proofs.Grouping.{rows-done}
-use Rattle.section_reader.specs.Whole.{flat_at, groups_is, Begun, GroupsPut}
+use Rattle.section_reader.specs.Whole.{flat_at, Begun, GroupsPut}
 use Rattle.section_reader.proofs.Feeding.{group_ate}
 
 -- the rest of a list from a place on, lent and put back
@@ -58,16 +60,6 @@ groups_done : (n first : ℕ) (s : List ℕ) (at : ℕ) → n ≤ 0 → groups_a
 unfolding groups_at
 groups_done zero first s at h = refl
 groups_done (suc n) first s at h = absurd (omega arith)
-
--- the answer of group_at, taken apart
-
-group_inv : (used : ℕ) (o : Read (List Definition)) {r : GroupRead} {count next taken : ℕ} → r ≡ group_is used o → r ≡ GroupRead.TheVariants.Got count next taken → (g : List Definition) × (o ≡ got g next) × (count ≡ length g) × (taken ≡ used + length (codes_of (kept_all g)))
-group_inv used (got g m) {next = next} p q = let e : m ≡ next = cc in (g, ap (got g) e, cc, cc)
-group_inv used (refused k m) p q = impossible cc
-
-group_refused_inv : (used : ℕ) (o : Read (List Definition)) {r : GroupRead} {k place : ℕ} → r ≡ group_is used o → r ≡ GroupRead.TheVariants.Refused k place → o ≡ refused k place
-group_refused_inv used (got g m) p q = impossible cc
-group_refused_inv used (refused n m) p q = cc
 
 -- the loop
 
@@ -121,7 +113,7 @@ module _ {n before base : ℕ} {s : List ℕ} {at : ℕ} {rows₀ rows codes₀ 
   pub walked_from : used - base ≤ length codes
   walked_from = omega (arith, p.room.inside, p.room.enough)
 
-  pub walked_done : left ≤ 0 → GroupsPut n before base s at rows₀ rows codes₀ codes (GroupRead.TheVariants.Got first next used)
+  pub walked_done : left ≤ 0 → let all : told_group.Group = record { count = first; used = used } in GroupsPut n before base s at rows₀ rows codes₀ codes (Ok (all, next))
   walked_done h =
       let all : groups_at n before s at ≡ got p.done next = p.same ∙ ap (onto p.done) (groups_done left first s next h) ∙ ap (λ gs. got gs next) (append-nil p.done) in
       let whole : flat_at n before s at ≡ got (joined p.done) next = rw all in
@@ -149,27 +141,25 @@ module _ {n before base : ℕ} {s : List ℕ} {at : ℕ} {rows₀ rows codes₀ 
           lines = rw (rest_is (row_span * first) rows) (omega arith);
         }
 
-    module _ {part piece : List ℕ} {r : GroupRead} (a : GroupPut (group_at first) s next (mid_of (row_span * first) (length rows - row_span * first) rows) part (mid_of (used - base) (length codes - (used - base)) codes) piece used r) where
-      part_size : length part ≡ length (drop (row_span * first) rows)
-      part_size = a.rows_kept ∙ ap length (rest_is (row_span * first) rows)
-
+    module _ {part piece : List ℕ} {r : Result (told_group.Group × ℕ) Refused} (a : GroupPut (group_at first) s next (mid_of (row_span * first) (length rows - row_span * first) rows) part (mid_of (used - base) (length codes - (used - base)) codes) piece used r) where
       pub walked_rows-kept : length (put_mid (row_span * first) (length rows - row_span * first) rows part) ≡ length rows₀
       walked_rows-kept = same_len_mid (row_span * first) (length rows - row_span * first) rows part a.rows_kept ∙ walked_rows_size
 
       pub walked_codes-kept : length (put_mid (used - base) (length codes - (used - base)) codes piece) ≡ length codes₀
       walked_codes-kept = same_len_mid (used - base) (length codes - (used - base)) codes piece a.codes_kept ∙ walked_codes_size
 
-      pub walked_refused : {k place : ℕ} → r ≡ GroupRead.TheVariants.Refused k place → GroupsPut n before base s at rows₀ (put_mid (row_span * first) (length rows - row_span * first) rows part) codes₀ (put_mid (used - base) (length codes - (used - base)) codes piece) (GroupRead.TheVariants.Refused k place)
-      walked_refused {k} {place} e =
-          let none : groups_at n before s at ≡ refused k place = p.same ∙ ap (onto p.done) (groups_refused left first s next more (group_refused_inv used (group_at first s next) a.answer e)) in
-          let whole : flat_at n before s at ≡ refused k place = rw none in
-          record {
+      pub walked_refused : {no : Refused} {q : Result (told_group.Group × ℕ) Refused} → r ≡ Err no → IsErrAnd q (λ y. y ≡ no) → GroupsPut n before base s at rows₀ (put_mid (row_span * first) (length rows - row_span * first) rows part) codes₀ (put_mid (used - base) (length codes - (used - base)) codes piece) q
+      walked_refused {no} e is =
+          let none : groups_at n before s at ≡ refused no.number no.at = p.same ∙ ap (onto p.done) (groups_refused left first s next more (told_refused (group_of used) (group_at first s next) (sym e ∙ a.answer))) in
+          let whole : flat_at n before s at ≡ refused no.number no.at = rw none in
+          rw (passed is refl)
+          (record {
             answer = rw whole;
             rows_put = λ ds stop f. impossible cc;
             codes_put = λ ds stop f. impossible cc;
             rows_kept = walked_rows-kept;
             codes_kept = walked_codes-kept;
-          }
+          })
 
       kept_more : (g : Group) → kept_all (joined (p.done ++ g ∷ [])) ≡ kept_all (joined p.done) ++ kept_all g
       kept_more g = ap kept_all (joined_more p.done g) ∙ map-append _ (joined p.done) g
@@ -220,13 +210,18 @@ module _ {n before base : ℕ} {s : List ℕ} {at : ℕ} {rows₀ rows codes₀ 
             lines = p.lines;
           }
 
-      pub walked_turn : {count after taken : ℕ} → r ≡ GroupRead.TheVariants.Got count after taken → Walked n before base s at rows₀ (put_mid (row_span * first) (length rows - row_span * first) rows part) codes₀ (put_mid (used - base) (length codes - (used - base)) codes piece) after (left - 1) (first + count) taken
-      walked_turn e = let (g, read, many, codes-many) = group_inv used (group_at first s next) a.answer e in grown g read many codes-many
+      module _ {group : told_group.Group} {after : ℕ} (e : r ≡ Ok (group, after)) where
+        read_group : (g : Group) × (group_at first s next ≡ got g after) × (group ≡ group_of used g)
+        read_group = told_got (group_of used) (group_at first s next) (sym e ∙ a.answer)
 
-      pub walked_count_fits : {count after taken : ℕ} → r ≡ GroupRead.TheVariants.Got count after taken → Fits w64 (first + count)
-      walked_count_fits e =
-          let (g, read, many, codes-many) = group_inv used (group_at first s next) a.answer e in
-          let ate = group_ate first s next read in
-          record { fits = omega (arith, p.few, ate.few) }
+        pub walked_turn : Walked n before base s at rows₀ (put_mid (row_span * first) (length rows - row_span * first) rows part) codes₀ (put_mid (used - base) (length codes - (used - base)) codes piece) after (left - 1) (first + group.count) group.used
+        walked_turn = let (g, read, same) = read_group in grown g read (ap (λ (x : told_group.Group). x.count) same) (ap (λ (x : told_group.Group). x.used) same)
 
-pub ruleset walk_exits = (walked_first, walked_rows_size, walked_codes_size, walked_start-fits, walked_start, walked_base, walked_from, walked_done, walked_lent, walked_rows-kept, walked_codes-kept, walked_refused, walked_turn, walked_count_fits)
+        pub walked_count_fits : Fits w64 (first + group.count)
+        walked_count_fits =
+            let (g, read, same) = read_group in
+            let many : group.count ≡ length g = ap (λ (x : told_group.Group). x.count) same in
+            let ate = group_ate first s next read in
+            record { fits = omega (arith, p.few, ate.few) }
+
+pub ruleset walk_exits = (walked_first, walked_rows_size, walked_codes_size, walked_start-fits, walked_start, walked_base, walked_from, walked_rows-kept, walked_codes-kept)

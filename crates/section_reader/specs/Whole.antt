@@ -1,5 +1,8 @@
 -- What the reader of a section answers and leaves in the table, by the definitions of document 01.
 use Rattle.std.specs.Prelude.{ℕ, ◌+◌, ◌*◌, ◌≤◌, ◌≡◌, List, map, length}
+use Rattle.scope.specs.Told.{no_at, told}
+use Rattle.std.specs.Prelude.{Result, Ok, Err}
+use Rattle.scope.specs.declared.Refused.{Refused}
 use Rattle.scope.specs.Reading.{Read, got, refused, Reader, then}
 use Rattle.scope.specs.Numbers.{u32}
 use Rattle.scope.specs.Lists.{joined}
@@ -11,11 +14,8 @@ use Rattle.type_table.specs.View.{rows_of, codes_of}
 use Rattle.type_table.proofs.Puts.{Puts}
 use Rattle.section_definition.specs.Rows.{low}
 use Rattle.section_forms.specs.Reads.{Room}
-use Rattle.section_group.specs.declared.GroupRead.{GroupRead}
-use Rattle.section_group.specs.declared.GroupRead
+use Rattle.section_group.specs.declared.Group as told_group
 use Rattle.section_group.specs.Lent.{kept_all}
-use Rattle.section_reader.specs.declared.SectionRead.{SectionRead}
-use Rattle.section_reader.specs.declared.SectionRead
 
 -- the definitions of groups, one group after the other
 abbrev pub flat : Read (List Group) → Read (List Definition)
@@ -48,24 +48,26 @@ pub record Begun (s rows codes : List ℕ) (at before base : ℕ) : Type 0 where
   pub near : base ≤ codes_size
   pub lines : row_span * most_types ≤ length rows
 
-abbrev pub groups_is : ℕ → ℕ → Read (List Definition) → GroupRead
-groups_is before base (got ds next) = GroupRead.TheVariants.Got (before + length ds) next (base + length (codes_of (kept_all ds)))
-groups_is before base (refused n p) = GroupRead.TheVariants.Refused n p
+abbrev pub groups_of : ℕ → ℕ → List Definition → told_group.Group
+groups_of before base ds = record { count = before + length ds; used = base + length (codes_of (kept_all ds)) }
+
+abbrev pub groups_is : ℕ → ℕ → Read (List Definition) → Result (told_group.Group × ℕ) Refused
+groups_is before base = told (groups_of before base)
 
 -- the rows of groups from the row `before` on, and their codes from the lent codes' first on
-pub record GroupsPut (n before base : ℕ) (s : List ℕ) (at : ℕ) (rows rows' codes codes' : List ℕ) (r : GroupRead) : Type 0 where
+pub record GroupsPut (n before base : ℕ) (s : List ℕ) (at : ℕ) (rows rows' codes codes' : List ℕ) (r : Result (told_group.Group × ℕ) Refused) : Type 0 where
   pub answer : r ≡ groups_is before base (flat_at n before s at)
   pub rows_put : (ds : List Definition) (next : ℕ) → flat_at n before s at ≡ got ds next → Puts rows rows' (row_span * before) (map low (rows_of base (kept_all ds)))
   pub codes_put : (ds : List Definition) (next : ℕ) → flat_at n before s at ≡ got ds next → Puts codes codes' 0 (codes_of (kept_all ds))
   pub rows_kept : length rows' ≡ length rows
   pub codes_kept : length codes' ≡ length codes
 
-abbrev pub section_is : ℕ → Read (List Group) → SectionRead
-section_is before (got gs end) = SectionRead.TheVariants.Got (before + length (joined gs))
-section_is before (refused n p) = SectionRead.TheVariants.Refused n p
+abbrev pub section_is : ℕ → Read (List Group) → Result ℕ Refused
+section_is before (got gs end) = Ok (before + length (joined gs))
+section_is before (refused n p) = Err (no_at n p)
 
 -- the rows and the codes of a section that was read, from the row `before` and the lent codes' first on
-pub record SectionPut (o : Read (List Group)) (before base : ℕ) (rows rows' codes codes' : List ℕ) (r : SectionRead) : Type 0 where
+pub record SectionPut (o : Read (List Group)) (before base : ℕ) (rows rows' codes codes' : List ℕ) (r : Result ℕ Refused) : Type 0 where
   pub answer : r ≡ section_is before o
   pub rows_put : (gs : List Group) (end : ℕ) → o ≡ got gs end → Puts rows rows' (row_span * before) (map low (rows_of base (kept_all (joined gs))))
   pub codes_put : (gs : List Group) (end : ℕ) → o ≡ got gs end → Puts codes codes' 0 (codes_of (kept_all (joined gs)))

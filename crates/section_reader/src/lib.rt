@@ -6,11 +6,11 @@
 ghost use Rattle.scope.specs.Sections.{read_after};
 ghost use Rattle.section_reader.specs.Whole.{Begun, GroupsPut, ended_at, counted_at, Enough, SectionPut};
 
-use number_values::Natural;
-use scope::{refusals, sizes};
-use section_group::GroupRead;
+use scope::{Read, Refused, refusals, sizes};
+use section_group::Group;
 
-// n groups, from the row `before` and the lent codes' first on.
+// n groups, from the row `before` and the lent codes' first on. The answer counts the types before as well.
+#[tactic(auto, using(crate::proofs::Walking::walk_exits))]
 fn groups_at(
     s: &[u8],
     at: usize,
@@ -19,45 +19,29 @@ fn groups_at(
     base: u64,
     rows: &mut [u16],
     codes: &mut [u16],
-) -> GroupRead
+) -> Read<Group>
     requires { Begun s.now rows.old codes.old at before base }
     ensures { GroupsPut n before base s.now at rows.old rows.new codes.old codes.new result }
 {
     let mut next = at;
-    let mut left = n;
     let mut first = before;
     let mut used = base;
-    while 0 < left {
+    for _ in 0..n {
         let start = (sizes::ROW * first) as usize;
         let from = (used - base) as usize;
-        let read = section_group::group_at(
+        let (group, after) = section_group::group_at(
             s,
             next,
             first,
             &mut rows[start..],
             &mut codes[from..],
             used,
-        );
-        match read {
-            GroupRead::Refused(number, place) => {
-                return GroupRead::Refused(number, place);
-            }
-            GroupRead::Got(count, after, taken) => {
-                next = after;
-                first = first + count;
-                used = taken;
-                left = left - 1;
-            }
-        }
+        )?;
+        next = after;
+        first = first + group.count;
+        used = group.used;
     }
-    GroupRead::Got(first, next, used)
-}
-
-// How many types there are with the section's; or a refusal's number and place.
-#[derive(Clone, Copy)]
-pub enum SectionRead {
-    Got(u64),
-    Refused(u64, usize),
+    Ok((Group { count: first, used }, next))
 }
 
 // n groups, and then nothing is left over.
@@ -69,32 +53,33 @@ fn ended_at(
     base: u64,
     rows: &mut [u16],
     codes: &mut [u16],
-) -> SectionRead
+) -> Result<u64, Refused>
     requires { Begun s.now rows.old codes.old at before base }
     ensures { SectionPut (ended_at n before s.now at) before base rows.old rows.new codes.old codes.new result }
 {
-    let read = groups_at(s, at, n, before, base, rows, codes);
-    match read {
-        GroupRead::Refused(number, place) => SectionRead::Refused(number, place),
-        GroupRead::Got(count, next, _) => {
-            if next == s.len() {
-                return SectionRead::Got(count);
-            }
-            SectionRead::Refused(refusals::LEFT_OVER, next)
-        }
+    let (all, next) = groups_at(s, at, n, before, base, rows, codes)?;
+    if next == s.len() {
+        return Ok(all.count);
     }
+    Err(Refused {
+        number: refusals::LEFT_OVER,
+        at: next,
+    })
 }
 
 // The count of groups, then the groups.
-fn counted_at(s: &[u8], before: u64, base: u64, rows: &mut [u16], codes: &mut [u16]) -> SectionRead
+fn counted_at(
+    s: &[u8],
+    before: u64,
+    base: u64,
+    rows: &mut [u16],
+    codes: &mut [u16],
+) -> Result<u64, Refused>
     requires { Begun s.now rows.old codes.old 0 before base }
     ensures { SectionPut (counted_at before s.now) before base rows.old rows.new codes.old codes.new result }
 {
-    let counted = number::u32_at(s, 0);
-    match counted {
-        Natural::Refused(number, place) => SectionRead::Refused(number, place),
-        Natural::Is(n, next) => ended_at(s, next, n, before, base, rows, codes),
-    }
+    let (n, next) = number::u32_at(s, 0)?;
+    ended_at(s, next, n, before, base, rows, codes)
 }
 
 // The whole size comes before the bytes.
@@ -104,12 +89,15 @@ pub fn read_section(
     base: u64,
     rows: &mut [u16],
     codes: &mut [u16],
-) -> SectionRead
+) -> Result<u64, Refused>
     requires { Enough rows.old codes.old before base }
     ensures { SectionPut (read_after before s.now) before base rows.old rows.new codes.old codes.new result }
 {
     if sizes::MOST_BYTES < s.len() {
-        return SectionRead::Refused(refusals::OVERSIZE, 0);
+        return Err(Refused {
+            number: refusals::OVERSIZE,
+            at: 0,
+        });
     }
     counted_at(s, before, base, rows, codes)
 }

@@ -6,8 +6,8 @@ use Rattle.section_both.proofs.judge_both.Goals as goal
 pub judge_addon-second-requires : goal.judge_addon-second-requires
 judge_addon-second-requires c = search (own_opened, rules)
 
-pub returns-in-Refused : goal.returns-in-Refused
-returns-in-Refused c = search (first_refused, rules)
+pub returns-in-Err : goal.returns-in-Err
+returns-in-Err c = search (first_refused, rules)
 
-pub returns-in-Accepted : goal.returns-in-Accepted
-returns-in-Accepted c = search (own_decides, rules)
+pub returns-in-Ok : goal.returns-in-Ok
+returns-in-Ok c = search (own_decides, rules)

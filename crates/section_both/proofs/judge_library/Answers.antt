@@ -7,8 +7,8 @@ use Rattle.section_both.proofs.judge_library.Goals as goal
 pub decide-requires : goal.decide-requires
 decide-requires c = search (library_decidable, rules)
 
-pub returns-in-Refused : goal.returns-in-Refused
-returns-in-Refused c = search (library_refused, rules)
+pub returns-in-Err : goal.returns-in-Err
+returns-in-Err c = search (library_refused, rules)
 
-pub returns-in-Got : goal.returns-in-Got
-returns-in-Got c = search (after-judged, rules)
+pub returns-in-Ok : goal.returns-in-Ok
+returns-in-Ok c = search (after-judged, rules)

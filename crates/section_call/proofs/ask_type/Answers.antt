@@ -3,8 +3,8 @@ use borrow.Author.Rules.{rules}
 use Rattle.section_call.proofs.Asking.{ask_exits, asked_in_library, asked_in_addon}
 use Rattle.section_call.proofs.ask_type.Goals as goal
 
-pub returns-in-Refused : goal.returns-in-Refused
-returns-in-Refused c = search (ask_exits, rules)
+pub returns-in-Err : goal.returns-in-Err
+returns-in-Err c = search (ask_exits, rules)
 
 pub returns-in-Library : goal.returns-in-Library
 returns-in-Library c = search (asked_in_library, ask_exits, rules)
@@ -12,5 +12,5 @@ returns-in-Library c = search (asked_in_library, ask_exits, rules)
 pub returns-in-Addon : goal.returns-in-Addon
 returns-in-Addon c = search (asked_in_addon, ask_exits, rules)
 
-pub returns-in-Refused-asked : goal.returns-in-Refused-asked
-returns-in-Refused-asked c = search (ask_exits, rules)
+pub returns-in-Refused : goal.returns-in-Refused
+returns-in-Refused c = search (ask_exits, rules)

@@ -1,9 +1,5 @@
-use Prim.Native.Nat.{◌-◌}
 use Rattle.section_clauses.proofs.Listing.{Linked}
 use Rattle.section_clauses.proofs.super_entries.Given as goal
 
 abbrev pub invariant-loop-count : goal.invariant-loop-count
 invariant-loop-count l = Linked l.n l.s l.at l.next l.count l.first l.further
-
-abbrev pub decreases-loop-count : goal.decreases-loop-count
-decreases-loop-count l = l.n - l.count

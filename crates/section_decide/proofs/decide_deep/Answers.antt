@@ -12,8 +12,8 @@ number-requires c = search (decide_exits, rules)
 pub judge_rules-requires : goal.judge_rules-requires
 judge_rules-requires c = search (decide_exits, rules)
 
-pub returns-in-Refused : goal.returns-in-Refused
-returns-in-Refused c = search (decide_exits, rules)
+pub returns-in-Err : goal.returns-in-Err
+returns-in-Err c = search (decide_exits, rules)
 
-pub returns-in-Accepted : goal.returns-in-Accepted
-returns-in-Accepted c = search (decide_exits, rules)
+pub returns-in-Ok : goal.returns-in-Ok
+returns-in-Ok c = search (decide_exits, rules)

@@ -1,19 +1,18 @@
 -- `section_group::alone_at` meets its contract: one definition, where there is a row for it.
-use borrow.Author.Rules.{rules}
 use Rattle.section_group.proofs.Ways.{alone_over, alone_place, alone_refused, alone_got, alone_taken-fits}
 use Rattle.section_group.proofs.alone_at.Goals as goal
 
 pub returns-then-first-ge-MOST_TYPES : goal.returns-then-first-ge-MOST_TYPES
 returns-then-first-ge-MOST_TYPES c = search alone_over
 
-pub definition_at-read-requires : goal.definition_at-read-requires
-definition_at-read-requires c = search alone_place
+pub definition_at-requires : goal.definition_at-requires
+definition_at-requires c = search alone_place
+
+pub returns-in_err-filled : goal.returns-in_err-filled
+returns-in_err-filled c = alone_refused c.if-first-ge-MOST_TYPES.false c.in_err-filled.ensures c.from_residual.ensures.1
 
 pub overflow_add-taken : goal.overflow_add-taken
-overflow_add-taken c = search alone_taken-fits
+overflow_add-taken c = alone_taken-fits c.in_ok-filled.ensures c.requires
 
-pub returns-in-Refused : goal.returns-in-Refused
-returns-in-Refused c = search (alone_refused, rules)
-
-pub returns-in-Got : goal.returns-in-Got
-returns-in-Got c = search (alone_got, rules)
+pub returns : goal.returns
+returns c = alone_got c.if-first-ge-MOST_TYPES.false c.in_ok-filled.ensures
