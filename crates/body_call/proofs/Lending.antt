@@ -7,6 +7,9 @@ use native.Mathlib.Omega.{arith}
 use lib.ListN.{length, replicate, length-replicate, length-append}
 use lib.Dec.{leb}
 use borrow.Author.Tests.{lt-leb, le-leb, not-true, not-false}
+use Rattle.scope.specs.Told.{no_in}
+use Rattle.std.specs.Prelude.{Result, Ok, Err}
+use Rattle.scope.specs.declared.Rejected.{Rejected}
 use Rattle.scope.specs.Sizes.{most_types, most_each}
 use Rattle.scope.specs.Layout.{work_size}
 use Rattle.scope.specs.Refusals.{buffer_too_small}
@@ -16,8 +19,6 @@ use Rattle.scope.specs.Judging.{plain, Judged, accepted, rejected, and_then, Joi
 use Rattle.scope.specs.Bodies.{Body, instructions, judge_body}
 use Rattle.scope.specs.Answers.{table_lent, verdict_of, BodyJudged}
 use Rattle.scope.specs.declared.Place.{Place}
-use Rattle.scope.specs.declared.Verdict.{Verdict}
-use Rattle.scope.specs.declared.Verdict
 use Rattle.scope.proofs.Accepted.{JoinedParts, joined_parts, sections_joined}
 use Rattle.scope.proofs.Impossible.{impossible}
 use Rattle.section_reader.proofs.Modest.{Each, no_more, one_more_lem, Few, few_fields, few_values, Modest, read_fits, each_append}
@@ -25,8 +26,6 @@ use Rattle.body_state.proofs.Alike.{both_false}
 use Rattle.type_table.specs.View.{both_codes}
 use Rattle.type_hierarchy.specs.Ranged.{Ranged}
 use Rattle.lent_limits.proofs.Enough.{table-sizes}
-use Rattle.section_both.specs.declared.TwoJudged.{TwoJudged}
-use Rattle.section_both.specs.declared.TwoJudged
 use Rattle.section_both.specs.Both.{BothJudged}
 use Rattle.section_both.proofs.Viewing.{both_refused, both_accepted, viewed}
 use Rattle.body_judge.specs.Typed.{Fresh, Sized, typed_on, sized_on, SizedJudged}
@@ -76,8 +75,8 @@ body_is library section s x = then-types (judge_joined library section) (λ ds. 
 
 -- what an accepted pair hands on to its bodies
 
-module _ {library section rows shared codes rows₁ shared₁ codes₁ : List ℕ} {v : TwoJudged} (a : BothJudged library section rows shared codes rows₁ shared₁ codes₁ v)
-    {before count : ℕ} (e : v ≡ TwoJudged.TheVariants.Accepted before count) where
+module _ {library section rows shared codes rows₁ shared₁ codes₁ : List ℕ} {v : Result (ℕ × ℕ) Rejected} (a : BothJudged library section rows shared codes rows₁ shared₁ codes₁ v)
+    {before count : ℕ} (e : v ≡ Ok (before, count)) where
   pub may_range : Ranged rows₁ (both_codes shared₁ codes₁)
   may_range = let (j, judged, first, many) = both_accepted (judge_joined library section) a.answer e in a.ranged j judged
 
@@ -88,23 +87,23 @@ module _ {library section rows shared codes rows₁ shared₁ codes₁ : List �
       let seen = viewed library section judged (a.stands j judged) in
       record { fresh = fresh; known = omega (arith, b.types, many); few = λ ps rs f. b.parameters x ps rs (ap (λ (ts : ℕ → Definition). (ts x).form) (sym seen) ∙ f) }
 
-module _ {library section rows shared codes rows₁ shared₁ codes₁ : List ℕ} {v : TwoJudged} (a : BothJudged library section rows shared codes rows₁ shared₁ codes₁ v) (s : List ℕ) (x : ℕ) where
-  pub lent_refused : {n : ℕ} {p : Place} → v ≡ TwoJudged.TheVariants.Refused n p → LentJudged library section s x (Verdict.TheVariants.Refused n p)
+module _ {library section rows shared codes rows₁ shared₁ codes₁ : List ℕ} {v : Result (ℕ × ℕ) Rejected} (a : BothJudged library section rows shared codes rows₁ shared₁ codes₁ v) (s : List ℕ) (x : ℕ) where
+  pub lent_refused : {no : Rejected} → v ≡ Err no → LentJudged library section s x (Err no)
   lent_refused e = record { answer = rw (body_is library section s x, both_refused (judge_joined library section) a.answer e) refl }
 
-  module _ {before count : ℕ} (e : v ≡ TwoJudged.TheVariants.Accepted before count) where
+  module _ {before count : ℕ} (e : v ≡ Ok (before, count)) where
     pub count_fits : count < 2 ^ 16
     count_fits =
         let (j, judged, first, many) = both_accepted (judge_joined library section) a.answer e in
         let b = (joined_bounded library section judged).types in
         omega (arith, b, many)
 
-    with_types : (k : Joined) → judge_joined library section ≡ accepted k → count ≡ length k.types → {work work' : List ℕ} {r : Verdict} → SizedJudged rows₁ (both_codes shared₁ codes₁) work work' s count x r → LentJudged library section s x r
+    with_types : (k : Joined) → judge_joined library section ≡ accepted k → count ≡ length k.types → {work work' : List ℕ} {r : Result ℕ Rejected} → SizedJudged rows₁ (both_codes shared₁ codes₁) work work' s count x r → LentJudged library section s x r
     with_types k judged many j =
         let call : judge_body library section s x ≡ sized_on k.types s x = body_is library section s x ∙ rw judged in
         record { answer = j.answer k.types (viewed library section judged (a.stands k judged)) (sym many) ∙ sym (ap (verdict_of instructions) call) }
 
-    pub lent-judged : {work work' : List ℕ} {r : Verdict} → SizedJudged rows₁ (both_codes shared₁ codes₁) work work' s count x r → LentJudged library section s x r
+    pub lent-judged : {work work' : List ℕ} {r : Result ℕ Rejected} → SizedJudged rows₁ (both_codes shared₁ codes₁) work work' s count x r → LentJudged library section s x r
     lent-judged j = let (k, judged, first, many) = both_accepted (judge_joined library section) a.answer e in with_types k judged many j
 
 -- the whole call: 14, then memory as it has to be
@@ -116,16 +115,16 @@ wiped-zero : (m : List ℕ) {m₁ : List ℕ} → m₁ ≡ replicate (length m) 
 wiped-zero m e = e ∙ ap (λ (n : ℕ). replicate n 0) (sym (wiped_long m e))
 
 module _ (library section s : List ℕ) (x : ℕ) {rows shared codes : List ℕ} (work : List ℕ) {t : Bool} (is : t ≡ table_lent rows shared codes) where
-  pub table-small : not t ≡ true → EnoughJudged library section s x rows shared codes work (Verdict.TheVariants.Refused buffer_too_small (plain 0))
+  pub table-small : not t ≡ true → EnoughJudged library section s x rows shared codes work (Err (no_in buffer_too_small (plain 0)))
   table-small h = let small : table_lent rows shared codes ≡ false = sym is ∙ not-true t h in record { answer = rw small refl }
 
   module _ (h : not t ≡ false) where
-    pub work-small : length work < work_size → EnoughJudged library section s x rows shared codes work (Verdict.TheVariants.Refused buffer_too_small (plain 0))
+    pub work-small : length work < work_size → EnoughJudged library section s x rows shared codes work (Err (no_in buffer_too_small (plain 0)))
     work-small g =
         let small : leb work_size (length work) ≡ false = lt-leb work_size (length work) g in
         record { answer = rw (small, both_false (table_lent rows shared codes)) refl }
 
-    pub enough_judged : work_size ≤ length work → {v : Verdict} → LentJudged library section s x v → EnoughJudged library section s x rows shared codes work v
+    pub enough_judged : work_size ≤ length work → {v : Result ℕ Rejected} → LentJudged library section s x v → EnoughJudged library section s x rows shared codes work v
     enough_judged g j =
         let enough : leb work_size (length work) ≡ true = le-leb work_size (length work) g in
         let table : table_lent rows shared codes ≡ true = sym is ∙ not-false t h in
@@ -142,7 +141,7 @@ lent_prepared rows shared codes work {t = t} is h g r w =
       fresh = record { zero = wiped-zero work w; room = omega (arith, g, wide) };
     }
 
-module _ {library section s : List ℕ} {x : ℕ} {rows shared codes work : List ℕ} {v : Verdict} (j : EnoughJudged library section s x rows shared codes work v) {rows₁ shared₁ codes₁ work₁ rows₂ shared₂ codes₂ work₂ : List ℕ} (z : Cleared rows₁ shared₁ codes₁ work₁ rows₂ shared₂ codes₂ work₂) where
+module _ {library section s : List ℕ} {x : ℕ} {rows shared codes work : List ℕ} {v : Result ℕ Rejected} (j : EnoughJudged library section s x rows shared codes work v) {rows₁ shared₁ codes₁ work₁ rows₂ shared₂ codes₂ work₂ : List ℕ} (z : Cleared rows₁ shared₁ codes₁ work₁ rows₂ shared₂ codes₂ work₂) where
   pub body-judged : length rows₁ ≡ length rows → length shared₁ ≡ length shared → length codes₁ ≡ length codes → length work₁ ≡ length work → BodyJudged library section s x rows shared codes work rows₂ shared₂ codes₂ work₂ v
   body-judged r h c w =
       record {

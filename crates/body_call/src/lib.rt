@@ -5,8 +5,7 @@
 ghost use Rattle.scope.specs.Answers.{BodyJudged};
 ghost use Rattle.body_call.specs.Calling.{Prepared, LentJudged, EnoughJudged};
 
-use scope::{Place, Verdict, refusals, sizes};
-use section_both::TwoJudged;
+use scope::{Place, Rejected, refusals, sizes};
 
 // The sections first, with their own refusals.
 fn judge_lent(
@@ -18,14 +17,14 @@ fn judge_lent(
     shared: &mut [u16],
     codes: &mut [u16],
     work: &mut [u32],
-) -> Verdict
+) -> Result<u64, Rejected>
     requires { Prepared rows.old shared.old codes.old work.old }
     ensures { LentJudged library.now section.now s.now number result }
 {
     let judged = section_both::judge_both(library, section, rows, shared, codes);
     match judged {
-        TwoJudged::Refused(refusal, place) => Verdict::Refused(refusal, place),
-        TwoJudged::Accepted(_, count) => body_judge::judge_sized(
+        Err(e) => Err(e),
+        Ok((_, count)) => body_judge::judge_sized(
             rows,
             shared,
             codes,
@@ -48,14 +47,20 @@ fn judge_enough(
     shared: &mut [u16],
     codes: &mut [u16],
     work: &mut [u32],
-) -> Verdict
+) -> Result<u64, Rejected>
     ensures { EnoughJudged library.now section.now s.now number rows.old shared.old codes.old work.old result }
 {
     if !lent_limits::table_enough(rows, shared, codes) {
-        return Verdict::Refused(refusals::BUFFER_TOO_SMALL, Place::Plain(0));
+        return Err(Rejected {
+            number: refusals::BUFFER_TOO_SMALL,
+            place: Place::Plain(0),
+        });
     }
     if work.len() < sizes::WORK {
-        return Verdict::Refused(refusals::BUFFER_TOO_SMALL, Place::Plain(0));
+        return Err(Rejected {
+            number: refusals::BUFFER_TOO_SMALL,
+            place: Place::Plain(0),
+        });
     }
     lent_u16::wipe(rows);
     lent_u32::wipe32(work);
@@ -72,7 +77,7 @@ pub fn judge_body(
     shared: &mut [u16],
     codes: &mut [u16],
     work: &mut [u32],
-) -> Verdict
+) -> Result<u64, Rejected>
     ensures { BodyJudged library.now section.now body.now number
         rows.old shared.old codes.old work.old
         rows.new shared.new codes.new work.new result }

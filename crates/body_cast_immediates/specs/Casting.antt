@@ -1,16 +1,27 @@
 -- A branching cast as the code holds it, and the definition's reader of it after its flags and after its code.
 use Rattle.std.specs.Prelude.{ℕ, Bool, cond, eqb}
-use Rattle.scope.specs.Reading.{Read, got, refused, Reader, then}
+use Rattle.scope.specs.Told.{told}
+use Rattle.std.specs.Prelude.{Result}
+use Rattle.scope.specs.declared.Refused.{Refused}
+use Rattle.scope.specs.Reading.{Read, got, Reader, then}
 use Rattle.scope.specs.Numbers.{u32}
 use Rattle.scope.specs.Sections.{heap_at}
 use Rattle.scope.specs.Instructions.{Cast, Op, br_on_cast, br_on_cast_fail, br_on_cast_desc_eq, br_on_cast_desc_eq_fail, Instr, having, cast_at}
-use Rattle.body_immediates.specs.Coding.{cast_with}
-use Rattle.body_cast_immediates.specs.declared.CastRead.{CastRead}
-use Rattle.body_cast_immediates.specs.declared.CastRead
+use Rattle.type_read.specs.Codes.{heap_code_kept}
+use Rattle.body_cast_immediates.specs.declared.Casting.{Casting}
 
-abbrev pub cast_is : Read Cast → CastRead
-cast_is (got k next) = cast_with (λ l m h n t. CastRead.TheVariants.Is l m h n t next) k
-cast_is (refused n p) = CastRead.TheVariants.Refused n p
+abbrev pub casting_of : Cast → Casting
+casting_of k =
+    record {
+      label = k.label;
+      source_null = k.source_null;
+      source = heap_code_kept k.source;
+      target_null = k.target_null;
+      target = heap_code_kept k.target;
+    }
+
+abbrev pub cast_is : Read Cast → Result (Casting × ℕ) Refused
+cast_is = told casting_of
 
 -- a branching cast after its flags
 unfoldable pub cast_types_at : Bool → Bool → Reader Cast

@@ -4,6 +4,8 @@ use mathlib.Core.Path.{◌≡◌, refl, sym, ap, ◌∙◌}
 use mathlib.Core.Bool.{true, false}
 use mathlib.Core.List.{List, [], ◌++◌}
 use native.Mathlib.Omega.{arith}
+use Rattle.scope.specs.Told.{Maybe}
+use Rattle.std.specs.Prelude.{None, Some}
 use Rattle.scope.specs.Refusals.{oversize}
 use Rattle.scope.specs.BodyRules.{Context, Ruled, allowed, fault, and_ruled, from_top}
 use Rattle.scope.specs.Bodies.{Operand, Taken, take_all, put, marked, do_plan, State, Next, goes_on, within_operands}
@@ -23,8 +25,6 @@ use Rattle.body_operands.specs.Taking.{left_in, left_of}
 use Rattle.body_put.proofs.PushedState.{pushed_state, pushed_upright, pushed_stamped, pushed_types}
 use Rattle.body_marks.specs.Marks.{Ready, Marked}
 use Rattle.body_marks.proofs.MarkedState.{may_mark, marked-state, marked_upright, marked_stamped}
-use Rattle.body_push.specs.declared.Given.{Given}
-use Rattle.body_push.specs.declared.Given
 use Rattle.body_push.specs.Gives.{Long, back_of, given_of, Gave, GivenTo}
 use Rattle.body_push.proofs.Laws.{within-sizes, beyond-sizes}
 use Rattle.body_references.specs.OneMore.{non_null_done, descriptor_done}
@@ -39,15 +39,15 @@ module _ (codes : List ℕ) {work : List ℕ} {count : ℕ} {st : Check} (u : Up
       let fine = within_on count st.depth u.rests [] true (marked (link_at p.marks) (sets_at work (st.depth + 1) 0 count)) (omega (arith, u.low)) in
       stepped-on _ (rw s (ap (λ (t : State). allowed (goes_on t)) (marked-state v k) ∙ sym fine)) (marked_upright v k) (marked_stamped v k) k.types k.size
 
-  module _ (s : p.stops ≡ false) {r : Given} {work₁ : List ℕ} where
-    pub give_full : r ≡ Given.TheVariants.Full → GivenTo work work₁ st.base left (given_of codes p.rest p.back p.gives) r → Stepped work work₁ count st.depth (within_operands (after_plain codes (state_at work count st) p (stack work st.base left))) (Step.TheVariants.Fault oversize)
+  module _ (s : p.stops ≡ false) {r : Maybe ℕ} {work₁ : List ℕ} where
+    pub give_full : r ≡ None → GivenTo work work₁ st.base left (given_of codes p.rest p.back p.gives) r → Stepped work work₁ count st.depth (within_operands (after_plain codes (state_at work count st) p (stack work st.base left))) (Step.TheVariants.Fault oversize)
     unfolding after_plain state_at
     give_full e g =
         let many = g.full e in
         let more = beyond-sizes u.rests count left st.dead (marked (link_at p.marks) (sets_at work (st.depth + 1) 0 count)) (given_of codes p.rest p.back p.gives) many in
         stepped_fault count st.depth many.same (rw s (sym more))
 
-    module _ {high : ℕ} (e : r ≡ Given.TheVariants.Is high) (g : GivenTo work work₁ st.base left (given_of codes p.rest p.back p.gives) r) where
+    module _ {high : ℕ} (e : r ≡ Some high) (g : GivenTo work work₁ st.base left (given_of codes p.rest p.back p.gives) r) where
       gave : Gave work work₁ st.base left (given_of codes p.rest p.back p.gives) high
       gave = g.gave high e
 

@@ -9,7 +9,6 @@ ghost use Rattle.type_table.specs.View.{both_codes};
 ghost use Rattle.type_hierarchy.specs.Ranged.{Ranged};
 
 use body_operands::Left;
-use body_push::Given;
 use body_state::{Check, Plain, Planned, Scene, Step};
 use scope::refusals;
 
@@ -50,8 +49,8 @@ fn give_plain(
     let gives = plan.gives;
     let given = body_push::give(shared, codes, work, rest, back, gives, base, left);
     match given {
-        Given::Full => Step::Fault(refusals::OVERSIZE),
-        Given::Is(high) => {
+        None => Step::Fault(refusals::OVERSIZE),
+        Some(high) => {
             body_marks::mark(work, locals, m, marks);
             Step::On(Check {
                 depth: depth,

@@ -6,6 +6,8 @@ use mathlib.Core.Bool.{Bool, true, false}
 use mathlib.Core.List.{List, ◌∷◌}
 use native.Mathlib.Omega.{arith}
 use lib.Dec.{eqb}
+use Rattle.scope.specs.Told.{Maybe}
+use Rattle.std.specs.Prelude.{None, Some}
 use Rattle.scope.specs.Refusals.{oversize, values_left}
 use Rattle.scope.specs.Syntax.{Val}
 use Rattle.scope.specs.BodyRules.{Context, Ruled, allowed, and_ruled, from_top}
@@ -30,8 +32,6 @@ use Rattle.body_operands.specs.declared.Left
 use Rattle.body_operands.specs.Taking.{left_of, left_in}
 use Rattle.body_operands.proofs.Laws.{left_got, left_missed}
 use Rattle.body_put.proofs.PushedState.{pushed_types, pushed_stamped, pushed_state, pushed_upright}
-use Rattle.body_push.specs.declared.Given.{Given}
-use Rattle.body_push.specs.declared.Given
 use Rattle.body_push.specs.Gives.{Long, given_of, GivenTo, Gave, TooMany}
 use Rattle.body_push.proofs.Laws.{given_back, on_those, within-sizes, beyond-sizes}
 use Rattle.body_end.specs.declared.End.{End}
@@ -83,13 +83,13 @@ module _ {work : List ℕ} {count m : ℕ} {st : Check} (i : Inner work count st
       let one : st.depth - 1 + 1 ≡ st.depth = omega (arith, i.open') in
       rw (b.is, h.is, d.is, i.number, one)
 
-  module _ (codes : List ℕ) (list : Values) {work' : List ℕ} {r : Given} where
-    pub left_full : r ≡ Given.TheVariants.Full → GivenTo work work' base height (given_of codes list true 0) r → Stepped work work' count st.depth (stepped_out work count st.depth (values_of codes list)) (Step.TheVariants.Fault oversize)
+  module _ (codes : List ℕ) (list : Values) {work' : List ℕ} {r : Maybe ℕ} where
+    pub left_full : r ≡ None → GivenTo work work' base height (given_of codes list true 0) r → Stepped work work' count st.depth (stepped_out work count st.depth (values_of codes list)) (Step.TheVariants.Fault oversize)
     left_full e g =
         let many : TooMany work work' base height (values_of codes list) = rw (given_back codes list) at (g.full e) in
         stepped_fault count st.depth many.same (sym (left_as (values_of codes list) ∙ beyond-sizes outer_rests count height (eqb w 1) (sets_at work (st.depth - 1 + 1) 0 count) (values_of codes list) many))
 
-    pub left-on : {high : ℕ} → r ≡ Given.TheVariants.Is high → GivenTo work work' base height (given_of codes list true 0) r → Stepped work work' count st.depth (stepped_out work count st.depth (values_of codes list)) (Step.TheVariants.On (record { depth = st.depth - 1; base = base; height = high; dead = eqb w 1 }))
+    pub left-on : {high : ℕ} → r ≡ Some high → GivenTo work work' base height (given_of codes list true 0) r → Stepped work work' count st.depth (stepped_out work count st.depth (values_of codes list)) (Step.TheVariants.On (record { depth = st.depth - 1; base = base; height = high; dead = eqb w 1 }))
     left-on {high} e g =
         let gave : Gave work work' base height (values_of codes list) high = rw (given_back codes list) at (g.gave high e) in
         let few = i.upright.few in

@@ -9,7 +9,6 @@ ghost use Rattle.type_table.specs.View.{both_codes};
 ghost use Rattle.type_hierarchy.specs.Ranged.{Ranged};
 
 use body_operands::Left;
-use body_push::Given;
 use body_state::{Check, Scene, Step, Values};
 use scope::refusals;
 
@@ -69,8 +68,8 @@ fn step_out(
     let dead = body_state::frame_word(work, m, body_state::DEAD);
     let given = body_push::give(shared, codes, work, list, true, 0, base, height);
     match given {
-        Given::Full => Step::Fault(refusals::OVERSIZE),
-        Given::Is(high) => Step::On(Check {
+        None => Step::Fault(refusals::OVERSIZE),
+        Some(high) => Step::On(Check {
             depth: depth - 1,
             base: base,
             height: high,

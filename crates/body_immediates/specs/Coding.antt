@@ -1,7 +1,10 @@
 -- An instruction as the code holds it, by scope's syntax, and the definitions' readers of instructions, one for
 -- each kind of immediates.
 use Rattle.std.specs.Prelude.{ℕ, ◌+◌, Bool, true, false, cond, List, [], ◌∷◌, eqb}
-use Rattle.scope.specs.Reading.{Read, got, refused, Reader}
+use Rattle.scope.specs.Told.{told}
+use Rattle.std.specs.Prelude.{Result}
+use Rattle.scope.specs.declared.Refused.{Refused}
+use Rattle.scope.specs.Reading.{Read, Reader}
 use Rattle.scope.specs.Numbers.{bits32, bits64, u32, s32, s64, float32, float64}
 use Rattle.scope.specs.Syntax.{Heap, Val}
 use Rattle.scope.specs.Sections.{heap_at}
@@ -10,8 +13,6 @@ use Rattle.type_table.specs.Kept.{kept}
 use Rattle.type_read.specs.Codes.{heap_code_kept, val_code_kept}
 use Rattle.body_immediates.specs.declared.Instruction.{Instruction}
 use Rattle.body_immediates.specs.declared.Instruction
-use Rattle.body_immediates.specs.declared.InstructionRead.{InstructionRead}
-use Rattle.body_immediates.specs.declared.InstructionRead
 
 -- a block's type: 0 for no result, else one more than its code
 abbrev pub result_code : List Val → ℕ
@@ -63,9 +64,8 @@ instruction_of (op o) = operation_of o
 
 -- what the readers answer
 
-abbrev pub instruction_is : Read Instr → InstructionRead
-instruction_is (got i next) = InstructionRead.TheVariants.Is (instruction_of i) next
-instruction_is (refused n p) = InstructionRead.TheVariants.Refused n p
+abbrev pub instruction_is : Read Instr → Result (Instruction × ℕ) Refused
+instruction_is = told instruction_of
 
 -- the instructions of each kind of immediates, by their code; the last of a kind stands for every other code
 

@@ -8,10 +8,8 @@ ghost use Rattle.scope.specs.Instructions.{block_type_at};
 ghost use Rattle.type_read.specs.Codes.{coded_is};
 ghost use Rattle.body_immediates.specs.Coding.{result_code, instruction_is, opening_at, numbered_at, constant_at, wide_at, float32_const_at, float64_const_at, null_at, typed_at, fielded_at, tested_at};
 
-use number_bytes::Byte;
-use number_values::{Integer, Natural};
-use scope::refusals;
-use type_read::Coded;
+use number_values::Integer;
+use scope::{Read, Refused, refusals};
 
 // An instruction of document 01, or of request 1 of document 02, in their order. A constant is its bits, a numeric
 // instruction its code. A block's or loop's result is 0 for none, else one more than its code. A
@@ -56,78 +54,66 @@ pub enum Instruction {
     BrOnCastDescEqFail(u64, bool, u64, bool, u64),
 }
 
-// An instruction and the place after its bytes; or a refusal's number and place.
-#[derive(Clone, Copy)]
-pub enum InstructionRead {
-    Is(Instruction, usize),
-    Refused(u64, usize),
-}
-
-// "A block has type 40 or one value type."
-fn block_type_at(s: &[u8], at: usize) -> Coded
+// "A block has type 40 or one value type.": 0, or one more than the code of its type.
+#[tactic(auto, using(crate::proofs::Typing::block_exits))]
+fn block_type_at(s: &[u8], at: usize) -> Read<u64>
     ensures { result ≡ coded_is result_code (block_type_at s.now at) }
 {
-    let first = number_bytes::byte_at(s, at);
-    let Byte::Is(b) = first else {
-        return Coded::Refused(refusals::BYTES_END, at);
+    let Some(b) = number_bytes::byte_at(s, at) else {
+        return Err(Refused {
+            number: refusals::BYTES_END,
+            at,
+        });
     };
     if b == 0x40 {
-        return Coded::Is(0, at + 1);
+        return Ok((0, at + 1));
     }
-    let result = type_read::val_at(s, at);
-    let Coded::Is(code, next) = result else {
-        return result;
-    };
-    Coded::Is(code + 1, next)
+    let (code, next) = type_read::val_at(s, at)?;
+    Ok((code + 1, next))
 }
 
 // 02 block or 03 loop.
-pub fn opening_at(s: &[u8], at: usize, code: u64) -> InstructionRead
+#[tactic(auto, using(crate::proofs::Typing::opening_exits))]
+pub fn opening_at(s: &[u8], at: usize, code: u64) -> Read<Instruction>
     ensures { result ≡ instruction_is (opening_at code s.now at) }
 {
-    let read = block_type_at(s, at);
-    match read {
-        Coded::Refused(number, place) => InstructionRead::Refused(number, place),
-        Coded::Is(result, next) => {
-            if code == 0x02 {
-                return InstructionRead::Is(Instruction::Block(result), next);
-            }
-            InstructionRead::Is(Instruction::Loop(result), next)
-        }
-    }
+    let (result, next) = block_type_at(s, at)?;
+    let instruction = if code == 0x02 {
+        Instruction::Block(result)
+    } else {
+        Instruction::Loop(result)
+    };
+    Ok((instruction, next))
 }
 
 // 0C br, 0D br_if, 20/21/22 local.get/set/tee: a label or a local.
-pub fn numbered_at(s: &[u8], at: usize, code: u64) -> InstructionRead
+#[tactic(auto, using(crate::proofs::Counting::numbered_exits))]
+pub fn numbered_at(s: &[u8], at: usize, code: u64) -> Read<Instruction>
     ensures { result ≡ instruction_is (numbered_at code s.now at) }
 {
-    let read = number::u32_at(s, at);
-    match read {
-        Natural::Refused(number, place) => InstructionRead::Refused(number, place),
-        Natural::Is(x, next) => match code {
-            0x0C => InstructionRead::Is(Instruction::Br(x), next),
-            0x0D => InstructionRead::Is(Instruction::BrIf(x), next),
-            0x20 => InstructionRead::Is(Instruction::LocalGet(x), next),
-            0x21 => InstructionRead::Is(Instruction::LocalSet(x), next),
-            _ => InstructionRead::Is(Instruction::LocalTee(x), next),
-        },
-    }
+    let (x, next) = number::u32_at(s, at)?;
+    let instruction = match code {
+        0x0C => Instruction::Br(x),
+        0x0D => Instruction::BrIf(x),
+        0x20 => Instruction::LocalGet(x),
+        0x21 => Instruction::LocalSet(x),
+        _ => Instruction::LocalTee(x),
+    };
+    Ok((instruction, next))
 }
 
 // 32 bits hold so many numbers.
 const NUMBERS: u64 = 4294967296;
 
 // 41 i32.const: the number as 32 bits.
-pub fn constant_at(s: &[u8], at: usize) -> InstructionRead
+#[tactic(auto, using(crate::proofs::Counting::constant_exits))]
+pub fn constant_at(s: &[u8], at: usize) -> Read<Instruction>
     ensures { result ≡ instruction_is (constant_at s.now at) }
 {
-    let read = number::s32_at(s, at);
-    match read {
-        Integer::Refused(number, place) => InstructionRead::Refused(number, place),
-        Integer::Plus(v, next) => InstructionRead::Is(Instruction::I32Const(v as u32), next),
-        Integer::Minus(v, next) => {
-            InstructionRead::Is(Instruction::I32Const((NUMBERS - v) as u32), next)
-        }
+    match number::s32_at(s, at) {
+        Integer::Refused(number, place) => Err(Refused { number, at: place }),
+        Integer::Plus(v, next) => Ok((Instruction::I32Const(v as u32), next)),
+        Integer::Minus(v, next) => { Ok((Instruction::I32Const((NUMBERS - v) as u32), next)) }
     }
 }
 
@@ -135,109 +121,90 @@ pub fn constant_at(s: &[u8], at: usize) -> InstructionRead
 const ALL_BITS: u64 = 18446744073709551615;
 
 // 42 i64.const: the number as 64 bits.
-pub fn wide_at(s: &[u8], at: usize) -> InstructionRead
+#[tactic(auto, using(crate::proofs::Counting::wide_exits))]
+pub fn wide_at(s: &[u8], at: usize) -> Read<Instruction>
     ensures { result ≡ instruction_is (wide_at s.now at) }
 {
-    let read = number::s64_at(s, at);
-    match read {
-        Integer::Refused(number, place) => InstructionRead::Refused(number, place),
-        Integer::Plus(v, next) => InstructionRead::Is(Instruction::I64Const(v), next),
-        Integer::Minus(v, next) => {
-            InstructionRead::Is(Instruction::I64Const(ALL_BITS - (v - 1)), next)
-        }
+    match number::s64_at(s, at) {
+        Integer::Refused(number, place) => Err(Refused { number, at: place }),
+        Integer::Plus(v, next) => Ok((Instruction::I64Const(v), next)),
+        Integer::Minus(v, next) => { Ok((Instruction::I64Const(ALL_BITS - (v - 1)), next)) }
     }
 }
 
 // 43 f32.const: its bytes.
-pub fn float32_const_at(s: &[u8], at: usize) -> InstructionRead
+#[tactic(auto, using(crate::proofs::Counting::float_exits))]
+pub fn float32_const_at(s: &[u8], at: usize) -> Read<Instruction>
     ensures { result ≡ instruction_is (float32_const_at s.now at) }
 {
-    let read = number_floats::float32_at(s, at);
-    match read {
-        Natural::Refused(number, place) => InstructionRead::Refused(number, place),
-        Natural::Is(bits, next) => InstructionRead::Is(Instruction::F32Const(bits as u32), next),
-    }
+    let (bits, next) = number_floats::float32_at(s, at)?;
+    Ok((Instruction::F32Const(bits as u32), next))
 }
 
 // 44 f64.const: its bytes.
-pub fn float64_const_at(s: &[u8], at: usize) -> InstructionRead
+#[tactic(auto, using(crate::proofs::Counting::float_exits))]
+pub fn float64_const_at(s: &[u8], at: usize) -> Read<Instruction>
     ensures { result ≡ instruction_is (float64_const_at s.now at) }
 {
-    let read = number_floats::float64_at(s, at);
-    match read {
-        Natural::Refused(number, place) => InstructionRead::Refused(number, place),
-        Natural::Is(bits, next) => InstructionRead::Is(Instruction::F64Const(bits), next),
-    }
+    let (bits, next) = number_floats::float64_at(s, at)?;
+    Ok((Instruction::F64Const(bits), next))
 }
 
 // D0 ref.null: a heap type.
-pub fn null_at(s: &[u8], at: usize) -> InstructionRead
+#[tactic(auto, using(crate::proofs::Typing::null_exits))]
+pub fn null_at(s: &[u8], at: usize) -> Read<Instruction>
     ensures { result ≡ instruction_is (null_at s.now at) }
 {
-    let read = type_read::heap_at(s, at);
-    match read {
-        Coded::Refused(number, place) => InstructionRead::Refused(number, place),
-        Coded::Is(heap, next) => InstructionRead::Is(Instruction::RefNull(heap), next),
-    }
+    let (heap, next) = type_read::heap_at(s, at)?;
+    Ok((Instruction::RefNull(heap), next))
 }
 
 // FB 00 struct.new, 01 struct.new_default, 20/21 the same with a descriptor, 22 ref.get_desc: a type number.
-pub fn typed_at(s: &[u8], at: usize, code: u64) -> InstructionRead
+#[tactic(auto, using(crate::proofs::Counting::typed_exits))]
+pub fn typed_at(s: &[u8], at: usize, code: u64) -> Read<Instruction>
     ensures { result ≡ instruction_is (typed_at code s.now at) }
 {
-    let read = number::u32_at(s, at);
-    match read {
-        Natural::Refused(number, place) => InstructionRead::Refused(number, place),
-        Natural::Is(x, next) => {
-            let kept = type_read::kept_number(x);
-            match code {
-                0x00 => InstructionRead::Is(Instruction::StructNew(kept), next),
-                0x01 => InstructionRead::Is(Instruction::StructNewDefault(kept), next),
-                0x20 => InstructionRead::Is(Instruction::StructNewDesc(kept), next),
-                0x21 => InstructionRead::Is(Instruction::StructNewDefaultDesc(kept), next),
-                _ => InstructionRead::Is(Instruction::RefGetDesc(kept), next),
-            }
-        }
-    }
+    let (x, next) = number::u32_at(s, at)?;
+    let kept = type_read::kept_number(x);
+    let instruction = match code {
+        0x00 => Instruction::StructNew(kept),
+        0x01 => Instruction::StructNewDefault(kept),
+        0x20 => Instruction::StructNewDesc(kept),
+        0x21 => Instruction::StructNewDefaultDesc(kept),
+        _ => Instruction::RefGetDesc(kept),
+    };
+    Ok((instruction, next))
 }
 
 // FB 02 struct.get, 05 struct.set: a type number and a field.
-pub fn fielded_at(s: &[u8], at: usize, code: u64) -> InstructionRead
+#[tactic(auto, using(crate::proofs::Counting::fielded_exits))]
+pub fn fielded_at(s: &[u8], at: usize, code: u64) -> Read<Instruction>
     ensures { result ≡ instruction_is (fielded_at code s.now at) }
 {
-    let named = number::u32_at(s, at);
-    match named {
-        Natural::Refused(number, place) => InstructionRead::Refused(number, place),
-        Natural::Is(x, field) => {
-            let read = number::u32_at(s, field);
-            match read {
-                Natural::Refused(number, place) => InstructionRead::Refused(number, place),
-                Natural::Is(i, next) => {
-                    let kept = type_read::kept_number(x);
-                    if code == 0x02 {
-                        return InstructionRead::Is(Instruction::StructGet(kept, i), next);
-                    }
-                    InstructionRead::Is(Instruction::StructSet(kept, i), next)
-                }
-            }
-        }
-    }
+    let (x, field) = number::u32_at(s, at)?;
+    let (i, next) = number::u32_at(s, field)?;
+    let kept = type_read::kept_number(x);
+    let instruction = if code == 0x02 {
+        Instruction::StructGet(kept, i)
+    } else {
+        Instruction::StructSet(kept, i)
+    };
+    Ok((instruction, next))
 }
 
 // FB 14/15 ref.test (null), 16/17 ref.cast (null), 23/24 ref.cast_desc_eq (null): a heap type.
-pub fn tested_at(s: &[u8], at: usize, code: u64) -> InstructionRead
+#[tactic(auto, using(crate::proofs::Typing::tested_exits))]
+pub fn tested_at(s: &[u8], at: usize, code: u64) -> Read<Instruction>
     ensures { result ≡ instruction_is (tested_at code s.now at) }
 {
-    let read = type_read::heap_at(s, at);
-    match read {
-        Coded::Refused(number, place) => InstructionRead::Refused(number, place),
-        Coded::Is(heap, next) => match code {
-            0x14 => InstructionRead::Is(Instruction::RefTest(false, heap), next),
-            0x15 => InstructionRead::Is(Instruction::RefTest(true, heap), next),
-            0x16 => InstructionRead::Is(Instruction::RefCast(false, heap), next),
-            0x17 => InstructionRead::Is(Instruction::RefCast(true, heap), next),
-            0x23 => InstructionRead::Is(Instruction::RefCastDescEq(false, heap), next),
-            _ => InstructionRead::Is(Instruction::RefCastDescEq(true, heap), next),
-        },
-    }
+    let (heap, next) = type_read::heap_at(s, at)?;
+    let instruction = match code {
+        0x14 => Instruction::RefTest(false, heap),
+        0x15 => Instruction::RefTest(true, heap),
+        0x16 => Instruction::RefCast(false, heap),
+        0x17 => Instruction::RefCast(true, heap),
+        0x23 => Instruction::RefCastDescEq(false, heap),
+        _ => Instruction::RefCastDescEq(true, heap),
+    };
+    Ok((instruction, next))
 }

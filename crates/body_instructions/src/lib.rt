@@ -6,8 +6,8 @@ ghost use Rattle.body_loop.specs.Loop.{Begun, JudgedFrom};
 ghost use Rattle.type_table.specs.View.{both_codes};
 ghost use Rattle.type_hierarchy.specs.Ranged.{Ranged};
 
-use body_loop::Ended;
 use body_state::Scene;
+use scope::Read;
 
 // One entry for each first byte, by its pairs of binary digits: how many operands, the code of their type, the code of the
 // result's type (00 i32, 01 i64, 10 f32, 11 f64); 0 where the byte is no numeric code.
@@ -172,7 +172,7 @@ pub fn judge_all(
     scene: Scene,
     s: &[u8],
     at: usize,
-) -> Ended
+) -> Read<u64>
     requires begun { Begun work.old scene s.now at }
     requires ranged { Ranged rows.now (both_codes shared.now codes.now) }
     ensures { JudgedFrom rows.now (both_codes shared.now codes.now) work.old work.new scene s.now at result }

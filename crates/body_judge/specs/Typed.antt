@@ -1,5 +1,10 @@
 -- What judging a body against the table of an accepted section comes to, part by part, by document 01's definitions.
 use Rattle.std.specs.Prelude.{ℕ, ◌≤◌, ◌≡◌, cond, List, length, replicate, eqb, ltb}
+use Rattle.scope.specs.Told.{no_in}
+use Rattle.std.specs.Prelude.{Result, Ok, Err}
+use Rattle.scope.specs.declared.Rejected.{Rejected}
+use Rattle.std.specs.Prelude.{Result, Ok, Err}
+use Rattle.scope.specs.declared.Refused.{Refused}
 use Rattle.scope.specs.Sizes.{most_bytes, most_types, most_each}
 use Rattle.scope.specs.Layout.{work_size}
 use Rattle.scope.specs.Refusals.{oversize, left_over, not_a_function}
@@ -8,17 +13,13 @@ use Rattle.scope.specs.Syntax.{Val, func, Definition, types_of}
 use Rattle.scope.specs.Judging.{plain, Judged, rejected}
 use Rattle.scope.specs.Bodies.{function_of, Body, instructions, body_at, judged_of}
 use Rattle.scope.specs.Answers.{verdict_of}
-use Rattle.scope.specs.declared.Verdict.{Verdict}
-use Rattle.scope.specs.declared.Verdict
 use Rattle.type_table.specs.View.{view}
-use Rattle.body_loop.specs.declared.Ended.{Ended}
-use Rattle.body_loop.specs.declared.Ended
 
 -- the count of instructions where nothing follows the last of them, else 5 at the first byte that is left
-abbrev pub finished_as : List ℕ → Ended → Verdict
-finished_as s (Ended.TheVariants.Finished count stop) =
-    cond (eqb stop (length s)) (Verdict.TheVariants.Accepted count) (Verdict.TheVariants.Refused left_over (plain stop))
-finished_as s (Ended.TheVariants.Refused n p) = Verdict.TheVariants.Refused n (plain p)
+abbrev pub finished_as : List ℕ → Result (ℕ × ℕ) Refused → Result ℕ Rejected
+finished_as s (Ok (count, stop)) =
+    cond (eqb stop (length s)) (Ok count) (Err (no_in left_over (plain stop)))
+finished_as s (Err why) = Err (no_in why.number (plain why.at))
 
 -- the scratch is wiped and has its size
 pub record Fresh (work : List ℕ) : Type 0 where
@@ -44,10 +45,10 @@ unfoldable pub sized_on : List Definition → List ℕ → ℕ → Judged Body
 sized_on ds s x = cond (ltb most_bytes (length s)) (rejected oversize (plain 0)) (typed_on ds s x)
 
 -- where the table says these types, the answer is the verdict
-pub record TypedJudged (rows codes work work' s : List ℕ) (types x : ℕ) (r : Verdict) : Type 0 where
+pub record TypedJudged (rows codes work work' s : List ℕ) (types x : ℕ) (r : Result ℕ Rejected) : Type 0 where
   pub answer : (ds : List Definition) → view rows codes ≡ types_of ds → length ds ≡ types → r ≡ verdict_of instructions (typed_on ds s x)
   pub size : length work' ≡ length work
 
-pub record SizedJudged (rows codes work work' s : List ℕ) (types x : ℕ) (r : Verdict) : Type 0 where
+pub record SizedJudged (rows codes work work' s : List ℕ) (types x : ℕ) (r : Result ℕ Rejected) : Type 0 where
   pub answer : (ds : List Definition) → view rows codes ≡ types_of ds → length ds ≡ types → r ≡ verdict_of instructions (sized_on ds s x)
   pub size : length work' ≡ length work

@@ -6,23 +6,27 @@ ghost use Rattle.body_judge.specs.Typed.{finished_as, Typing, TypedJudged, Sized
 ghost use Rattle.type_table.specs.View.{both_codes};
 ghost use Rattle.type_hierarchy.specs.Ranged.{Ranged};
 
-use body_loop::Ended;
-use body_start::Started;
 use body_state::Scene;
-use scope::{Place, Verdict, refusals, sizes};
+use scope::{Place, Read, Refused, Rejected, refusals, sizes};
 use type_table::Shape;
 
 // Last, 5: nothing follows the last `end`.
-fn finish(s: &[u8], ended: Ended) -> Verdict
+fn finish(s: &[u8], ended: Read<u64>) -> Result<u64, Rejected>
     ensures { result ≡ finished_as s.now ended }
 {
     match ended {
-        Ended::Refused(number, place) => Verdict::Refused(number, Place::Plain(place as u64)),
-        Ended::Finished(count, stop) => {
+        Err(Refused { number, at: place }) => Err(Rejected {
+            number,
+            place: Place::Plain(place as u64),
+        }),
+        Ok((count, stop)) => {
             if stop == s.len() {
-                return Verdict::Accepted(count);
+                return Ok(count);
             }
-            Verdict::Refused(refusals::LEFT_OVER, Place::Plain(stop as u64))
+            Err(Rejected {
+                number: refusals::LEFT_OVER,
+                place: Place::Plain(stop as u64),
+            })
         }
     }
 }
@@ -36,22 +40,30 @@ fn judge_typed(
     s: &[u8],
     types: u16,
     number: u64,
-) -> Verdict
+) -> Result<u64, Rejected>
     requires typing { Typing rows.now (both_codes shared.now codes.now) work.old s.now types number }
     requires ranged { Ranged rows.now (both_codes shared.now codes.now) }
     ensures { TypedJudged rows.now (both_codes shared.now codes.now) work.old work.new s.now types number result }
 {
     let shape = type_table::shape_of(rows, shared, codes, number);
     match shape {
-        Shape::Struct(_, _) => Verdict::Refused(refusals::NOT_A_FUNCTION, Place::Plain(0)),
+        Shape::Struct(_, _) => Err(Rejected {
+            number: refusals::NOT_A_FUNCTION,
+            place: Place::Plain(0),
+        }),
         Shape::Func(first, n, second, m) => {
             let started = body_start::start(s, shared, codes, work, types, first, n);
             match started {
-                Started::Refused(refusal, place) => Verdict::Refused(
-                    refusal,
-                    Place::Plain(place as u64),
-                ),
-                Started::Is(locals, next) => {
+                Err(
+                    Refused {
+                        number: refusal,
+                        at: place,
+                    },
+                ) => Err(Rejected {
+                    number: refusal,
+                    place: Place::Plain(place as u64),
+                }),
+                Ok((locals, next)) => {
                     let scene = Scene {
                         types: types,
                         locals: locals,
@@ -77,13 +89,16 @@ pub fn judge_sized(
     s: &[u8],
     types: u16,
     number: u64,
-) -> Verdict
+) -> Result<u64, Rejected>
     requires sized { Sized rows.now (both_codes shared.now codes.now) work.old types number }
     requires ranged { Ranged rows.now (both_codes shared.now codes.now) }
     ensures { SizedJudged rows.now (both_codes shared.now codes.now) work.old work.new s.now types number result }
 {
     if sizes::MOST_BYTES < s.len() {
-        return Verdict::Refused(refusals::OVERSIZE, Place::Plain(0));
+        return Err(Rejected {
+            number: refusals::OVERSIZE,
+            place: Place::Plain(0),
+        });
     }
     judge_typed(rows, shared, codes, work, s, types, number)
 }

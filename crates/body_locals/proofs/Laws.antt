@@ -1,31 +1,26 @@
 -- What a caller learns from `locals_at`: the locals that the definition read, and a
 -- place after them that lies inside the input.
 use Prim.Native.Nat.{ℕ, zero, suc, ◌+◌, ◌≤◌}
-use mathlib.Core.Path.{◌≡◌, ap}
+use mathlib.Core.Path.{◌≡◌}
 use mathlib.Core.List.{List}
 use native.Mathlib.Omega.{arith}
 use native.Mathlib.Nat.{le_trans, le_refl}
 use lib.ListN.{length}
 use lib.Dec.{ltb, leb}
+use Rattle.std.specs.Prelude.{Ok}
 use Rattle.scope.specs.Sizes.{most_locals}
 use Rattle.scope.specs.Lists.{every}
-use Rattle.scope.specs.Reading.{Read, got, refused}
+use Rattle.scope.specs.Reading.{Read, got}
 use Rattle.scope.specs.Syntax.{Val}
 use Rattle.scope.specs.TypeRules.{val_names}
 use Rattle.scope.specs.Bodies.{locals_at}
 use Rattle.scope.proofs.Forward.{Ends, stops, reaches, ends_then, ends_cond, one_less, unsigned-takes, val_takes}
 use Rattle.scope.proofs.Impossible.{impossible}
-use Rattle.body_locals.specs.declared.LocalsRead.{LocalsRead}
-use Rattle.body_locals.specs.declared.LocalsRead
+use Rattle.scope.proofs.Told.{told_got}
 use Rattle.body_locals.specs.Entries.{locals_is}
 
-pub locals_got : (before : ℕ) (o : Read (List Val)) {r : LocalsRead} {count next : ℕ} → r ≡ locals_is before o → r ≡ LocalsRead.TheVariants.Got count next → (vs : List Val) × (o ≡ got vs next) × (count ≡ before + length vs)
-locals_got before (got vs m) {next = next} p q = let e : m ≡ next = cc in (vs, ap (got vs) e, cc)
-locals_got before (refused n m) p q = impossible cc
-
-pub locals_refused : (before : ℕ) (o : Read (List Val)) {r : LocalsRead} {n place : ℕ} → r ≡ locals_is before o → r ≡ LocalsRead.TheVariants.Refused n place → o ≡ refused n place
-locals_refused before (got vs m) p q = impossible cc
-locals_refused before (refused m k) p q = cc
+pub locals_got : (before : ℕ) (o : Read (List Val)) {count next : ℕ} → Ok (count, next) ≡ locals_is before o → (vs : List Val) × (o ≡ got vs next) × (count ≡ before + length vs)
+locals_got before o p = told_got (λ vs. before + length vs) o p
 
 locals_ends : (types n before : ℕ) (s : List ℕ) (at : ℕ) → at ≤ length s → Ends at (length s) (locals_at types n before s at)
 unfolding locals_at

@@ -1,13 +1,15 @@
 -- The loop of `locals_at` and the definition `locals_at` walk the same entries: the locals that are done, put before what the
 -- definition reads from here, are what it reads from the start; and the words that were put are the codes of those done.
 use Prim.Native.Nat.{ℕ, zero, suc, ◌+◌, ◌-◌, ◌≤◌, ◌<◌}
-use mathlib.Core.Path.{◌≡◌, refl, ap, ap₂, ◌∙◌}
+use mathlib.Core.Path.{◌≡◌, refl, sym, ap, ◌∙◌}
 use mathlib.Core.Bool.{Bool, true, false, cond}
 use mathlib.Core.List.{List, [], ◌∷◌, ◌++◌, map, append_assoc, append-nil, map-append}
 use native.Mathlib.Omega.{arith}
 use lib.ListN.{length, replicate, length-append, length-map, length-replicate}
 use lib.Dec.{ltb, leb}
 use borrow.Author.Tests.{leb-true}
+use Rattle.std.specs.Prelude.{Result, Ok, Err, IsErrAnd}
+use Rattle.scope.specs.declared.Refused.{Refused}
 use Rattle.scope.specs.Sizes.{most_locals}
 use Rattle.scope.specs.Refusals.{oversize, out_of_reach}
 use Rattle.scope.specs.Reading.{Read, got, refused, then}
@@ -18,26 +20,21 @@ use Rattle.scope.specs.Sections.{val_at}
 use Rattle.scope.specs.TypeRules.{val_names}
 use Rattle.scope.specs.Bodies.{locals_at}
 use Rattle.scope.proofs.Impossible.{impossible}
+use Rattle.scope.proofs.Told.{told_got, told_refused, passed}
 use Rattle.type_table.proofs.Puts.{Puts, puts_more, puts_length}
 use Rattle.type_table.proofs.CodesBack.{val_code-small}
 use Rattle.type_read.specs.Codes.{val_code_kept}
 use Rattle.section_forms.proofs.Lists.{onto}
 use Rattle.body_locals.specs.declared.Entry.{Entry}
-use Rattle.body_locals.specs.declared.Entry
-use Rattle.body_locals.specs.declared.LocalsRead.{LocalsRead}
-use Rattle.body_locals.specs.declared.LocalsRead
-use Rattle.body_locals.specs.Entries.{Space, Lent, entry_at, entry_is, LocalsPut}
+use Rattle.body_locals.specs.Entries.{Space, Lent, entry_at, entry_of, entry_is, LocalsPut}
 
 -- an entry, taken apart
 
-entry_inv : (o : Read (ℕ × Val)) {r : Entry} {k code next : ℕ} → r ≡ entry_is o → r ≡ Entry.TheVariants.Is k code next → (v : Val) × (o ≡ got (k, v) next) × (code ≡ val_code_kept v)
-entry_inv (got e n) {k = k} {next = next} p q =
-    let same : e.0 ≡ k = cc in let stop : n ≡ next = cc in (e.1, ap₂ (λ (x y : ℕ). got (x, e.1) y) same stop, cc)
-entry_inv (refused n m) p q = impossible cc
-
-entry_refused_inv : (o : Read (ℕ × Val)) {r : Entry} {n place : ℕ} → r ≡ entry_is o → r ≡ Entry.TheVariants.Refused n place → o ≡ refused n place
-entry_refused_inv (got e m) p q = impossible cc
-entry_refused_inv (refused m k) p q = cc
+entry_inv : (o : Read (ℕ × Val)) {e : Entry} {next : ℕ} → Ok (e, next) ≡ entry_is o → (v : Val) × (o ≡ got (e.count, v) next) × (e.code ≡ val_code_kept v)
+entry_inv o {e} {next} p =
+    let (x, read, same) = told_got entry_of o p in
+    let counted : x.0 ≡ e.count = sym (ap (λ (t : Entry). t.count) same) in
+    (x.1, read ∙ ap (λ (k : ℕ). got (k, x.1) next) counted, ap (λ (t : Entry). t.code) same)
 
 -- an entry that was read leaves no more than 256 locals
 
@@ -130,7 +127,7 @@ pub record Listed (types n before : ℕ) (s : List ℕ) (at : ℕ) (work₀ work
   pub puts : Puts work₀ work (first + before) (map val_code_kept done)
 
 module _ {types n before : ℕ} {s : List ℕ} {at : ℕ} {work₀ work : List ℕ} {first next left count : ℕ} (p : Listed types n before s at work₀ work first next left count) where
-  pub listed-done : left ≤ 0 → LocalsPut types n before s at work₀ work first (LocalsRead.TheVariants.Got count next)
+  pub listed-done : left ≤ 0 → LocalsPut types n before s at work₀ work first (Ok (count, next))
   listed-done h =
       let all : locals_at types n before s at ≡ got (p.done ++ []) next = p.same ∙ ap (onto p.done) (locals-none types left count s next h) in
       let long : before + length (p.done ++ []) ≡ count = simp append-nil p.counted in
@@ -140,44 +137,44 @@ module _ {types n before : ℕ} {s : List ℕ} {at : ℕ} {work₀ work : List �
         size = puts_length p.puts;
       }
 
-  module _ (more : 0 < left) {r : Entry} (a : r ≡ entry_is (entry_at types count s next)) where
-    pub listed_refused : {k place : ℕ} → r ≡ Entry.TheVariants.Refused k place → LocalsPut types n before s at work₀ work first (LocalsRead.TheVariants.Refused k place)
-    listed_refused {k} {place} e =
-        let all : locals_at types n before s at ≡ refused k place = p.same ∙ ap (onto p.done) (locals_refused types left count s next more (entry_refused_inv (entry_at types count s next) a e)) in
+  module _ (more : 0 < left) where
+    pub listed_refused : {no : Refused} → Err no ≡ entry_is (entry_at types count s next) → {r : Result (ℕ × ℕ) Refused} → IsErrAnd r (λ e. e ≡ no) → LocalsPut types n before s at work₀ work first r
+    listed_refused {no} a is =
+        let all : locals_at types n before s at ≡ refused no.number no.at = p.same ∙ ap (onto p.done) (locals_refused types left count s next more (told_refused entry_of (entry_at types count s next) a)) in
         record {
-          answer = rw all;
+          answer = passed is (rw all);
           memory = λ vs stop f. impossible cc;
           size = puts_length p.puts;
         }
 
-    module _ {k code following : ℕ} (e : r ≡ Entry.TheVariants.Is k code following) where
-      entry_most : count + k ≤ most_locals
-      entry_most = let (v, read, c) = entry_inv (entry_at types count s next) a e in entry_few (entry_few_read types count s next) read
+    module _ {e : Entry} {following : ℕ} (a : Ok (e, following) ≡ entry_is (entry_at types count s next)) where
+      entry_most : count + e.count ≤ most_locals
+      entry_most = let (v, read, c) = entry_inv (entry_at types count s next) a in entry_few (entry_few_read types count s next) read
 
-      pub listed_space : Lent work₀ types before first → Space work (first + count) k code
+      pub listed_space : Lent work₀ types before first → Space work (first + count) e.count e.code
       listed_space lent =
           let h = entry_most in
-          let (v, read, c) = entry_inv (entry_at types count s next) a e in
+          let (v, read, c) = entry_inv (entry_at types count s next) a in
           let b = val_small v in
           let size : length work ≡ length work₀ = puts_length p.puts in
           record { room = omega (arith, lent.room); small = omega arith }
 
-      turn : {work' : List ℕ} (v : Val) → entry_at types count s next ≡ got (k, v) following → code ≡ val_code_kept v → Puts work work' (first + count) (replicate k code) → Listed types n before s at work₀ work' first following (left - 1) (count + k)
+      turn : {work' : List ℕ} (v : Val) → entry_at types count s next ≡ got (e.count, v) following → e.code ≡ val_code_kept v → Puts work work' (first + count) (replicate e.count e.code) → Listed types n before s at work₀ work' first following (left - 1) (count + e.count)
       turn {work'} v read c q =
           let h = entry_most in
           let where-put : first + before + length (map val_code_kept p.done) ≡ first + count = ap (λ (x : ℕ). first + before + x) (length-map p.done val_code_kept) ∙ (omega (arith, p.counted)) in
-          let codes : replicate k code ≡ map val_code_kept (replicate k v) = ap (replicate k) c ∙ map_replicate k v in
-          let later : Puts work work' (first + before + length (map val_code_kept p.done)) (map val_code_kept (replicate k v)) = rw (where-put, ← codes) q in
+          let codes : replicate e.count e.code ≡ map val_code_kept (replicate e.count v) = ap (replicate e.count) c ∙ map_replicate e.count v in
+          let later : Puts work work' (first + before + length (map val_code_kept p.done)) (map val_code_kept (replicate e.count v)) = rw (where-put, ← codes) q in
           record {
-            done = p.done ++ replicate k v;
-            counted = ap (λ (x : ℕ). before + x) (length-append p.done (replicate k v)) ∙ simp length-replicate (omega (arith, p.counted));
+            done = p.done ++ replicate e.count v;
+            counted = ap (λ (x : ℕ). before + x) (length-append p.done (replicate e.count v)) ∙ simp length-replicate (omega (arith, p.counted));
             few = h;
             same =
                 p.same
                 ∙ ap (onto p.done) (locals_more types left count s next more read)
-                ∙ onto_several p.done (replicate k v) (locals_at types (left - 1) (count + k) s following);
+                ∙ onto_several p.done (replicate e.count v) (locals_at types (left - 1) (count + e.count) s following);
             puts = rw (map-append) (puts_more p.puts later);
           }
 
-      pub listed_turn : {work' : List ℕ} → Puts work work' (first + count) (replicate k code) → Listed types n before s at work₀ work' first following (left - 1) (count + k)
-      listed_turn q = let (v, read, c) = entry_inv (entry_at types count s next) a e in turn v read c q
+      pub listed_turn : {work' : List ℕ} → Puts work work' (first + count) (replicate e.count e.code) → Listed types n before s at work₀ work' first following (left - 1) (count + e.count)
+      listed_turn q = let (v, read, c) = entry_inv (entry_at types count s next) a in turn v read c q

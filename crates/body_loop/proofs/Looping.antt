@@ -5,6 +5,9 @@ use mathlib.Core.Path.{◌≡◌, refl, sym, ap, ◌∙◌}
 use mathlib.Core.List.{List}
 use native.Mathlib.Omega.{arith}
 use lib.ListN.{length}
+use Rattle.scope.specs.Told.{no_at}
+use Rattle.std.specs.Prelude.{Result, Ok, Err}
+use Rattle.scope.specs.declared.Refused.{Refused}
 use Rattle.scope.specs.Refusals.{bytes_end}
 use Rattle.scope.specs.Reading.{Read, got, refused}
 use Rattle.scope.specs.Bodies.{State, Code, judge_from}
@@ -14,13 +17,11 @@ use Rattle.body_state.specs.State.{context_at, state_at}
 use Rattle.body_progress.specs.Standing.{check_of}
 use Rattle.body_progress.specs.declared.Progress.{Progress}
 use Rattle.body_progress.specs.Counted.{counted, judged_on, Running}
-use Rattle.body_loop.specs.declared.Ended.{Ended}
-use Rattle.body_loop.specs.declared.Ended
 use Rattle.body_loop.specs.Loop.{begin, ended_is, JudgedFrom}
 
-abbrev pub ended_of : Read ℕ → Ended
-ended_of (got n stop) = Ended.TheVariants.Finished n stop
-ended_of (refused n p) = Ended.TheVariants.Refused n p
+abbrev pub ended_of : Read ℕ → Result (ℕ × ℕ) Refused
+ended_of (got n stop) = Ok (n, stop)
+ended_of (refused n p) = Err (no_at n p)
 
 -- the loop
 
@@ -35,7 +36,7 @@ unfolding judge_from
 from_none c st s next = refl
 
 module _ {rows codes work₀ : List ℕ} {k : Scene} {s : List ℕ} {at : ℕ} {work : List ℕ} {turn : ℕ} {state : Progress} (g : Going rows codes work₀ k s at work turn state) where
-  pub going_out : length s ≤ turn → JudgedFrom rows codes work₀ work k s at (Ended.TheVariants.Refused bytes_end state.next)
+  pub going_out : length s ≤ turn → JudgedFrom rows codes work₀ work k s at (Err (no_at bytes_end state.next))
   going_out z =
       let none : length s - state.count ≡ 0 = omega (arith, g.turns) in
       let c = context_at rows codes work k in

@@ -1,5 +1,8 @@
 -- What all instructions of a body come to, by document 01's rules over what the words say.
 use Rattle.std.specs.Prelude.{ℕ, ◌+◌, ◌≤◌, ◌≡◌, false, List, length}
+use Rattle.scope.specs.Told.{no_at}
+use Rattle.std.specs.Prelude.{Result, Ok, Err}
+use Rattle.scope.specs.declared.Refused.{Refused}
 use Rattle.scope.specs.Sizes.{most_bytes, most_types}
 use Rattle.scope.specs.Reading.{Read, got, refused}
 use Rattle.scope.specs.Bodies.{Code, judge_from}
@@ -7,8 +10,6 @@ use Rattle.body_numeric.specs.Entries.{Tabled}
 use Rattle.body_state.specs.declared.Check.{Check}
 use Rattle.body_state.specs.declared.Scene.{Scene}
 use Rattle.body_state.specs.State.{context_at, state_at, Upright, Stamped}
-use Rattle.body_loop.specs.declared.Ended.{Ended}
-use Rattle.body_loop.specs.declared.Ended
 
 -- in the function's own frame, with no operand
 abbrev pub begin : Check
@@ -27,10 +28,10 @@ pub record Ready (table work : List ℕ) (k : Scene) (s : List ℕ) (at : ℕ) :
   pub begun : Begun work k s at
 
 -- so many instructions before, and those that were read
-abbrev pub ended_is : ℕ → Read Code → Ended
-ended_is before (got code stop) = Ended.TheVariants.Finished (before + length code) stop
-ended_is before (refused n p) = Ended.TheVariants.Refused n p
+abbrev pub ended_is : ℕ → Read Code → Result (ℕ × ℕ) Refused
+ended_is before (got code stop) = Ok ((before + length code), stop)
+ended_is before (refused n p) = Err (no_at n p)
 
-pub record JudgedFrom (rows codes work work' : List ℕ) (k : Scene) (s : List ℕ) (at : ℕ) (r : Ended) : Type 0 where
+pub record JudgedFrom (rows codes work work' : List ℕ) (k : Scene) (s : List ℕ) (at : ℕ) (r : Result (ℕ × ℕ) Refused) : Type 0 where
   pub answer : r ≡ ended_is 0 (judge_from (length s) (context_at rows codes work k) (state_at work k.locals begin) s at)
   pub size : length work' ≡ length work

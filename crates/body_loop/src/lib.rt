@@ -10,14 +10,7 @@ ghost use Rattle.body_lap.specs.Laps.{Lapping, Lapped};
 use body_lap::Lap;
 use body_progress::Progress;
 use body_state::Scene;
-use scope::refusals;
-
-// How many instructions there are, and the place after the last `end`; or a refusal's number and place.
-#[derive(Clone, Copy)]
-pub enum Ended {
-    Finished(u64, usize),
-    Refused(u64, usize),
-}
+use scope::{Read, Refused, refusals};
 
 // Instructions that are told, one after the other, then one by the general path.
 fn go_round(
@@ -49,7 +42,7 @@ pub fn judge_from(
     scene: Scene,
     s: &[u8],
     at: usize,
-) -> Ended
+) -> Read<u64>
     requires ready { Ready table.now work.old scene s.now at }
     requires ranged { Ranged rows.now (both_codes shared.now codes.now) }
     ensures { JudgedFrom rows.now (both_codes shared.now codes.now) work.old work.new scene s.now at result }
@@ -65,15 +58,18 @@ pub fn judge_from(
     for _ in 0..s.len() {
         match go_round(rows, shared, codes, table, work, scene, s, state) {
             Lap::Refused(number, fault) => {
-                return Ended::Refused(number, fault);
+                return Err(Refused { number, at: fault });
             }
             Lap::Finished(count, following) => {
-                return Ended::Finished(count, following);
+                return Ok((count, following));
             }
             Lap::On(later) => {
                 state = later;
             }
         }
     }
-    Ended::Refused(refusals::BYTES_END, state.next as usize)
+    Err(Refused {
+        number: refusals::BYTES_END,
+        at: state.next as usize,
+    })
 }

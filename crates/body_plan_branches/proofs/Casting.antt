@@ -8,6 +8,8 @@ use lib.Dec.{ltb}
 use borrow.Author.Tests.{not-true, not-false}
 use mir.Syntax.{w16}
 use mir.Val.{Fits}
+use Rattle.scope.specs.Told.{Maybe}
+use Rattle.std.specs.Prelude.{None, Some}
 use Rattle.scope.specs.Refusals.{out_of_reach, absent, bad_struct}
 use Rattle.scope.specs.Lists.{every}
 use Rattle.scope.specs.Syntax.{Val, ref, nullable, Types}
@@ -15,8 +17,6 @@ use Rattle.scope.specs.TypeRules.{heap_names}
 use Rattle.scope.specs.BodyRules.{value, need, and_ruled, descriptor_for, branches, plan_of}
 use Rattle.scope.proofs.Impossible.{impossible}
 use Rattle.type_table.specs.View.{heap_at_code}
-use Rattle.type_table.specs.declared.Link.{Link}
-use Rattle.type_table.specs.declared.Link
 use Rattle.type_reach.specs.Names.{all_below}
 use Rattle.type_reach.proofs.Naming.{below-append}
 use Rattle.body_state.specs.declared.Scene.{Scene}
@@ -27,8 +27,6 @@ use Rattle.body_state.specs.State.{planned_of}
 use Rattle.body_plan_parts.specs.Planning.{context_on, CodeIs}
 use Rattle.body_plan_parts.proofs.Steps.{found_then}
 use Rattle.body_plan_parts.proofs.Words.{wants_none, wants_value}
-use Rattle.body_plan_labels.specs.declared.Label.{Label}
-use Rattle.body_plan_labels.specs.declared.Label
 use Rattle.body_plan_labels.specs.Labels.{labels_at, LabelOf}
 use Rattle.body_plan_labels.proofs.Labels.{label_none, label_some}
 use Rattle.body_plan_casts.specs.Casts.{DescriptorFor}
@@ -64,8 +62,8 @@ module _ (work : List ℕ) (k : Scene) (depth l source target : ℕ) {r : Bool} 
           low = λ vs e. impossible cc;
         }
 
-    module _ (u : not s ≡ false) {m : Label} (d : LabelOf work k depth l m) where
-      pub target_absent : m ≡ Label.TheVariants.Absent → CastLabel work k depth l source target (Target.TheVariants.Fault absent)
+    module _ (u : not s ≡ false) {m : Maybe Values} (d : LabelOf work k depth l m) where
+      pub target_absent : m ≡ None → CastLabel work k depth l source target (Target.TheVariants.Fault absent)
       unfolding cast_label_at
       target_absent q =
           record {
@@ -74,7 +72,7 @@ module _ (work : List ℕ) (k : Scene) (depth l source target : ℕ) {r : Bool} 
             low = λ vs e. impossible cc;
           }
 
-      pub target_there : Fits w16 k.types → {v : Values} → m ≡ Label.TheVariants.Is v → CastLabel work k depth l source target (Target.TheVariants.Is v)
+      pub target_there : Fits w16 k.types → {v : Values} → m ≡ Some v → CastLabel work k depth l source target (Target.TheVariants.Is v)
       unfolding cast_label_at
       target_there f q =
           record {
@@ -126,8 +124,8 @@ module _ (codes : List ℕ) (ts : Types) (source target : Reference) (fail : Boo
               rw (cast_is ts k.types locals results (labels_at codes work k depth) is_set l source target fail, ← a.is codes, q, c.is l k.types locals results, wants_none);
         }
 
-    module _ {d : Link} (b : DescriptorFor (descriptor_for ts (heap_at_code target.heap)) d) where
-      pub desc_undescribed : d ≡ Link.TheVariants.Nothing → Branching codes ts k.types (labels_at codes work k depth) (desc_op fail (cast_between l source target)) (Planned.TheVariants.Fault bad_struct)
+    module _ {d : Maybe ℕ} (b : DescriptorFor (descriptor_for ts (heap_at_code target.heap)) d) where
+      pub desc_undescribed : d ≡ None → Branching codes ts k.types (labels_at codes work k depth) (desc_op fail (cast_between l source target)) (Planned.TheVariants.Fault bad_struct)
       unfolding planned_of
       desc_undescribed e =
           record {
@@ -135,7 +133,7 @@ module _ (codes : List ℕ) (ts : Types) (source target : Reference) (fail : Boo
                 rw (desc_is ts k.types locals results (labels_at codes work k depth) is_set l source target fail, ← a.is codes, q, ← b.is, e);
           }
 
-      pub desc_planned : {y : ℕ} → d ≡ Link.TheVariants.To y → {j : ℕ} → CodeIs (ref true (heap_at_code y)) j → {p : Planned} → Casts codes ts (j + 3) source target fail v p → Branching codes ts k.types (labels_at codes work k depth) (desc_op fail (cast_between l source target)) p
+      pub desc_planned : {y : ℕ} → d ≡ Some y → {j : ℕ} → CodeIs (ref true (heap_at_code y)) j → {p : Planned} → Casts codes ts (j + 3) source target fail v p → Branching codes ts k.types (labels_at codes work k depth) (desc_op fail (cast_between l source target)) p
       desc_planned e {j} top c =
           record {
             is = λ locals results is_set.

@@ -8,11 +8,9 @@ ghost use Rattle.body_plan_cast_forms.specs.Forms.{cast_between};
 ghost use Rattle.body_plan_branches.specs.Branches.{cast_op, desc_op, CastLabel, Branching};
 
 use body_plan_cast_forms::Reference;
-use body_plan_labels::Label;
 use body_plan_parts::WANTED;
 use body_state::{Planned, Scene, Values};
 use scope::refusals;
-use type_table::Link;
 
 // The types of a label in a branching cast's reach, or a refusal's number.
 #[derive(Clone, Copy)]
@@ -22,6 +20,7 @@ pub enum Target {
 }
 
 // The types of a branching cast's label, where its heap types are in reach.
+#[tactic(auto, using(crate::proofs::Casting::target_exits))]
 fn cast_label(work: &[u32], scene: Scene, depth: u16, l: u64, source: u64, target: u64) -> Target
     ensures { CastLabel work.now scene depth l source target result }
 {
@@ -34,12 +33,13 @@ fn cast_label(work: &[u32], scene: Scene, depth: u16, l: u64, source: u64, targe
     }
     let label = body_plan_labels::label_of(work, scene, depth, l);
     match label {
-        Label::Absent => Target::Fault(refusals::ABSENT),
-        Label::Is(values) => Target::Is(values),
+        None => Target::Fault(refusals::ABSENT),
+        Some(values) => Target::Is(values),
     }
 }
 
 // br_on_cast and br_on_cast_fail.
+#[tactic(auto, using(crate::proofs::Casting::branch_exits))]
 pub fn br_on_cast(
     rows: &[u16],
     shared: &[u16],
@@ -68,6 +68,7 @@ pub fn br_on_cast(
 }
 
 // br_on_cast_desc_eq and br_on_cast_desc_eq_fail: the target's descriptor is taken first.
+#[tactic(auto, using(crate::proofs::Casting::branch_exits))]
 pub fn br_on_cast_desc(
     rows: &[u16],
     shared: &[u16],
@@ -92,8 +93,8 @@ pub fn br_on_cast_desc(
         Target::Is(values) => {
             let descriptor = body_plan_casts::descriptor_for(rows, shared, codes, target.heap);
             match descriptor {
-                Link::Nothing => Planned::Fault(refusals::BAD_STRUCT),
-                Link::To(d) => {
+                None => Planned::Fault(refusals::BAD_STRUCT),
+                Some(d) => {
                     let top = body_plan_parts::ref_code(true, d);
                     body_plan_cast_forms::casts(
                         rows,

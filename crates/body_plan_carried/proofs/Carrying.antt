@@ -3,6 +3,8 @@ use Prim.Native.Nat.{ℕ, ◌+◌}
 use mathlib.Core.Path.{◌≡◌, sym}
 use mathlib.Core.Bool.{true, false}
 use mathlib.Core.List.{List}
+use Rattle.std.specs.Prelude.{None, Some}
+use Rattle.scope.specs.Told.{Maybe}
 use Rattle.scope.specs.Refusals.{bad_branch}
 use Rattle.scope.specs.Syntax.{Types}
 use Rattle.scope.specs.Order.{val_below, val_fit}
@@ -16,16 +18,14 @@ use Rattle.body_state.specs.declared.Planned.{Planned}
 use Rattle.body_state.specs.declared.Planned
 use Rattle.body_state.specs.State.{plain_of, planned_of}
 use Rattle.body_plan_parts.proofs.Words.{wants_value, gives_value}
-use Rattle.body_plan_carried.specs.declared.Split.{Split}
-use Rattle.body_plan_carried.specs.declared.Split
 use Rattle.body_plan_carried.specs.Carried.{SplitOf, Small, Carries}
 
-module _ (codes : List ℕ) (ts : Types) (first source carried falls : ℕ) (label : Values) {s : Split} (b : SplitOf codes label s) where
-  pub without_types : s ≡ Split.TheVariants.Nothing → Carries codes ts first source carried falls label (Planned.TheVariants.Fault bad_branch)
+module _ (codes : List ℕ) (ts : Types) (first source carried falls : ℕ) (label : Values) {s : Maybe (Values × ℕ)} (b : SplitOf codes label s) where
+  pub without_types : s ≡ None → Carries codes ts first source carried falls label (Planned.TheVariants.Fault bad_branch)
   unfolding planned_of
   without_types q = record { is = rw (← b.is, q) }
 
-  module _ {v : Values} {w : ℕ} (q : s ≡ Split.TheVariants.Is v w) {u : Fit} (d : u ≡ fit_is (val_fit ts (val_at_code carried) (val_at_code w))) where
+  module _ {v : Values} {w : ℕ} (q : s ≡ Some (v, w)) {u : Fit} (d : u ≡ fit_is (val_fit ts (val_at_code carried) (val_at_code w))) where
     not-below : val_below ts (val_at_code carried) (val_at_code w) ≡ false → Carries codes ts first source carried falls label (Planned.TheVariants.Fault bad_branch)
     unfolding planned_of
     not-below e = record { is = rw (← b.is, q, e) }

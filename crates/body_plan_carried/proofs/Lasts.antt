@@ -7,6 +7,7 @@ use native.Mathlib.Omega.{arith}
 use native.Mathlib.Nat.{add-zero}
 use native.Mathlib.Numerals.{sub-one}
 use lib.ListN.{get_or}
+use Rattle.std.specs.Prelude.{None, Some}
 use Rattle.scope.specs.Syntax.{Val}
 use Rattle.scope.specs.BodyRules.{holds_of, last_of}
 use Rattle.lent_u16.specs.Words.{WordAt}
@@ -16,7 +17,6 @@ use Rattle.body_state.specs.declared.Values.{Values}
 use Rattle.body_state.specs.declared.Values
 use Rattle.body_state.specs.Layout.{code_bound}
 use Rattle.body_state.specs.State.{val_at_word, values_of}
-use Rattle.body_plan_carried.specs.declared.Split
 use Rattle.body_plan_carried.specs.Carried.{SplitOf}
 
 module _ {A : Type 0} (f : ℕ → A) (codes : List ℕ) where
@@ -39,25 +39,25 @@ held codes at (suc n) = ap (λ (vs : List Val). val_at_code (get_or codes at 0 /
 
 module _ (codes : List ℕ) (values : Values) {first n : ℕ} where
   module _ (e : values ≡ Values.TheVariants.Types first n) where
-    pub no_types : n ≡ 0 → SplitOf codes values Split.TheVariants.Nothing
+    pub no_types : n ≡ 0 → SplitOf codes values None
     unfolding values_of last_of
     no_types z = record { is = rw (e, no-codes val_at_code codes first n (omega arith)) }
 
-    pub last_type : (n ≡ 0 → ⊥) → {w : ℕ} → WordAt codes (first + (n - 1)) w → SplitOf codes values (Split.TheVariants.Is (Values.TheVariants.Types first (n - 1)) w)
+    pub last_type : (n ≡ 0 → ⊥) → {w : ℕ} → WordAt codes (first + (n - 1)) w → SplitOf codes values (Some (Values.TheVariants.Types first (n - 1), w))
     unfolding values_of
     last_type some' a = record { is = rw e (sym (last_of_lem val_at_code codes first n some' a)) }
 
   module _ (e : values ≡ Values.TheVariants.Fields first n) where
-    pub no_fields : n ≡ 0 → SplitOf codes values Split.TheVariants.Nothing
+    pub no_fields : n ≡ 0 → SplitOf codes values None
     unfolding values_of last_of
     no_fields z = record { is = rw (e, no-codes field_at_code codes first n (omega arith)) }
 
-    pub last_field : (n ≡ 0 → ⊥) → {w : ℕ} → WordAt codes (first + (n - 1)) w → SplitOf codes values (Split.TheVariants.Is (Values.TheVariants.Fields first (n - 1)) (w / 2))
+    pub last_field : (n ≡ 0 → ⊥) → {w : ℕ} → WordAt codes (first + (n - 1)) w → SplitOf codes values (Some (Values.TheVariants.Fields first (n - 1), w / 2))
     unfolding values_of
     last_field some' a =
         record { is = rw (e, held codes first n, held codes first (n - 1)) (sym (last_of_lem (λ c. val_at_code (c / 2)) codes first n some' a)) }
 
-pub only_type : (codes : List ℕ) (values : Values) {c : ℕ} → values ≡ Values.TheVariants.One c → SplitOf codes values (Split.TheVariants.Is (Values.TheVariants.Types 0 0) (c % code_bound))
+pub only_type : (codes : List ℕ) (values : Values) {c : ℕ} → values ≡ Values.TheVariants.One c → SplitOf codes values (Some (Values.TheVariants.Types 0 0, c % code_bound))
 unfolding values_of val_at_word last_of codes_at
 only_type codes values e = record { is = rw e }
 

@@ -1,6 +1,8 @@
 -- What it is that a label's last type is split off, and that a plan follows the label's rule of a branching cast, by codes.
 use Rattle.std.specs.Prelude.{ℕ, ◌<◌, ◌≡◌, List, [], ◌∷◌, ◌++◌}
+use Rattle.std.specs.Prelude.{None, Some}
 use Rattle.std.proofs.Math.Option.{Option, none, some}
+use Rattle.scope.specs.Told.{Maybe}
 use Rattle.scope.specs.Refusals.{bad_branch}
 use Rattle.scope.specs.Syntax.{Val, Types}
 use Rattle.scope.specs.Order.{val_below}
@@ -10,14 +12,12 @@ use Rattle.body_state.specs.declared.Values.{Values}
 use Rattle.body_state.specs.declared.Planned.{Planned}
 use Rattle.body_state.specs.Layout.{code_bound}
 use Rattle.body_state.specs.State.{wants_at, values_of, planned_of}
-use Rattle.body_plan_carried.specs.declared.Split.{Split}
-use Rattle.body_plan_carried.specs.declared.Split
 
-abbrev pub split_option : List ℕ → Split → Option (List Val × Val)
-split_option codes Split.TheVariants.Nothing = none
-split_option codes (Split.TheVariants.Is before last) = some (values_of codes before, val_at_code last)
+abbrev pub split_option : List ℕ → Maybe (Values × ℕ) → Option (List Val × Val)
+split_option codes None = none
+split_option codes (Some (before, last)) = some (values_of codes before, val_at_code last)
 
-pub record SplitOf (codes : List ℕ) (vs : Values) (r : Split) : Type 0 where
+pub record SplitOf (codes : List ℕ) (vs : Values) (r : Maybe (Values × ℕ)) : Type 0 where
   pub is : split_option codes r ≡ last_of (values_of codes vs)
 
 -- two small codes of value types

@@ -10,42 +10,37 @@ use body_state::{CODE_BOUND, Plain, Planned, Values};
 use scope::refusals;
 use type_fit::Fit;
 
-// A list's last type by its code, and those before it.
-#[derive(Clone, Copy)]
-pub enum Split {
-    Nothing,
-    Is(Values, u64),
-}
-
-// A list's last type.
-fn split_last(shared: &[u16], codes: &[u16], values: Values) -> Split
+// The types before a list's last, and the last by its code; None where the list is empty.
+#[tactic(auto, using(crate::proofs::Lasts::last_exits))]
+fn split_last(shared: &[u16], codes: &[u16], values: Values) -> Option<(Values, u64)>
     ensures { SplitOf (both_codes shared.now codes.now) values result }
 {
     match values {
         Values::Types(first, n) => {
             if n == 0 {
-                return Split::Nothing;
+                return None;
             }
             let before = n - 1;
             let code = type_table::code_word(shared, codes, first as u64 + before as u64);
-            Split::Is(Values::Types(first, before), code)
+            Some((Values::Types(first, before), code))
         }
         Values::Fields(first, n) => {
             if n == 0 {
-                return Split::Nothing;
+                return None;
             }
             let before = n - 1;
             let field = type_table::code_word(shared, codes, first as u64 + before as u64);
-            Split::Is(Values::Fields(first, before), field / 2)
+            Some((Values::Fields(first, before), field / 2))
         }
         Values::One(c) => {
             let code = c as u64 % CODE_BOUND;
-            Split::Is(Values::Types(0, 0), code)
+            Some((Values::Types(0, 0), code))
         }
     }
 }
 
 // A branching cast's label, by codes: what is carried is below its last type. `first` is taken before the object.
+#[tactic(auto, using(crate::proofs::Carrying::carry_exits))]
 pub fn carries(
     rows: &[u16],
     shared: &[u16],
@@ -62,8 +57,8 @@ pub fn carries(
 {
     let split = split_last(shared, codes, label);
     match split {
-        Split::Nothing => Planned::Fault(refusals::BAD_BRANCH),
-        Split::Is(before, last) => {
+        None => Planned::Fault(refusals::BAD_BRANCH),
+        Some((before, last)) => {
             // the label's rule relies on the first outcome alone, and makes 25 of the other two
             let fit = type_fit::val_fit(rows, shared, codes, carried, last);
             match fit {

@@ -17,6 +17,7 @@ pub struct Reference {
 }
 
 // The plain form carries the target and falls through with the rest, the fail form the other way round.
+#[tactic(auto, using(crate::proofs::Sides::form_exits))]
 fn form_carries(
     rows: &[u16],
     shared: &[u16],
@@ -41,6 +42,7 @@ fn form_carries(
 }
 
 // A branching cast's rule: source and target are of one hierarchy, and the label takes what is carried.
+#[tactic(auto, using(crate::proofs::Sides::cast_exits))]
 pub fn casts(
     rows: &[u16],
     shared: &[u16],

@@ -9,6 +9,8 @@ use borrow.Author.Tests.{lt-ltb, le-ltb, not-true, not-false}
 use lib.Dec.{ltb}
 use mir.Syntax.{w16}
 use mir.Val.{Fits}
+use Rattle.scope.specs.Told.{Maybe}
+use Rattle.std.specs.Prelude.{None, Some}
 use Rattle.scope.specs.Refusals.{out_of_reach, bad_struct}
 use Rattle.scope.specs.Abstract.{Abstract}
 use Rattle.scope.specs.Syntax.{Heap, abstract, ref, Types}
@@ -19,8 +21,6 @@ use Rattle.scope.specs.Instructions.{ref_null, ref_cast, ref_get_desc, ref_cast_
 use Rattle.scope.specs.BodyRules.{top_of, descriptor_for, plan_of}
 use Rattle.type_abstract.proofs.Laws.{code-small}
 use Rattle.type_table.specs.View.{heap_at_code, codes_at}
-use Rattle.type_table.specs.declared.Link.{Link}
-use Rattle.type_table.specs.declared.Link
 use Rattle.type_table.proofs.Codes.{heap-at-code}
 use Rattle.type_reach.specs.Names.{all_below}
 use Rattle.body_state.specs.declared.Values
@@ -99,12 +99,12 @@ module _ (count : ℕ) (h : Heap) {r : Bool} (e : r ≡ all_below count (heap_na
                 rw (reached_is, takes.is codes, wants_value j, object.is, top_is (top_of ts h) g, wants_none, gives_value made.small, made.is);
           }
 
-    module _ (codes : List ℕ) (ts : Types) {d : Link} (b : DescriptorFor (descriptor_for ts h) d) (n : Bool) where
-      pub desc_undescribed : d ≡ Link.TheVariants.Nothing → Follows codes ts count (ref_cast_desc_eq n h) (Planned.TheVariants.Fault bad_struct)
+    module _ (codes : List ℕ) (ts : Types) {d : Maybe ℕ} (b : DescriptorFor (descriptor_for ts h) d) (n : Bool) where
+      pub desc_undescribed : d ≡ None → Follows codes ts count (ref_cast_desc_eq n h) (Planned.TheVariants.Fault bad_struct)
       unfolding plan_of planned_of
       desc_undescribed q = record { is = λ locals results here. rw (reached_is, ← b.is, q) }
 
-      pub desc_planned : {y : ℕ} → d ≡ Link.TheVariants.To y → {j : ℕ} → CodeIs (ref true (heap_at_code y)) j → {k : ℕ} → CodeIs (ref n h) k → {p : Planned} → Takes (j + 3) 18 (Values.TheVariants.Types 0 0) (k + 1) p → Follows codes ts count (ref_cast_desc_eq n h) p
+      pub desc_planned : {y : ℕ} → d ≡ Some y → {j : ℕ} → CodeIs (ref true (heap_at_code y)) j → {k : ℕ} → CodeIs (ref n h) k → {p : Planned} → Takes (j + 3) 18 (Values.TheVariants.Types 0 0) (k + 1) p → Follows codes ts count (ref_cast_desc_eq n h) p
       unfolding plan_of values_of codes_at
       desc_planned q {j} top made takes =
           record {
@@ -112,7 +112,7 @@ module _ (count : ℕ) (h : Heap) {r : Bool} (e : r ≡ all_below count (heap_na
                 rw (reached_is, ← b.is, q, takes.is codes, wants_value j, top.is, wants_any_ref, gives_value made.small, made.is);
           }
 
-pub descriptor_small : {o : Option Heap} {d : Link} → DescriptorFor o d → {y : ℕ} → d ≡ Link.TheVariants.To y → y < heap_bound
+pub descriptor_small : {o : Option Heap} {d : Maybe ℕ} → DescriptorFor o d → {y : ℕ} → d ≡ Some y → y < heap_bound
 descriptor_small b {y} q = b.small y q
 
 pub ruleset casting_exits = (reach_small, top_small, descriptor_small, null_out, test-out, cast_out, desc_out, null_planned, test_planned, cast_planned, desc_undescribed, desc_planned)
@@ -124,16 +124,16 @@ module _ (codes : List ℕ) (ts : Types) (count x : ℕ) where
   unfolding plan_of planned_of
   get_out h = record { is = λ locals results here. rw (le-ltb x count h) }
 
-  module _ (h : x < count) {d : Link} (b : DescriptorOf (ts x).descriptor d) where
-    pub get_undescribed : d ≡ Link.TheVariants.Nothing → Follows codes ts count (ref_get_desc x) (Planned.TheVariants.Fault bad_struct)
+  module _ (h : x < count) {d : Maybe ℕ} (b : DescriptorOf (ts x).descriptor d) where
+    pub get_undescribed : d ≡ None → Follows codes ts count (ref_get_desc x) (Planned.TheVariants.Fault bad_struct)
     unfolding plan_of planned_of
     get_undescribed q = record { is = λ locals results here. rw (lt-ltb x count h, ← b.is, q) }
 
-    pub get_described : {y : ℕ} → d ≡ Link.TheVariants.To y → Follows codes ts count (ref_get_desc x) (Planned.TheVariants.Descriptor x y)
+    pub get_described : {y : ℕ} → d ≡ Some y → Follows codes ts count (ref_get_desc x) (Planned.TheVariants.Descriptor x y)
     unfolding plan_of planned_of
     get_described q = record { is = λ locals results here. rw (lt-ltb x count h, ← b.is, q) }
 
-pub number_fits : {o : Option ℕ} {d : Link} → DescriptorOf o d → {y : ℕ} → d ≡ Link.TheVariants.To y → Fits w16 y
+pub number_fits : {o : Option ℕ} {d : Maybe ℕ} → DescriptorOf o d → {y : ℕ} → d ≡ Some y → Fits w16 y
 number_fits b {y} q = let low = b.small y q in record { fits = omega arith }
 
 pub ruleset getting_exits = (number_fits, get_out, get_undescribed, get_described)

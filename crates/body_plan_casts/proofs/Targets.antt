@@ -7,6 +7,8 @@ use native.Mathlib.Omega.{arith}
 use borrow.Author.Tests.{not-false}
 use mir.Syntax.{w16, w64}
 use mir.Val.{Fits}
+use Rattle.scope.specs.Told.{Maybe}
+use Rattle.std.specs.Prelude.{None, Some}
 use Rattle.scope.specs.Abstract.{Abstract, row}
 use Rattle.scope.specs.Syntax.{Heap, defined, exact, Types}
 use Rattle.scope.specs.Memory.{abstract_code}
@@ -19,8 +21,6 @@ use Rattle.type_abstract.proofs.Laws.{at_code}
 use Rattle.type_table.specs.View.{heap_at_code}
 use Rattle.type_table.specs.declared.HeapKind.{HeapKind}
 use Rattle.type_table.specs.declared.HeapKind
-use Rattle.type_table.specs.declared.Link.{Link}
-use Rattle.type_table.specs.declared.Link
 use Rattle.type_table.specs.Answers.{heap_is}
 use Rattle.type_table.proofs.Codes.{heap-at-code}
 use Rattle.type_table.proofs.Laws.{is_abstract, is_defined, is_exact}
@@ -54,17 +54,17 @@ module _ (ts : Types) (h : Heap) {u : HeapKind} (e : u ≡ heap_is h) where
 
   -- the descriptor's type
 
-  pub abstract_described : {a : ℕ} → u ≡ HeapKind.TheVariants.Abstract a → DescriptorFor (descriptor_for ts h) Link.TheVariants.Nothing
+  pub abstract_described : {a : ℕ} → u ≡ HeapKind.TheVariants.Abstract a → DescriptorFor (descriptor_for ts h) None
   abstract_described q =
       record { is = rw (is_abstract h e q); small = λ k f. impossible cc }
 
-  module _ {x : ℕ} {d : Link} (b : DescriptorOf (ts x).descriptor d) where
+  module _ {x : ℕ} {d : Maybe ℕ} (b : DescriptorOf (ts x).descriptor d) where
     module _ (q : u ≡ HeapKind.TheVariants.Defined x) where
-      pub defined-undescribed : d ≡ Link.TheVariants.Nothing → DescriptorFor (descriptor_for ts h) Link.TheVariants.Nothing
+      pub defined-undescribed : d ≡ None → DescriptorFor (descriptor_for ts h) None
       defined-undescribed g =
           record { is = rw (is_defined h e q, ← b.is, g); small = λ k f. impossible cc }
 
-      pub defined-described : {y : ℕ} → d ≡ Link.TheVariants.To y → DescriptorFor (descriptor_for ts h) (Link.TheVariants.To (10 + 2 * y))
+      pub defined-described : {y : ℕ} → d ≡ Some y → DescriptorFor (descriptor_for ts h) (Some (10 + 2 * y))
       defined-described {y} g =
           let low = b.small y g in
           record {
@@ -73,11 +73,11 @@ module _ (ts : Types) (h : Heap) {u : HeapKind} (e : u ≡ heap_is h) where
           }
 
     module _ (q : u ≡ HeapKind.TheVariants.Exact x) where
-      pub exact_undescribed : d ≡ Link.TheVariants.Nothing → DescriptorFor (descriptor_for ts h) Link.TheVariants.Nothing
+      pub exact_undescribed : d ≡ None → DescriptorFor (descriptor_for ts h) None
       exact_undescribed g =
           record { is = rw (is_exact h e q, ← b.is, g); small = λ k f. impossible cc }
 
-      pub exact_described : {y : ℕ} → d ≡ Link.TheVariants.To y → DescriptorFor (descriptor_for ts h) (Link.TheVariants.To (11 + 2 * y))
+      pub exact_described : {y : ℕ} → d ≡ Some y → DescriptorFor (descriptor_for ts h) (Some (11 + 2 * y))
       exact_described {y} g =
           let low = b.small y g in
           record {
@@ -85,7 +85,7 @@ module _ (ts : Types) (h : Heap) {u : HeapKind} (e : u ≡ heap_is h) where
             small = λ k f. let same : 11 + 2 * y ≡ k = cc in rw (← same) (omega arith);
           }
 
-module _ {o : Option ℕ} {d : Link} (b : DescriptorOf o d) {y : ℕ} (q : d ≡ Link.TheVariants.To y) where
+module _ {o : Option ℕ} {d : Maybe ℕ} (b : DescriptorOf o d) {y : ℕ} (q : d ≡ Some y) where
   pub twice-fits : Fits w64 (2 * y)
   twice-fits = let low = b.small y q in record { fits = omega arith }
 

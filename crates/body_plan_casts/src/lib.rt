@@ -13,7 +13,7 @@ ghost use Rattle.body_plan_casts.specs.Casts.{Tests, DescriptorFor};
 use body_plan_parts::{ANY_REF, GIVEN, I32, WANTED};
 use body_state::{Planned, Values};
 use scope::refusals;
-use type_table::{HeapKind, Link};
+use type_table::HeapKind;
 
 // The codes of the heap types with the number 0: of x and of exact x they are two more for each number.
 const DEFINED: u64 = 10;
@@ -21,6 +21,7 @@ const DEFINED: u64 = 10;
 const EXACT: u64 = 11;
 
 // ref.null
+#[tactic(auto, using(crate::proofs::Casting::casting_exits))]
 pub fn ref_null(types: u16, heap: u64) -> Planned
     ensures { Anywhere types (ref_null (heap_at_code heap)) result }
 {
@@ -32,6 +33,7 @@ pub fn ref_null(types: u16, heap: u64) -> Planned
 }
 
 // The number of the top of a heap type's hierarchy.
+#[tactic(auto, using(crate::proofs::Targets::target_exits))]
 pub fn top_of(rows: &[u16], shared: &[u16], codes: &[u16], heap: u64) -> u64
     ensures { result ≡ abstract_code (top_of (view rows.now (both_codes shared.now codes.now)) (heap_at_code heap)) }
 {
@@ -50,6 +52,7 @@ pub fn top_of(rows: &[u16], shared: &[u16], codes: &[u16], heap: u64) -> u64
 }
 
 // ref.test, null or not: it takes any reference of the target's hierarchy.
+#[tactic(auto, using(crate::proofs::Casting::casting_exits))]
 pub fn ref_test(rows: &[u16], shared: &[u16], codes: &[u16], types: u16, heap: u64) -> Planned
     ensures { Tests (both_codes shared.now codes.now) (view rows.now (both_codes shared.now codes.now)) types (heap_at_code heap) result }
 {
@@ -62,6 +65,7 @@ pub fn ref_test(rows: &[u16], shared: &[u16], codes: &[u16], types: u16, heap: u
 }
 
 // ref.cast, likewise.
+#[tactic(auto, using(crate::proofs::Casting::casting_exits))]
 pub fn ref_cast(
     rows: &[u16],
     shared: &[u16],
@@ -82,29 +86,30 @@ pub fn ref_cast(
 }
 
 // The code of the heap type whose descriptor a descriptor cast to this heap type takes: exact where that is exact.
-pub fn descriptor_for(rows: &[u16], shared: &[u16], codes: &[u16], heap: u64) -> Link
+#[tactic(auto, using(crate::proofs::Targets::target_exits))]
+pub fn descriptor_for(rows: &[u16], shared: &[u16], codes: &[u16], heap: u64) -> Option<u64>
     ensures { DescriptorFor (descriptor_for (view rows.now (both_codes shared.now codes.now)) (heap_at_code heap)) result }
 {
     let kind = type_table::heap_of(heap);
     match kind {
-        HeapKind::Abstract(_) => Link::Nothing,
+        HeapKind::Abstract(_) => None,
         HeapKind::Defined(x) => {
             let descriptor = body_plan_parts::descriptor_of(rows, shared, codes, x);
             match descriptor {
-                Link::Nothing => Link::Nothing,
-                Link::To(y) => {
+                None => None,
+                Some(y) => {
                     let code = DEFINED + 2 * y;
-                    Link::To(code)
+                    Some(code)
                 }
             }
         }
         HeapKind::Exact(x) => {
             let descriptor = body_plan_parts::descriptor_of(rows, shared, codes, x);
             match descriptor {
-                Link::Nothing => Link::Nothing,
-                Link::To(y) => {
+                None => None,
+                Some(y) => {
                     let code = EXACT + 2 * y;
-                    Link::To(code)
+                    Some(code)
                 }
             }
         }
@@ -112,6 +117,7 @@ pub fn descriptor_for(rows: &[u16], shared: &[u16], codes: &[u16], heap: u64) ->
 }
 
 // ref.get_desc x
+#[tactic(auto, using(crate::proofs::Casting::getting_exits))]
 pub fn get_desc(rows: &[u16], shared: &[u16], codes: &[u16], types: u16, x: u64) -> Planned
     ensures { Follows (both_codes shared.now codes.now) (view rows.now (both_codes shared.now codes.now)) types (ref_get_desc x) result }
 {
@@ -120,8 +126,8 @@ pub fn get_desc(rows: &[u16], shared: &[u16], codes: &[u16], types: u16, x: u64)
     }
     let descriptor = body_plan_parts::descriptor_of(rows, shared, codes, x);
     match descriptor {
-        Link::Nothing => Planned::Fault(refusals::BAD_STRUCT),
-        Link::To(y) => {
+        None => Planned::Fault(refusals::BAD_STRUCT),
+        Some(y) => {
             let object = x as u16;
             let its = y as u16;
             Planned::Descriptor(object, its)
@@ -130,6 +136,7 @@ pub fn get_desc(rows: &[u16], shared: &[u16], codes: &[u16], types: u16, x: u64)
 }
 
 // ref.cast_desc_eq: it takes a reference below any, then the target's descriptor on top.
+#[tactic(auto, using(crate::proofs::Casting::casting_exits))]
 pub fn cast_desc_eq(
     rows: &[u16],
     shared: &[u16],
@@ -145,8 +152,8 @@ pub fn cast_desc_eq(
     }
     let descriptor = descriptor_for(rows, shared, codes, heap);
     match descriptor {
-        Link::Nothing => Planned::Fault(refusals::BAD_STRUCT),
-        Link::To(d) => {
+        None => Planned::Fault(refusals::BAD_STRUCT),
+        Some(d) => {
             let top = body_plan_parts::ref_code(true, d);
             let made = body_plan_parts::ref_code(null, heap);
             body_plan_parts::takes(

@@ -20,6 +20,7 @@ pub enum Field {
 }
 
 // A field of a type in reach.
+#[tactic(auto, using(crate::proofs::Going::found_exits))]
 pub fn field_of(rows: &[u16], shared: &[u16], codes: &[u16], types: u16, x: u64, i: u64) -> Field
     ensures { FieldOf (view rows.now (both_codes shared.now codes.now)) types x i result }
 {
@@ -37,6 +38,7 @@ pub fn field_of(rows: &[u16], shared: &[u16], codes: &[u16], types: u16, x: u64,
 }
 
 // struct.get x i
+#[tactic(auto, using(crate::proofs::Going::field_exits))]
 pub fn struct_get(
     rows: &[u16],
     shared: &[u16],
@@ -58,6 +60,7 @@ pub fn struct_get(
 }
 
 // struct.set x i
+#[tactic(auto, using(crate::proofs::Going::field_exits))]
 pub fn struct_set(
     rows: &[u16],
     shared: &[u16],

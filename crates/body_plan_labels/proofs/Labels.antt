@@ -7,6 +7,8 @@ use mathlib.Core.List.{List, [], ◌∷◌, ◌++◌, map, append-nil}
 use native.Mathlib.Omega.{arith}
 use lib.ListN.{get_elem?}
 use borrow.Author.Tests.{eq-eqb, ne_eqb}
+use Rattle.scope.specs.Told.{Maybe}
+use Rattle.std.specs.Prelude.{None, Some}
 use Rattle.scope.specs.Refusals.{absent}
 use Rattle.scope.specs.Syntax.{Val}
 use Rattle.scope.specs.Instructions.{br, br_if}
@@ -23,8 +25,6 @@ use Rattle.body_state.specs.Layout.{frames_from, frame_span, loop_word}
 use Rattle.body_state.specs.State.{values_of, plain_of, planned_of, frame_at, frames_at, ResultsOf}
 use Rattle.body_plan_parts.specs.Planning.{Stops}
 use Rattle.body_plan_parts.proofs.Words.{wants_none, wants_i32, gives_none}
-use Rattle.body_plan_labels.specs.declared.Label.{Label}
-use Rattle.body_plan_labels.specs.declared.Label
 use Rattle.body_plan_labels.specs.Labels.{labels_at, BlockLabel, LabelOf, Goes}
 
 -- block_label
@@ -62,15 +62,15 @@ module _ (work : List ℕ) (count : ℕ) (own : List Val) where
   none_there_lem (suc d) (suc l) h = none_there_lem d l (omega arith)
 
 module _ (work : List ℕ) (k : Scene) (depth l : ℕ) where
-  pub label_absent_lem : depth < l → LabelOf work k depth l Label.TheVariants.Absent
+  pub label_absent_lem : depth < l → LabelOf work k depth l None
   unfolding labels_at
   label_absent_lem h = record { is = λ codes. sym (none_there_lem work k.locals _ depth l h) }
 
-  pub label_own : depth ≡ l → LabelOf work k depth l (Label.TheVariants.Is (Values.TheVariants.Types k.first k.results))
+  pub label_own : depth ≡ l → LabelOf work k depth l (Some (Values.TheVariants.Types k.first k.results))
   unfolding labels_at values_of
   label_own e = record { is = λ codes. rw (← e) (sym (own_there work k.locals _ depth)) }
 
-  pub label_block : l ≤ depth → (depth ≡ l → ⊥) → {r : Values} → BlockLabel work (depth - l + 1) r → LabelOf work k depth l (Label.TheVariants.Is r)
+  pub label_block : l ≤ depth → (depth ≡ l → ⊥) → {r : Values} → BlockLabel work (depth - l + 1) r → LabelOf work k depth l (Some r)
   unfolding labels_at
   label_block h other a =
       let inside : l < depth = omega (arith, other) in
@@ -78,8 +78,8 @@ module _ (work : List ℕ) (k : Scene) (depth l : ℕ) where
 
 -- br and br_if
 
-module _ {work : List ℕ} {k : Scene} {depth l : ℕ} {r : Label} (a : LabelOf work k depth l r) where
-  module _ (e : r ≡ Label.TheVariants.Absent) where
+module _ {work : List ℕ} {k : Scene} {depth l : ℕ} {r : Maybe Values} (a : LabelOf work k depth l r) where
+  module _ (e : r ≡ None) where
     pub label_none : (codes : List ℕ) → get_elem? (labels_at codes work k depth) l ≡ none
     label_none codes = sym (a.is codes) ∙ rw e
 
@@ -91,7 +91,7 @@ module _ {work : List ℕ} {k : Scene} {depth l : ℕ} {r : Label} (a : LabelOf 
     unfolding plan_of planned_of
     br_if_absent = record { is = λ codes c is_set. rw (label_none codes) }
 
-  module _ {v : Values} (e : r ≡ Label.TheVariants.Is v) where
+  module _ {v : Values} (e : r ≡ Some v) where
     pub label_some : (codes : List ℕ) → get_elem? (labels_at codes work k depth) l ≡ some (values_of codes v)
     label_some codes = sym (a.is codes) ∙ rw e
 

@@ -3,6 +3,8 @@
 use Rattle.std.specs.Prelude.{ℕ, ◌≡◌, Bool, List, [], ◌∷◌, ◌++◌, map}
 use Rattle.std.proofs.Math.Option.{Option, none, some}
 use Rattle.std.proofs.Math.ListN.{get_elem?}
+use Rattle.scope.specs.Told.{Maybe}
+use Rattle.std.specs.Prelude.{None, Some}
 use Rattle.scope.specs.Syntax.{Val}
 use Rattle.scope.specs.Instructions.{Op}
 use Rattle.scope.specs.BodyRules.{Context, plan_of}
@@ -12,22 +14,20 @@ use Rattle.body_state.specs.declared.Scene.{Scene}
 use Rattle.body_state.specs.declared.Values.{Values}
 use Rattle.body_state.specs.declared.Planned.{Planned}
 use Rattle.body_state.specs.State.{values_of, planned_of, frame_at, frames_at}
-use Rattle.body_plan_labels.specs.declared.Label.{Label}
-use Rattle.body_plan_labels.specs.declared.Label
 
 -- the labels within so many open blocks, innermost first
 unfoldable pub labels_at : List ℕ → List ℕ → Scene → ℕ → List (List Val)
 labels_at codes work k depth =
     map label_of (frames_at work k.locals depth) ++ codes_at val_at_code codes k.first k.results ∷ []
 
-abbrev pub label_option : List ℕ → Label → Option (List Val)
-label_option codes Label.TheVariants.Absent = none
-label_option codes (Label.TheVariants.Is vs) = some (values_of codes vs)
+abbrev pub label_option : List ℕ → Maybe Values → Option (List Val)
+label_option codes None = none
+label_option codes (Some vs) = some (values_of codes vs)
 
 pub record BlockLabel (work : List ℕ) (m : ℕ) (r : Values) : Type 0 where
   pub is : (codes : List ℕ) (count : ℕ) → values_of codes r ≡ label_of (frame_at work count m)
 
-pub record LabelOf (work : List ℕ) (k : Scene) (depth l : ℕ) (r : Label) : Type 0 where
+pub record LabelOf (work : List ℕ) (k : Scene) (depth l : ℕ) (r : Maybe Values) : Type 0 where
   pub is : (codes : List ℕ) → label_option codes r ≡ get_elem? (labels_at codes work k depth) l
 
 -- The plan r is what the rule of an instruction says, where the instruction looks at the labels alone.

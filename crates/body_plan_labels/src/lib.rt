@@ -8,14 +8,8 @@ use body_plan_parts::{I32, WANTED};
 use body_state::{LOOP, Plain, Planned, Scene, Values};
 use scope::refusals;
 
-// The types of a label.
-#[derive(Clone, Copy)]
-pub enum Label {
-    Absent,
-    Is(Values),
-}
-
 // The types of the label of frame m. A loop's label has none.
+#[tactic(auto, using(crate::proofs::Labels::label_exits))]
 fn block_label(work: &[u32], m: u32) -> Values
     ensures { BlockLabel work.now m result }
 {
@@ -27,41 +21,44 @@ fn block_label(work: &[u32], m: u32) -> Values
 }
 
 // Label l from within so many blocks: the innermost is label 0, the function's own the last.
-pub fn label_of(work: &[u32], scene: Scene, depth: u16, l: u64) -> Label
+#[tactic(auto, using(crate::proofs::Labels::label_exits))]
+pub fn label_of(work: &[u32], scene: Scene, depth: u16, l: u64) -> Option<Values>
     ensures { LabelOf work.now scene depth l result }
 {
     let blocks = depth as u64;
     if blocks < l {
-        return Label::Absent;
+        return None;
     }
     if blocks == l {
         let first = scene.first;
         let results = scene.results;
-        return Label::Is(Values::Types(first, results));
+        return Some(Values::Types(first, results));
     }
     let label = block_label(work, (blocks - l + 1) as u32);
-    Label::Is(label)
+    Some(label)
 }
 
 // br l
+#[tactic(auto, using(crate::proofs::Labels::label_exits))]
 pub fn br(work: &[u32], scene: Scene, depth: u16, l: u64) -> Planned
     ensures { Goes work.now scene depth (br l) result }
 {
     let label = label_of(work, scene, depth, l);
     match label {
-        Label::Absent => Planned::Fault(refusals::ABSENT),
-        Label::Is(values) => body_plan_parts::stops(values),
+        None => Planned::Fault(refusals::ABSENT),
+        Some(values) => body_plan_parts::stops(values),
     }
 }
 
 // br_if l
+#[tactic(auto, using(crate::proofs::Labels::label_exits))]
 pub fn br_if(work: &[u32], scene: Scene, depth: u16, l: u64) -> Planned
     ensures { Goes work.now scene depth (br_if l) result }
 {
     let label = label_of(work, scene, depth, l);
     match label {
-        Label::Absent => Planned::Fault(refusals::ABSENT),
-        Label::Is(values) => {
+        None => Planned::Fault(refusals::ABSENT),
+        Some(values) => {
             let top = I32 + WANTED;
             Planned::Plain(Plain {
                 top: top,

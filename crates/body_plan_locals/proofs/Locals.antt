@@ -12,13 +12,13 @@ use lib.Dec.{ltb}
 use borrow.Author.Tests.{ltb-true, ltb-false, not-true, not-false, ne_eqb}
 use mir.Syntax.{w16, w32, w64}
 use mir.Val.{Fits}
+use Rattle.scope.specs.Told.{Maybe}
+use Rattle.std.specs.Prelude.{None, Some}
 use Rattle.scope.specs.Refusals.{absent, not_set}
 use Rattle.scope.specs.Instructions.{local_get, local_set, local_tee}
 use Rattle.scope.specs.BodyRules.{plan_of}
 use Rattle.scope.proofs.Truths.{decided, none_is_not-some}
 use Rattle.type_table.specs.View.{val_at_code, codes_at, link_at}
-use Rattle.body_state.specs.declared.Local.{Local}
-use Rattle.body_state.specs.declared.Local
 use Rattle.body_state.specs.declared.Values
 use Rattle.body_state.specs.declared.Planned.{Planned}
 use Rattle.body_state.specs.declared.Planned
@@ -39,11 +39,11 @@ sets_there work m i (suc n) (suc x) h =
 marked_is : (x : ℕ) → link_at (x + 1) ≡ some x
 marked_is x = let less : x + 1 - 1 ≡ x = omega arith in rw (ne_eqb (x + 1) 0 (λ e. omega arith), less)
 
-module _ {work : List ℕ} {count x : ℕ} {r : Local} (a : LocalOf work count x r) where
-  absent_is : r ≡ Local.TheVariants.Absent → get_elem? (codes_at val_at_word work 0 count) x ≡ none
+module _ {work : List ℕ} {count x : ℕ} {r : Maybe ℕ} (a : LocalOf work count x r) where
+  absent_is : r ≡ None → get_elem? (codes_at val_at_word work 0 count) x ≡ none
   absent_is e = sym a.is ∙ rw e
 
-  module _ (e : r ≡ Local.TheVariants.Absent) where
+  module _ (e : r ≡ None) where
     pub get_absent : (is_set : List Bool) → Uses (codes_at val_at_word work 0 count) is_set (local_get x) (Planned.TheVariants.Fault absent)
     unfolding plan_of planned_of
     get_absent is_set = record { is = λ codes ts count results labels. rw (absent_is e) }
@@ -56,7 +56,7 @@ module _ {work : List ℕ} {count x : ℕ} {r : Local} (a : LocalOf work count x
     unfolding plan_of planned_of
     tee_absent = record { is = λ is_set. record { is = λ codes ts count results labels. rw (absent_is e) } }
 
-  module _ {c : ℕ} (e : r ≡ Local.TheVariants.Is c) where
+  module _ {c : ℕ} (e : r ≡ Some c) where
     type_is : get_elem? (codes_at val_at_word work 0 count) x ≡ some (val_at_code c)
     type_is = sym a.is ∙ rw e
 

@@ -11,6 +11,7 @@ use body_plan_structs::{Fields, Pair};
 use body_state::{Planned, Values};
 
 // struct.new x
+#[tactic(auto, using(crate::proofs::Making::making_exits))]
 pub fn struct_new(rows: &[u16], shared: &[u16], codes: &[u16], types: u16, x: u64) -> Planned
     ensures { Follows (both_codes shared.now codes.now) (view rows.now (both_codes shared.now codes.now)) types (struct_new x) result }
 {
@@ -25,6 +26,7 @@ pub fn struct_new(rows: &[u16], shared: &[u16], codes: &[u16], types: u16, x: u6
 }
 
 // struct.new_desc x
+#[tactic(auto, using(crate::proofs::Making::making_exits))]
 pub fn struct_new_desc(rows: &[u16], shared: &[u16], codes: &[u16], types: u16, x: u64) -> Planned
     ensures { Follows (both_codes shared.now codes.now) (view rows.now (both_codes shared.now codes.now)) types (struct_new_desc x) result }
 {

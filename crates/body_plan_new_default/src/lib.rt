@@ -14,6 +14,7 @@ use body_state::{Planned, Values};
 use scope::refusals;
 
 // What struct.new_default gives where each field has a default: it takes `top`.
+#[tactic(auto, using(crate::proofs::Filling::filling_exits))]
 fn defaulted(shared: &[u16], codes: &[u16], first: u32, n: u32, top: u64, x: u64) -> Planned
     requires { x < 2 ^ 16 }
     ensures { Defaulted (both_codes shared.now codes.now) first n top x result }
@@ -26,6 +27,7 @@ fn defaulted(shared: &[u16], codes: &[u16], first: u32, n: u32, top: u64, x: u64
 }
 
 // struct.new_default x
+#[tactic(auto, using(crate::proofs::Filling::filling_exits))]
 pub fn struct_new_default(
     rows: &[u16],
     shared: &[u16],
@@ -43,6 +45,7 @@ pub fn struct_new_default(
 }
 
 // struct.new_default_desc x
+#[tactic(auto, using(crate::proofs::Filling::filling_exits))]
 pub fn struct_new_default_desc(
     rows: &[u16],
     shared: &[u16],

@@ -8,12 +8,12 @@ use native.Mathlib.Omega.{arith}
 use lib.ListN.{get_or}
 use lib.Dec.{eqb}
 use borrow.Author.Tests.{ne_eqb}
+use Rattle.scope.specs.Told.{Maybe}
 use Rattle.scope.specs.Abstract.{ANY, EQ}
 use Rattle.scope.specs.Syntax.{abstract, defined, exact, i32, Val, num, ref}
 use Rattle.scope.specs.BodyRules.{value, any_value, any_reference}
 use Rattle.type_table.specs.RowWords.{descriptor_word}
 use Rattle.type_table.specs.View.{heap_at_code, val_at_code, link_at, view}
-use Rattle.type_table.specs.declared.Link.{Link}
 use Rattle.type_table.specs.Answers.{link_is}
 use Rattle.type_table.proofs.Laws.{link_to, link_read}
 use Rattle.scope.specs.Layout.{row_span}
@@ -110,7 +110,7 @@ link_less : (w : ℕ) (b : Bool) {y : ℕ} → cond b none (some (w - 1)) ≡ so
 link_less w true e = impossible cc
 link_less w false e = cc
 
-pub descriptor_small : (rows codes : List ℕ) (x : ℕ) → get_or rows (row_span * x + descriptor_word) 0 < 2 ^ 16 → {r : Link} → r ≡ link_is (view rows codes x).descriptor → DescriptorOf (view rows codes x).descriptor r
+pub descriptor_small : (rows codes : List ℕ) (x : ℕ) → get_or rows (row_span * x + descriptor_word) 0 < 2 ^ 16 → {r : Maybe ℕ} → r ≡ link_is (view rows codes x).descriptor → DescriptorOf (view rows codes x).descriptor r
 unfolding view
 descriptor_small rows codes x h e =
     record {

@@ -1,12 +1,12 @@
 -- What plans are made of, and what it is that a plan follows the rule of an instruction.
 use Rattle.std.specs.Prelude.{ℕ, ◌<◌, ◌^◌, ◌≡◌, false, List, ◌++◌}
 use Rattle.std.proofs.Math.Option.{Option, none}
+use Rattle.scope.specs.Told.{Maybe}
+use Rattle.std.specs.Prelude.{Some}
 use Rattle.scope.specs.Syntax.{Val, Types}
 use Rattle.scope.specs.Instructions.{Op}
 use Rattle.scope.specs.BodyRules.{Context, Scope, values, allowed, takes_and_stops, from_top, plan_of}
 use Rattle.type_table.specs.View.{val_at_code}
-use Rattle.type_table.specs.declared.Link.{Link}
-use Rattle.type_table.specs.declared.Link
 use Rattle.type_table.specs.Answers.{link_option}
 use Rattle.body_state.specs.declared.Values.{Values}
 use Rattle.body_state.specs.declared.Planned.{Planned}
@@ -43,6 +43,6 @@ pub record CodeIs (v : Val) (r : ℕ) : Type 0 where
   pub is : val_at_code r ≡ v
   pub small : r < code_bound
 
-pub record DescriptorOf (o : Option ℕ) (r : Link) : Type 0 where
+pub record DescriptorOf (o : Option ℕ) (r : Maybe ℕ) : Type 0 where
   pub is : link_option r ≡ o
-  pub small : (y : ℕ) → r ≡ Link.TheVariants.To y → y < 2 ^ 16
+  pub small : (y : ℕ) → r ≡ Some y → y < 2 ^ 16

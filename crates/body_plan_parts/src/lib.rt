@@ -8,7 +8,6 @@ ghost use Rattle.type_table.specs.View.{heap_at_code, view, both_codes};
 ghost use Rattle.body_plan_parts.specs.Planning.{heap_bound, Takes, Stops, CodeIs, DescriptorOf};
 
 use body_state::{Plain, Planned, Values};
-use type_table::Link;
 
 // What a plan's `top` and `second` are beyond the code of the type that is wanted, and its `gives` beyond the code of the
 // type that is given.
@@ -83,7 +82,7 @@ pub fn exact_code(null: bool, x: u64) -> u64
 }
 
 // The descriptor of a type: what the table answers, and that the number is small.
-pub fn descriptor_of(rows: &[u16], shared: &[u16], codes: &[u16], x: u64) -> Link
+pub fn descriptor_of(rows: &[u16], shared: &[u16], codes: &[u16], x: u64) -> Option<u64>
     ensures { DescriptorOf (view rows.now (both_codes shared.now codes.now) x).descriptor result }
 {
     type_table::descriptor_of(rows, shared, codes, x)

@@ -6,13 +6,13 @@ use mathlib.Core.List.{List}
 use native.Mathlib.Omega.{arith}
 use mir.Syntax.{w16}
 use mir.Val.{Fits}
+use Rattle.scope.specs.Told.{Maybe}
+use Rattle.std.specs.Prelude.{None, Some}
 use Rattle.scope.specs.Refusals.{bad_struct}
 use Rattle.scope.specs.Syntax.{Types}
 use Rattle.scope.specs.BodyRules.{allowed, fault}
 use Rattle.scope.proofs.Impossible.{impossible}
 use Rattle.type_table.specs.View.{field_at_code, codes_at}
-use Rattle.type_table.specs.declared.Link.{Link}
-use Rattle.type_table.specs.declared.Link
 use Rattle.body_plan_parts.specs.Planning.{DescriptorOf}
 use Rattle.body_plan_structs.specs.declared.Fields.{Fields}
 use Rattle.body_plan_structs.specs.declared.Fields
@@ -35,8 +35,8 @@ module _ {codes : List ℕ} {ts : Types} {count x : ℕ} {r : Fields} (a : Struc
     described_refused =
         record { is = rw (struct_refused a q); low = λ first n y e. impossible cc }
 
-  module _ {first n : ℕ} (q : r ≡ Fields.TheVariants.Are first n) {d : Link} (b : DescriptorOf (ts x).descriptor d) where
-    module _ (e : d ≡ Link.TheVariants.Nothing) where
+  module _ {first n : ℕ} (q : r ≡ Fields.TheVariants.Are first n) {d : Maybe ℕ} (b : DescriptorOf (ts x).descriptor d) where
+    module _ (e : d ≡ None) where
       none_is : (ts x).descriptor ≡ none
       none_is = sym b.is ∙ rw e
 
@@ -52,7 +52,7 @@ module _ {codes : List ℕ} {ts : Types} {count x : ℕ} {r : Fields} (a : Struc
             low = λ i k y f. impossible cc;
           }
 
-    module _ {y : ℕ} (e : d ≡ Link.TheVariants.To y) where
+    module _ {y : ℕ} (e : d ≡ Some y) where
       some_is : (ts x).descriptor ≡ some y
       some_is = sym b.is ∙ rw e
 

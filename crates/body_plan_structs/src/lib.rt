@@ -6,7 +6,7 @@ ghost use Rattle.type_table.specs.View.{view, both_codes};
 ghost use Rattle.body_plan_structs.specs.Structs.{StructOf, Undescribed, Described};
 
 use scope::refusals;
-use type_table::{Link, Shape};
+use type_table::Shape;
 
 // Where the codes of a struct's fields start and how many there are; or a refusal's number.
 #[derive(Clone, Copy)]
@@ -23,6 +23,7 @@ pub enum Pair {
 }
 
 // The fields of a type in reach that is a struct.
+#[tactic(auto, using(crate::proofs::Finding::finding_exits))]
 pub fn struct_of(rows: &[u16], shared: &[u16], codes: &[u16], types: u16, x: u64) -> Fields
     ensures { StructOf (both_codes shared.now codes.now) (view rows.now (both_codes shared.now codes.now)) types x result }
 {
@@ -38,6 +39,7 @@ pub fn struct_of(rows: &[u16], shared: &[u16], codes: &[u16], types: u16, x: u64
 }
 
 // The fields of a struct without a descriptor.
+#[tactic(auto, using(crate::proofs::Describing::describing_exits))]
 pub fn undescribed(rows: &[u16], shared: &[u16], codes: &[u16], types: u16, x: u64) -> Fields
     ensures { Undescribed (both_codes shared.now codes.now) (view rows.now (both_codes shared.now codes.now)) types x result }
 {
@@ -47,14 +49,15 @@ pub fn undescribed(rows: &[u16], shared: &[u16], codes: &[u16], types: u16, x: u
         Fields::Are(first, n) => {
             let descriptor = body_plan_parts::descriptor_of(rows, shared, codes, x);
             match descriptor {
-                Link::Nothing => Fields::Are(first, n),
-                Link::To(_) => Fields::Fault(refusals::BAD_STRUCT),
+                None => Fields::Are(first, n),
+                Some(_) => Fields::Fault(refusals::BAD_STRUCT),
             }
         }
     }
 }
 
 // The fields of a struct with a descriptor, and that descriptor.
+#[tactic(auto, using(crate::proofs::Describing::describing_exits))]
 pub fn described(rows: &[u16], shared: &[u16], codes: &[u16], types: u16, x: u64) -> Pair
     ensures { Described (both_codes shared.now codes.now) (view rows.now (both_codes shared.now codes.now)) types x result }
 {
@@ -64,8 +67,8 @@ pub fn described(rows: &[u16], shared: &[u16], codes: &[u16], types: u16, x: u64
         Fields::Are(first, n) => {
             let descriptor = body_plan_parts::descriptor_of(rows, shared, codes, x);
             match descriptor {
-                Link::Nothing => Pair::Fault(refusals::BAD_STRUCT),
-                Link::To(y) => Pair::Are(first, n, y),
+                None => Pair::Fault(refusals::BAD_STRUCT),
+                Some(y) => Pair::Are(first, n, y),
             }
         }
     }

@@ -126,3 +126,6 @@ non_null_lem codes c s i e = does codes c s i e refl Planned.TheVariants.NonNull
 pub stops_return : (rows codes work : List ℕ) (k : Scene) (s : State) (i : Instruction) {p : Planned} → i ≡ Instruction.TheVariants.Return → Stops (Values.TheVariants.Types k.first k.results) p → act_of codes (context_at rows codes work k) s (Act.TheVariants.Does p) ≡ judge_instr (context_at rows codes work k) s (instr_of i)
 unfolding instr_of plan_of values_of context_at
 stops_return rows codes work k s i {p} e a = does codes _ s i e refl p (a.is codes)
+
+-- the arms of the instructions without immediates, and of those that open a block
+pub ruleset arm_exits = (stops_unreachable, takes_nop, opens_block, opens_loop, closes, stops_return, takes-drop, takes_is_null, takes-eq, non_null_lem)

@@ -27,6 +27,7 @@ pub enum Act {
 }
 
 // What an instruction does, where the check stands.
+#[tactic(auto, using(crate::proofs::Arms::arm_exits))]
 pub fn act_of(
     rows: &[u16],
     shared: &[u16],

@@ -7,6 +7,7 @@ use mathlib.Core.List.{List, [], ◌∷◌, ◌++◌}
 use native.Mathlib.Omega.{arith}
 use lib.ListN.{length, length-append}
 use borrow.Author.Tests.{ne_eqb}
+use Rattle.std.specs.Prelude.{None, Some}
 use Rattle.scope.specs.Sizes.{most_operands}
 use Rattle.scope.specs.Syntax.{Val}
 use Rattle.scope.specs.Bodies.{on_top}
@@ -17,8 +18,6 @@ use Rattle.body_state.specs.State.{operand_at_code, val_at_word, results_at, val
 use Rattle.body_words.proofs.Laws.{known_kept}
 use Rattle.body_put.specs.Putting.{Room, Pushed}
 use Rattle.body_put.proofs.Laws.{on_top_append, pushed_none, pushed_more}
-use Rattle.body_push.specs.declared.Given.{Given}
-use Rattle.body_push.specs.declared.Given
 use Rattle.body_push.specs.Gives.{Long, back_of, given_of, BackLength, GivesLength, Space, PutBack, GivenTo}
 
 -- nothing is put
@@ -94,7 +93,7 @@ module _ (codes : List ℕ) {list : Values} {back : Bool} {gives n g : ℕ} (a :
   unfolding given_of
   all_long = length-append (back_of codes list back) (results_at gives) ∙ rw (a.is codes, b.is)
 
-  pub give_full : (work : List ℕ) (base height : ℕ) {most : ℕ} → most < base + (height + n + g) → most_operands ≤ most → GivenTo work work base height (given_of codes list back gives) Given.TheVariants.Full
+  pub give_full : (work : List ℕ) (base height : ℕ) {most : ℕ} → most < base + (height + n + g) → most_operands ≤ most → GivenTo work work base height (given_of codes list back gives) None
   give_full work base height h limit =
       record {
         gave = λ k e. impossible cc;
@@ -109,7 +108,7 @@ module _ (codes : List ℕ) {list : Values} {back : Bool} {gives n g : ℕ} (a :
       pub space_gives : Space work₁ base (height + n) (results_at gives)
       space_gives = record { room = omega (arith, l.room, p.pushed.size); few = omega (arith, b.is) }
 
-      pub give_all : {work₂ : List ℕ} → PutBack work₁ work₂ base (height + n) (results_at gives) → GivenTo work work₂ base height (given_of codes list back gives) (Given.TheVariants.Is (height + n + g))
+      pub give_all : {work₂ : List ℕ} → PutBack work₁ work₂ base (height + n) (results_at gives) → GivenTo work work₂ base height (given_of codes list back gives) (Some (height + n + g))
       unfolding given_of
       give_all {work₂} q =
           let first : Pushed work work₁ base height (height + n) (on_top (back_of codes list back)) = rw (a.is codes) at p.pushed in

@@ -1,5 +1,7 @@
 -- What putting values on the scratch's stack leaves, by what the words then say.
 use Rattle.std.specs.Prelude.{ℕ, ◌+◌, ◌<◌, ◌≤◌, ◌≡◌, Bool, cond, List, [], ◌++◌, length}
+use Rattle.scope.specs.Told.{Maybe}
+use Rattle.std.specs.Prelude.{None, Some}
 use Rattle.scope.specs.Sizes.{most_operands}
 use Rattle.scope.specs.Syntax.{Val}
 use Rattle.scope.specs.Bodies.{on_top}
@@ -7,8 +9,6 @@ use Rattle.body_state.specs.declared.Values.{Values}
 use Rattle.body_state.specs.Layout.{used_size}
 use Rattle.body_state.specs.State.{values_of, results_at}
 use Rattle.body_put.specs.Putting.{Pushed}
-use Rattle.body_push.specs.declared.Given.{Given}
-use Rattle.body_push.specs.declared.Given
 
 -- the scratch has room for all that is kept there
 pub record Long (work : List ℕ) : Type 0 where
@@ -48,6 +48,6 @@ pub record TooMany (work work' : List ℕ) (base height : ℕ) (vs : List Val) :
   pub many : most_operands < base + (height + length vs)
   pub same : work' ≡ work
 
-pub record GivenTo (work work' : List ℕ) (base height : ℕ) (vs : List Val) (r : Given) : Type 0 where
-  pub gave : (h : ℕ) → r ≡ Given.TheVariants.Is h → Gave work work' base height vs h
-  pub full : r ≡ Given.TheVariants.Full → TooMany work work' base height vs
+pub record GivenTo (work work' : List ℕ) (base height : ℕ) (vs : List Val) (r : Maybe ℕ) : Type 0 where
+  pub gave : (h : ℕ) → r ≡ Some h → Gave work work' base height vs h
+  pub full : r ≡ None → TooMany work work' base height vs

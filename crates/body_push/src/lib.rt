@@ -51,13 +51,6 @@ fn push_gives(work: &mut [u32], gives: u64, base: u32, height: u32)
     }
 }
 
-// How many operands the frame has then; or there are too many in all frames, and nothing is written.
-#[derive(Clone, Copy)]
-pub enum Given {
-    Is(u32),
-    Full,
-}
-
 // The values of a list, where they are put back, and then one type.
 pub fn give(
     shared: &[u16],
@@ -68,7 +61,7 @@ pub fn give(
     gives: u64,
     base: u32,
     height: u32,
-) -> Given
+) -> Option<u32>
     requires { Long work.old }
     ensures { GivenTo work.old work.new base height (given_of (both_codes shared.now codes.now) list back gives) result }
 {
@@ -77,9 +70,9 @@ pub fn give(
     let last = height as u64 + n as u64;
     let top = last + g as u64;
     if sizes::MOST_OPERANDS < base as u64 + top {
-        return Given::Full;
+        return None;
     }
     push_back(shared, codes, work, list, back, base, height);
     push_gives(work, gives, base, last as u32);
-    Given::Is(top as u32)
+    Some(top as u32)
 }

@@ -10,6 +10,7 @@ use lib.Dec.{eqb}
 use borrow.Author.Tests.{eq-eqb, ne_eqb}
 use mir.Syntax.{w32, w64}
 use mir.Val.{Fits}
+use Rattle.std.specs.Prelude.{Some}
 use Rattle.scope.specs.Sizes.{most_operands}
 use Rattle.scope.specs.Memory.{flag}
 use Rattle.scope.specs.Reading.{got}
@@ -35,8 +36,6 @@ use Rattle.body_operands.specs.declared.Left
 use Rattle.body_operands.specs.Taking.{left_of, left_in}
 use Rattle.body_put.specs.Putting.{Pushed}
 use Rattle.body_put.proofs.Laws.{pushed_none}
-use Rattle.body_push.specs.declared.Given.{Given}
-use Rattle.body_push.specs.declared.Given
 use Rattle.body_push.specs.Gives.{given_of, Gave, GivenTo}
 use Rattle.body_push.proofs.Laws.{given_back}
 use Rattle.body_end.specs.declared.End.{End}
@@ -95,7 +94,7 @@ module _ (rows codes : List ℕ) (k : Scene) {s : List ℕ} {at : ℕ} {work : L
     ends : EndsWith rows codes work list base (top - base) (eqb dead 1) End.TheVariants.Fine
     ends = end_fine rows codes work list base (top - base) (eqb dead 1) {r = Left.TheVariants.Is 0} refl (sym taken) refl
 
-    given_to : GivenTo work work' outer height (given_of codes list true 0) (Given.TheVariants.Is (height + more))
+    given_to : GivenTo work work' outer height (given_of codes list true 0) (Some (height + more))
     given_to = rw (given_back codes list) (record { gave = λ h e. let same : height + more ≡ h = cc in rw (← same) g; full = λ e. impossible cc })
 
     steps : Stepped work work' k.locals depth (judge_instr (context_at rows codes work k) (state_at work k.locals (check_of depth base top dead)) end) (Step.TheVariants.On (record { depth = depth - 1; base = outer; height = height + more; dead = eqb unknowns 1 }))

@@ -9,12 +9,12 @@ use lib.Dec.{lit≤}
 use mir.Syntax.{w64}
 use mir.Val.{Fits}
 use borrow.Author.Tests.{lt-ltb}
+use Rattle.std.specs.Prelude.{Result, Ok}
+use Rattle.scope.specs.declared.Refused.{Refused}
 use Rattle.scope.specs.Reading.{Read, got, Reader}
 use Rattle.scope.specs.Numbers.{bits, bits_at, greatest_length, Whole, plus, minus, signed_of, unsigned, signed, little_endian, float_bytes, u32, s32, s64}
 use Rattle.scope.proofs.Forward.{signed-takes, never_back}
 use Rattle.number_bytes.proofs.Exits.{element_there}
-use Rattle.number_values.specs.declared.Natural.{Natural}
-use Rattle.number_values.specs.declared.Natural
 use Rattle.number_values.specs.declared.Integer.{Integer}
 use Rattle.number_values.specs.declared.Integer
 use Rattle.number_values.specs.Values.{natural_is, integer_is}
@@ -71,7 +71,7 @@ module _ {s : List ℕ} {at b : ℕ} (a : ByteOr s at b) (h : b < 128) where
 
 -- by the reader
 
-module _ (s : List ℕ) (at : ℕ) {r : Natural} (a : r ≡ natural_is (u32 s at)) {v next : ℕ} (e : r ≡ Natural.TheVariants.Is v next) where
+module _ (s : List ℕ) (at : ℕ) {r : Result (ℕ × ℕ) Refused} (a : r ≡ natural_is (u32 s at)) {v next : ℕ} (e : r ≡ Ok (v, next)) where
   pub number-later : at ≤ next
   number-later = let b = (natural_bounds {s = s} {at = at} a e).forward in omega arith
 

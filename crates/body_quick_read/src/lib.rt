@@ -4,7 +4,7 @@
 ghost use Rattle.scope.specs.Numbers.{s32, s64, float_bytes};
 ghost use Rattle.body_quick_read.specs.Items.{ByteOr, NumberTold, TwoTold, SizeTold};
 
-use number_values::{Integer, Natural};
+use number_values::Integer;
 
 // What was read and how many bytes it takes; no bytes where it is not told here.
 #[derive(Clone, Copy)]
@@ -25,8 +25,8 @@ fn long_number(s: &[u8], at: usize) -> Item
 {
     let read = number::u32_at(s, at);
     match read {
-        Natural::Refused(_, _) => Item { value: 0, size: 0 },
-        Natural::Is(x, next) => Item {
+        Err(_) => Item { value: 0, size: 0 },
+        Ok((x, next)) => Item {
             value: x,
             size: (next - at) as u64,
         },

@@ -1,7 +1,10 @@
 -- The locals of a body at its start, by the definitions of document 01 and by what the words of the scratch then say.
 use Rattle.std.specs.Prelude.{ℕ, ◌+◌, ◌<◌, ◌≤◌, ◌≡◌, Bool, true, ◌||◌, List, ◌++◌, map, get_or, length, replicate, ltb}
+use Rattle.scope.specs.Told.{told}
+use Rattle.std.specs.Prelude.{Result}
+use Rattle.scope.specs.declared.Refused.{Refused}
 use Rattle.scope.specs.Sizes.{most_types, most_each, most_locals}
-use Rattle.scope.specs.Reading.{Read, got, refused, then}
+use Rattle.scope.specs.Reading.{Read, got, then}
 use Rattle.scope.specs.Numbers.{u32}
 use Rattle.scope.specs.Syntax.{Val}
 use Rattle.scope.specs.Memory.{flag}
@@ -10,16 +13,13 @@ use Rattle.scope.specs.Bodies.{locals_at}
 use Rattle.type_table.specs.View.{val_at_code, codes_at}
 use Rattle.body_state.specs.Layout.{marks_from, stamps_from, used_size}
 use Rattle.body_state.specs.State.{val_at_word, sets_at}
-use Rattle.body_start.specs.declared.Started.{Started}
-use Rattle.body_start.specs.declared.Started
 
 -- how a body begins (scope's body_at): the count of the entries, and the entries
 unfoldable pub locals_first : ℕ → ℕ → List ℕ → Read (List Val)
 locals_first types params s = then (u32 s 0) (λ n entries. locals_at types n params s entries)
 
-abbrev pub started_is : ℕ → Read (List Val) → Started
-started_is params (got vs next) = Started.TheVariants.Is (params + length vs) next
-started_is params (refused n p) = Started.TheVariants.Refused n p
+abbrev pub started_is : ℕ → Read (List Val) → Result (ℕ × ℕ) Refused
+started_is params = told (λ vs. params + length vs)
 
 -- the types of the parameters: codes of the table, from `first` on
 pub record ParametersPut (codes work work' : List ℕ) (first n : ℕ) : Type 0 where
@@ -66,7 +66,7 @@ pub record Begun (s codes work : List ℕ) (first params : ℕ) (vs : List Val) 
   pub blank : (i : ℕ) → stamps_from ≤ i → get_or work i 0 ≡ 0
 
 -- the answer is that of a reading of the locals; where it gives them, they stand in the scratch
-pub record StartedAs (o : Read (List Val)) (s codes work work' : List ℕ) (first params : ℕ) (r : Started) : Type 0 where
+pub record StartedAs (o : Read (List Val)) (s codes work work' : List ℕ) (first params : ℕ) (r : Result (ℕ × ℕ) Refused) : Type 0 where
   pub answer : r ≡ started_is params o
   pub begun : (vs : List Val) (next : ℕ) → o ≡ got vs next → Begun s codes work' first params vs next
   pub size : length work' ≡ length work

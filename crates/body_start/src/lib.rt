@@ -7,8 +7,7 @@ ghost use Rattle.scope.specs.Bodies.{locals_at};
 ghost use Rattle.body_start.specs.Beginning.{locals_first, ParametersPut, starts_set, MarkRoom, MarksPut, Starting, StartingAt, StartedAs};
 ghost use Rattle.type_table.specs.View.{both_codes};
 
-use body_locals::LocalsRead;
-use number_values::Natural;
+use scope::Read;
 use type_table::ValKind;
 
 // The types of the n parameters, whose codes stand in the table from `first` on.
@@ -50,14 +49,7 @@ fn mark_start(work: &mut [u32], params: u32, count: u64)
     }
 }
 
-// How many locals there are with the parameters, and the place of the first instruction; or a refusal's number and place.
-#[derive(Clone, Copy)]
-pub enum Started {
-    Is(u16, usize),
-    Refused(u64, usize),
-}
-
-// The locals after the count of their entries.
+// The locals after the count of their entries: how many there are with the parameters.
 fn start_at(
     s: &[u8],
     entries: usize,
@@ -68,7 +60,7 @@ fn start_at(
     types: u16,
     first: u32,
     params: u32,
-) -> Started
+) -> Read<u16>
     requires { StartingAt work.old types params s.now entries }
     ensures { let before = work.old in
         let after = work.new in
@@ -76,14 +68,17 @@ fn start_at(
         StartedAs read s.now (both_codes shared.now codes.now) before after first params result }
 {
     put_parameters(shared, codes, work, first, params);
-    let read = body_locals::locals_at(s, entries, n, types as u64, work, 0, params as u64);
-    match read {
-        LocalsRead::Refused(number, place) => Started::Refused(number, place),
-        LocalsRead::Got(count, next) => {
-            mark_start(work, params, count);
-            Started::Is(count as u16, next)
-        }
-    }
+    let (count, next) = body_locals::locals_at(
+        s,
+        entries,
+        n,
+        types as u64,
+        work,
+        0,
+        params as u64,
+    )?;
+    mark_start(work, params, count);
+    Ok((count as u16, next))
 }
 
 // A body's locals, read from its first byte on into scratch that is all zero.
@@ -95,18 +90,13 @@ pub fn start(
     types: u16,
     first: u32,
     params: u32,
-) -> Started
+) -> Read<u16>
     requires { Starting work.old types params }
     ensures { let before = work.old in
         let after = work.new in
         let read = locals_first types params s.now in
         StartedAs read s.now (both_codes shared.now codes.now) before after first params result }
 {
-    let counted = number::u32_at(s, 0);
-    match counted {
-        Natural::Refused(number, place) => Started::Refused(number, place),
-        Natural::Is(n, entries) => start_at(
-            s, entries, n, shared, codes, work, types, first, params,
-        ),
-    }
+    let (n, entries) = number::u32_at(s, 0)?;
+    start_at(s, entries, n, shared, codes, work, types, first, params)
 }

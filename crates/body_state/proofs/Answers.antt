@@ -9,6 +9,7 @@ use native.Mathlib.Nat.{add-zero, zero-add}
 use lib.ListN.{get_or, get_elem?, length, length-map}
 use lib.Dec.{eqb}
 use borrow.Author.Tests.{ne_eqb, lt-ltb, lt-leb, le-leb}
+use Rattle.std.specs.Prelude.{None, Some}
 use Rattle.scope.specs.Syntax.{Val}
 use Rattle.scope.specs.BodyRules.{holds_of}
 use Rattle.scope.proofs.Impossible.{impossible}
@@ -17,8 +18,6 @@ use Rattle.lent_u16.specs.Words.{WordAt}
 use Rattle.lent_u32.specs.Scratch.{Word32At}
 use Rattle.body_state.specs.declared.Values.{Values}
 use Rattle.body_state.specs.declared.Values
-use Rattle.body_state.specs.declared.Local.{Local}
-use Rattle.body_state.specs.declared.Local
 use Rattle.body_state.specs.Layout.{marks_from, stamps_from, frames_from, frame_span, result_word, stamp_word, code_bound}
 use Rattle.body_state.specs.State.{val_at_word, results_at, values_of, is_set_at, LocalOf, LengthOf, CodeOf, ResultsOf}
 
@@ -66,7 +65,7 @@ module _ {work : List ℕ} (m i : ℕ) {n : ℕ} (a : Word32At work (marks_from 
 -- a local's type
 
 module _ {work : List ℕ} {count x : ℕ} where
-  pub local_there_lem : x < count → {c : ℕ} → Word32At work x c → LocalOf work count x (Local.TheVariants.Is (c % code_bound))
+  pub local_there_lem : x < count → {c : ℕ} → Word32At work x c → LocalOf work count x (Some (c % code_bound))
   unfolding val_at_word
   local_there_lem h {c} a =
       record {
@@ -74,7 +73,7 @@ module _ {work : List ℕ} {count x : ℕ} where
         small = λ k e. let same : c % code_bound ≡ k = cc in rw (← same) (omega arith);
       }
 
-  pub local_absent : count ≤ x → LocalOf work count x Local.TheVariants.Absent
+  pub local_absent : count ≤ x → LocalOf work count x None
   local_absent h = record { is = sym (codes-beyond val_at_word work 0 count x h); small = λ k e. impossible cc }
 
 -- lists

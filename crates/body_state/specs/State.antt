@@ -4,6 +4,8 @@
 use Rattle.std.specs.Prelude.{ℕ, zero, suc, ◌+◌, ◌-◌, ◌*◌, ◌%◌, ◌≤◌, ◌<◌, ◌≡◌, Bool, false, cond, ◌&&◌, List, [], ◌∷◌, ◌++◌, get_or, length, eqb, ltb, leb}
 use Rattle.std.proofs.Math.Option.{Option, none, some}
 use Rattle.std.proofs.Math.ListN.{get_elem?}
+use Rattle.scope.specs.Told.{Maybe}
+use Rattle.std.specs.Prelude.{None, Some}
 use Rattle.scope.specs.Sizes.{most_locals, most_operands, most_frames}
 use Rattle.scope.specs.Syntax.{Val, defined, nullable}
 use Rattle.scope.specs.BodyRules.{Context, Wanted, value, any_value, any_reference, values, it_non_null, its_descriptor, Plan, Ruled, allowed, fault, from_top, holds_of}
@@ -18,8 +20,6 @@ use Rattle.body_state.specs.declared.Planned.{Planned}
 use Rattle.body_state.specs.declared.Planned
 use Rattle.body_state.specs.declared.Step.{Step}
 use Rattle.body_state.specs.declared.Step
-use Rattle.body_state.specs.declared.Local.{Local}
-use Rattle.body_state.specs.declared.Local
 use Rattle.body_state.specs.Layout.{marks_from, stamps_from, operands_from, frames_from, frame_span, loop_word, result_word, base_word, height_word, dead_word, stamp_word, used_size, code_bound}
 
 -- words
@@ -169,13 +169,13 @@ pub record Stepped (work work' : List ℕ) (count depth : ℕ) (want : Ruled Nex
 
 -- what the questions answer
 
-abbrev pub local_option : Local → Option Val
-local_option Local.TheVariants.Absent = none
-local_option (Local.TheVariants.Is c) = some (val_at_code c)
+abbrev pub local_option : Maybe ℕ → Option Val
+local_option None = none
+local_option (Some c) = some (val_at_code c)
 
-pub record LocalOf (work : List ℕ) (count x : ℕ) (r : Local) : Type 0 where
+pub record LocalOf (work : List ℕ) (count x : ℕ) (r : Maybe ℕ) : Type 0 where
   pub is : local_option r ≡ get_elem? (codes_at val_at_word work 0 count) x
-  pub small : (c : ℕ) → r ≡ Local.TheVariants.Is c → c < code_bound
+  pub small : (c : ℕ) → r ≡ Some c → c < code_bound
 
 pub record LengthOf (values : Values) (r : ℕ) : Type 0 where
   pub is : (codes : List ℕ) → length (values_of codes values) ≡ r

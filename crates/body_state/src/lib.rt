@@ -130,21 +130,14 @@ pub fn is_set(work: &[u32], m: u32, i: u32) -> bool
     stamp == kept
 }
 
-// The code of a local's type.
-#[derive(Clone, Copy)]
-pub enum Local {
-    Absent,
-    Is(u64),
-}
-
-pub fn local_of(work: &[u32], locals: u16, x: u64) -> Local
+pub fn local_of(work: &[u32], locals: u16, x: u64) -> Option<u64>
     ensures { LocalOf work.now locals x result }
 {
     if x < locals as u64 {
         let code = lent_u32::word32(work, x);
-        return Local::Is(code % CODE_BOUND);
+        return Some(code % CODE_BOUND);
     }
-    Local::Absent
+    None
 }
 
 // How many types a list has.

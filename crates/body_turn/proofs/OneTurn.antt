@@ -5,6 +5,8 @@ use mathlib.Core.List.{List, [], ◌∷◌}
 use native.Mathlib.Omega.{arith}
 use native.Mathlib.Nat.{add-zero}
 use lib.ListN.{length, get_elem?}
+use Rattle.std.specs.Prelude.{Result, Ok, Err}
+use Rattle.scope.specs.declared.Refused.{Refused}
 use Rattle.scope.specs.Sizes.{most_types}
 use Rattle.scope.specs.Refusals.{bytes_end}
 use Rattle.scope.specs.Reading.{Read, got, refused, then}
@@ -14,8 +16,6 @@ use Rattle.scope.specs.Bodies.{State, Next, goes_on, finished, Code, judge_instr
 use Rattle.scope.proofs.Impossible.{impossible, contradiction}
 use Rattle.number_bytes.proofs.Exits.{element_missing}
 use Rattle.body_immediates.specs.declared.Instruction.{Instruction}
-use Rattle.body_immediates.specs.declared.InstructionRead.{InstructionRead}
-use Rattle.body_immediates.specs.declared.InstructionRead
 use Rattle.body_immediates.specs.Coding.{instruction_of, instruction_is}
 use Rattle.body_immediates.proofs.Laws.{instruction_got, instruction_refused}
 use Rattle.body_instruction.proofs.Laws.{instruction_ahead}
@@ -63,8 +63,8 @@ from_on : (left : ℕ) (c : Context) (st st' : State) (s : List ℕ) (at : ℕ) 
 unfolding judge_from
 from_on left c st st' s at e f = rw (e, f)
 
-module _ (rows codes : List ℕ) {table work : List ℕ} {k : Scene} {st : Check} {s : List ℕ} {at : ℕ} (p : Turning table work k st s at) {r : InstructionRead} (a : r ≡ instruction_is (instr_at s at)) where
-  pub turn_refused : {n place : ℕ} → r ≡ InstructionRead.TheVariants.Refused n place → {work' : List ℕ} → work' ≡ work → Turned rows codes work work' k st s at (Turn.TheVariants.Refused n place)
+module _ (rows codes : List ℕ) {table work : List ℕ} {k : Scene} {st : Check} {s : List ℕ} {at : ℕ} (p : Turning table work k st s at) {r : Result (Instruction × ℕ) Refused} (a : r ≡ instruction_is (instr_at s at)) where
+  pub turn_refused : {no : Refused} → r ≡ Err no → {work' : List ℕ} → work' ≡ work → Turned rows codes work work' k st s at (Turn.TheVariants.Refused no.number no.at)
   turn_refused e same =
       let read = instruction_refused (instr_at s at) a e in
       record {
@@ -73,7 +73,7 @@ module _ (rows codes : List ℕ) {table work : List ℕ} {k : Scene} {st : Check
         size = ap length same;
       }
 
-  module _ {i : Instruction} {following : ℕ} (e : r ≡ InstructionRead.TheVariants.Is i following) where
+  module _ {i : Instruction} {following : ℕ} (e : r ≡ Ok (i, following)) where
     forward : at < following
     forward = (instruction_ahead {s = s} {at = at} a e).forward
 

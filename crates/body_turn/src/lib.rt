@@ -5,8 +5,8 @@ ghost use Rattle.type_table.specs.View.{both_codes};
 ghost use Rattle.type_hierarchy.specs.Ranged.{Ranged};
 ghost use Rattle.body_turn.specs.Turning.{Turning, Turned};
 
-use body_immediates::InstructionRead;
 use body_state::{Check, Scene, Step};
+use scope::Refused;
 
 // A refusal's number and place; the place after the last `end`; or where the check stands then, and the place.
 #[derive(Clone, Copy)]
@@ -34,8 +34,8 @@ pub fn turn_at(
 {
     let read = body_instruction::instruction_at(s, at);
     match read {
-        InstructionRead::Refused(number, place) => Turn::Refused(number, place),
-        InstructionRead::Is(i, following) => {
+        Err(Refused { number, at: place }) => Turn::Refused(number, place),
+        Ok((i, following)) => {
             let stepped = body_step::step(
                 rows, shared, codes, table, work, scene, check, at as u64, i,
             );

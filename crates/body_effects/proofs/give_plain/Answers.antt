@@ -24,11 +24,11 @@ enum_told-1 c = search (give_exits, rules)
 pub enum_known-given : goal.enum_known-given
 enum_known-given c = search (give_exits, rules)
 
-pub mark-requires-in-Is : goal.mark-requires-in-Is
-mark-requires-in-Is c = search (give_exits, rules)
+pub mark-requires-in-Some : goal.mark-requires-in-Some
+mark-requires-in-Some c = search (give_exits, rules)
 
-pub returns-in-Full : goal.returns-in-Full
-returns-in-Full c = search (give_exits, rules)
+pub returns-in-None : goal.returns-in-None
+returns-in-None c = search (give_exits, rules)
 
-pub returns-in-Is : goal.returns-in-Is
-returns-in-Is c = search (give_exits, rules)
+pub returns-in-Some : goal.returns-in-Some
+returns-in-Some c = search (give_exits, rules)

@@ -30,8 +30,8 @@ enum_known-given c = search (end_exits, rules)
 pub overflow_sub-result : goal.overflow_sub-result
 overflow_sub-result c = search (end_exits, rules)
 
-pub returns-in-Full : goal.returns-in-Full
-returns-in-Full c = search (end_exits, rules)
+pub returns-in-None : goal.returns-in-None
+returns-in-None c = search (end_exits, rules)
 
-pub returns-in-Is : goal.returns-in-Is
-returns-in-Is c = search (end_exits, rules)
+pub returns-in-Some : goal.returns-in-Some
+returns-in-Some c = search (end_exits, rules)

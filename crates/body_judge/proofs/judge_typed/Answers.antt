@@ -15,8 +15,8 @@ start-started-requires c = search (typed_exits, rules)
 pub enum_known-started : goal.enum_known-started
 enum_known-started c = search (typed_exits, rules)
 
-pub enum_known-started-in-Is-1 : goal.enum_known-started-in-Is-1
-enum_known-started-in-Is-1 c = search (typed_exits, rules)
+pub enum_known-started-in-Ok-1 : goal.enum_known-started-in-Ok-1
+enum_known-started-in-Ok-1 c = search (typed_exits, rules)
 
 pub judge_all-ended-requires : goal.judge_all-ended-requires
 judge_all-ended-requires c = search (typed_exits, rules)
@@ -27,8 +27,8 @@ finish-requires c = search (typed_exits, rules)
 pub returns-in-Struct : goal.returns-in-Struct
 returns-in-Struct c = search (typed_exits, rules)
 
-pub returns-in-Refused : goal.returns-in-Refused
-returns-in-Refused c = search (typed_exits, rules)
+pub returns-in-Err : goal.returns-in-Err
+returns-in-Err c = search (typed_exits, rules)
 
-pub returns-in-Is : goal.returns-in-Is
-returns-in-Is c = let typing = c.requires.typing in search (typing, typed_exits, rules)
+pub returns-in-Ok : goal.returns-in-Ok
+returns-in-Ok c = let typing = c.requires.typing in search (typing, typed_exits, rules)

@@ -3,29 +3,5 @@ use borrow.Author.Rules.{rules}
 use Rattle.body_plan_fields.proofs.Going.{field_exits}
 use Rattle.body_plan_fields.proofs.struct_get.Goals as goal
 
-pub field_of-found-requires : goal.field_of-found-requires
-field_of-found-requires c = search (field_exits, rules)
-
-pub enum_known-found : goal.enum_known-found
-enum_known-found c = search (field_exits, rules)
-
-pub enum_known-found-in-Is-1 : goal.enum_known-found-in-Is-1
-enum_known-found-in-Is-1 c = search (field_exits, rules)
-
-pub defined_code-object-requires : goal.defined_code-object-requires
-defined_code-object-requires c = search (field_exits, rules)
-
-pub overflow_add-object : goal.overflow_add-object
-overflow_add-object c = search (field_exits, rules)
-
-pub overflow_add-field : goal.overflow_add-field
-overflow_add-field c = search (field_exits, rules)
-
-pub takes-requires : goal.takes-requires
-takes-requires c = search (field_exits, rules)
-
-pub returns-in-Fault : goal.returns-in-Fault
-returns-in-Fault c = search (field_exits, rules)
-
 pub returns-in-Is : goal.returns-in-Is
 returns-in-Is c = search (field_exits, rules)

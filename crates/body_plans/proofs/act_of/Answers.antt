@@ -1,23 +1,8 @@
--- `body_plans::act_of` meets its contract: each arm's instruction is the one whose rule its plan follows.
+-- `body_plans::act_of` meets its contract: the instruction of each arm that takes immediates is the one whose rule its plan follows.
 use Rattle.body_plan_branches.specs.Branches.{cast_op, desc_op}
 use Rattle.body_decoded.specs.Decoded.{instr_of}
-use Rattle.body_plans.proofs.Arms.{stops_unreachable, takes_nop, opens_block, opens_loop, closes, goes, stops_return, takes-drop, uses, sets, takes_const, takes_i64, takes_f32, takes_f64, everywhere, anywhere, takes_is_null, takes-eq, non_null_lem, follows, tests, branches}
+use Rattle.body_plans.proofs.Arms.{goes, uses, sets, takes_const, takes_i64, takes_f32, takes_f64, everywhere, anywhere, follows, tests, branches}
 use Rattle.body_plans.proofs.act_of.Goals as goal
-
-pub returns-in-Unreachable : goal.returns-in-Unreachable
-returns-in-Unreachable c = search stops_unreachable
-
-pub returns-in-Nop : goal.returns-in-Nop
-returns-in-Nop c = search takes_nop
-
-pub returns-in-Block : goal.returns-in-Block
-returns-in-Block c = search opens_block
-
-pub returns-in-Loop : goal.returns-in-Loop
-returns-in-Loop c = search opens_loop
-
-pub returns-in-End : goal.returns-in-End
-returns-in-End c = search closes
 
 pub returns-in-Br : goal.returns-in-Br
 unfolding instr_of
@@ -26,12 +11,6 @@ returns-in-Br c = search goes
 pub returns-in-BrIf : goal.returns-in-BrIf
 unfolding instr_of
 returns-in-BrIf c = search goes
-
-pub returns-in-Return : goal.returns-in-Return
-returns-in-Return c = search stops_return
-
-pub returns-in-Drop : goal.returns-in-Drop
-returns-in-Drop c = search takes-drop
 
 pub returns-in-LocalGet : goal.returns-in-LocalGet
 unfolding instr_of
@@ -64,15 +43,6 @@ returns-in-Numeric c = search everywhere
 pub returns-in-RefNull : goal.returns-in-RefNull
 unfolding instr_of
 returns-in-RefNull c = search anywhere
-
-pub returns-in-RefIsNull : goal.returns-in-RefIsNull
-returns-in-RefIsNull c = search takes_is_null
-
-pub returns-in-RefEq : goal.returns-in-RefEq
-returns-in-RefEq c = search takes-eq
-
-pub returns-in-RefAsNonNull : goal.returns-in-RefAsNonNull
-returns-in-RefAsNonNull c = search non_null_lem
 
 pub returns-in-StructNew : goal.returns-in-StructNew
 unfolding instr_of

@@ -5,17 +5,14 @@ use Rattle.body_quick_read.proofs.long_number.Goals as goal
 pub u32_at-read-requires : goal.u32_at-read-requires
 u32_at-read-requires c = search (short_exits, rules)
 
-pub enum_told-1 : goal.enum_told-1
-enum_told-1 c = search (short_exits, rules)
-
 pub enum_known-read : goal.enum_known-read
 enum_known-read c = search (short_exits, rules)
 
 pub overflow_sub-result : goal.overflow_sub-result
 overflow_sub-result c = search (short_exits, rules)
 
-pub returns-in-Refused : goal.returns-in-Refused
-returns-in-Refused c = search (short_exits, rules)
+pub returns-in-Err : goal.returns-in-Err
+returns-in-Err c = search (short_exits, rules)
 
-pub returns-in-Is : goal.returns-in-Is
-returns-in-Is c = search (short_exits, rules)
+pub returns-in-Ok : goal.returns-in-Ok
+returns-in-Ok c = search (short_exits, rules)

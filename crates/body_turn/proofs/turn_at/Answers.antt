@@ -8,8 +8,8 @@ instruction_at-read-requires c = search (turn_exits, rules)
 pub enum_known-read : goal.enum_known-read
 enum_known-read c = search (turn_exits, rules)
 
-pub enum_known-read-in-Is-1 : goal.enum_known-read-in-Is-1
-enum_known-read-in-Is-1 c = search (turn_exits, rules)
+pub enum_known-read-in-Ok-1 : goal.enum_known-read-in-Ok-1
+enum_known-read-in-Ok-1 c = search (turn_exits, rules)
 
 pub step-stepped-requires : goal.step-stepped-requires
 step-stepped-requires c = search (turn_exits, rules)
@@ -23,8 +23,8 @@ enum_told-1 c = search (turn_exits, rules)
 pub enum_known-stepped-in-On-1 : goal.enum_known-stepped-in-On-1
 enum_known-stepped-in-On-1 c = search (turn_exits, rules)
 
-pub returns-in-Refused : goal.returns-in-Refused
-returns-in-Refused c = search (turn_exits, rules)
+pub returns-in-Err : goal.returns-in-Err
+returns-in-Err c = search (turn_exits, rules)
 
 pub returns-in-Fault : goal.returns-in-Fault
 returns-in-Fault c = search (turn_exits, rules)
