@@ -7,6 +7,8 @@ use native.Mathlib.Omega.{arith}
 use lib.ListN.{length}
 use mir.Syntax.{w32}
 use mir.Val.{Fits}
+use Rattle.std.specs.Prelude.{Result, Ok, Err}
+use Rattle.scope.specs.declared.Refused.{Refused}
 use Rattle.scope.specs.Layout.{block_span}
 use Rattle.scope.specs.Reading.{got, refused}
 use Rattle.scope.specs.Syntax.{Val}
@@ -16,8 +18,6 @@ use Rattle.run_values.specs.Layout.{kind_word, place_word, below_word}
 use Rattle.lent_u16.specs.Words.{WordAt}
 use Rattle.body_immediates.specs.declared.Instruction.{Instruction}
 use Rattle.body_immediates.specs.declared.Instruction
-use Rattle.body_immediates.specs.declared.InstructionRead.{InstructionRead}
-use Rattle.body_immediates.specs.declared.InstructionRead
 use Rattle.body_immediates.specs.Coding.{result_code, instruction_of, instruction_is}
 use Rattle.body_immediates.proofs.Laws.{instruction_got, instruction_refused}
 use Rattle.body_decoded.specs.Decoded.{block_results}
@@ -86,14 +86,14 @@ module _ {s ends operands blocks : List ℕ} {st : Stage} {left d : ℕ} (a : Br
   pub to_deeper : Fits w32 (d + 1)
   to_deeper = record { fits = omega (arith, a.there, a.branchable.framed.deep) }
 
-  module _ {place : ℕ} (w : WordAt blocks (block_span * d + place_word) place) {r : InstructionRead} (told : r ≡ instruction_is (instr_at s place)) where
+  module _ {place : ℕ} (w : WordAt blocks (block_span * d + place_word) place) {r : Result (Instruction × ℕ) Refused} (told : r ≡ instruction_is (instr_at s place)) where
     told_there : r ≡ instruction_is (instr_at s (block_word blocks d place_word))
     told_there = rw w.is at told
 
-    pub to_refused : {n q : ℕ} → r ≡ InstructionRead.TheVariants.Refused n q → BranchesTo s ends operands operands blocks st left d Stepped.TheVariants.Astray
+    pub to_refused : {no : Refused} → r ≡ Err no → BranchesTo s ends operands operands blocks st left d Stepped.TheVariants.Astray
     to_refused e = absurd (not_refused around_now.opened (instruction_refused (instr_at s (block_word blocks d place_word)) told_there e))
 
-    module _ {i : Instruction} {next : ℕ} (e : r ≡ InstructionRead.TheVariants.Is i next) where
+    module _ {i : Instruction} {next : ℕ} (e : r ≡ Ok (i, next)) where
       read_there : (j : Instr) × (instr_at s (block_word blocks d place_word) ≡ got j next) × (i ≡ instruction_of j)
       read_there = instruction_got (instr_at s (block_word blocks d place_word)) told_there e
 

@@ -6,7 +6,7 @@ ghost use Rattle.std.specs.Prelude.{◌≡◌, length};
 ghost use Rattle.body_decoded.specs.Decoded.{block_results};
 ghost use Rattle.run_branches.specs.Branches.{Branchable, BranchableTo, BranchesTo, Descends, BranchesOut, Branches};
 
-use body_immediates::{Instruction, InstructionRead};
+use body_immediates::Instruction;
 use run_state::{Stage, Stepped};
 use run_values::layout;
 
@@ -70,8 +70,8 @@ fn branch_to(
     let place = run_state::block_word(blocks, d, layout::PLACE);
     let read = body_instruction::instruction_at(s, place as usize);
     match read {
-        InstructionRead::Refused(_, _) => Stepped::Astray,
-        InstructionRead::Is(i, next) => match i {
+        Err(_) => Stepped::Astray,
+        Ok((i, next)) => match i {
             Instruction::Loop(_) => {
                 let below = run_state::block_word(blocks, d, layout::BELOW);
                 Stepped::Goes(Stage {

@@ -4,6 +4,8 @@ use mathlib.Core.Path.{◌≡◌, sym, ap, ◌∙◌}
 use mathlib.Core.List.{List}
 use native.Mathlib.Omega.{arith}
 use lib.ListN.{length}
+use Rattle.std.specs.Prelude.{Result, Ok, Err}
+use Rattle.scope.specs.declared.Rejected.{Rejected}
 use Rattle.scope.specs.declared.Place.{Place}
 use Rattle.scope.specs.declared.Ran.{Ran}
 use Rattle.scope.specs.declared.Ran
@@ -23,8 +25,6 @@ use Rattle.run_turn.specs.Endings.{stage_of}
 use Rattle.run_loop.specs.Runs.{RanFrom}
 use Rattle.run_ending.specs.Telling.{tell_of}
 use Rattle.run_ending.proofs.Endings.{told-ending, told-machine}
-use Rattle.run_prepare.specs.declared.Prepared.{Prepared}
-use Rattle.run_prepare.specs.declared.Prepared
 use Rattle.run_prepare.specs.Preparing.{Readied}
 use Rattle.run_call.specs.Trial.{Startable, run_here, RunStarted, Placed, RunPlaced, Waiting, RunPrepared}
 use Rattle.run_call.proofs.Startable.{trial_is, runnable}
@@ -117,16 +117,16 @@ module _ {s rows codes work ends : List ℕ} {count : ℕ} {c o e l p b : List �
 
 -- what was prepared
 
-module _ {s : List ℕ} {budget : ℕ} {rows codes work ends : List ℕ} {c o e l p b : List ℕ} {prepared : Prepared}
+module _ {s : List ℕ} {budget : ℕ} {rows codes work ends : List ℕ} {c o e l p b : List ℕ} {prepared : Result (ℕ × ℕ × ℕ) Rejected}
     (may : Waiting s budget rows codes work ends (state_of c o e l p b) prepared) where
   pub refusal-told :
-      {n : ℕ} {place : Place} → prepared ≡ Prepared.TheVariants.Refused n place → {c' o' e' l' p' b' : List ℕ}
+      {no : Rejected} → prepared ≡ Err no → {c' o' e' l' p' b' : List ℕ}
       → c' ≡ c → o' ≡ o → e' ≡ e → l' ≡ l → p' ≡ p → b' ≡ b
-      → RunPrepared s budget rows codes work ends (state_of c o e l p b) (state_of c' o' e' l' p' b') prepared (Ran.TheVariants.Refused n place)
-  refusal-told {n} {place} is f g h i j k =
-      record { is = λ want prepares. let no : want ≡ rejected n place = rw is at prepares in refused_tried no may.zero f g h i j k }
+      → RunPrepared s budget rows codes work ends (state_of c o e l p b) (state_of c' o' e' l' p' b') prepared (Ran.TheVariants.Refused no.number no.place)
+  refusal-told {no} is f g h i j k =
+      record { is = λ want prepares. let rejects : want ≡ rejected no.number no.place = rw is at prepares in refused_tried rejects may.zero f g h i j k }
 
-  module _ {count results next : ℕ} (is : prepared ≡ Prepared.TheVariants.Ready count results next) where
+  module _ {count results next : ℕ} (is : prepared ≡ Ok (count, results, next)) where
     pub may_place : Placed s rows codes work ends count (state_of c o e l p b) results next
     may_place =
         let ready : Readied may.want budget s rows codes work ends count results next = rw is at may.prepares in

@@ -6,6 +6,8 @@ use mathlib.Core.Bool.{Bool, true, ◌&&◌}
 use mathlib.Core.List.{List, ◌++◌}
 use lib.ListN.{length, replicate}
 use borrow.Author.Tests.{leb-true}
+use Rattle.std.specs.Prelude.{Result}
+use Rattle.scope.specs.declared.Rejected.{Rejected}
 use Rattle.scope.specs.declared.Place.{Place}
 use Rattle.scope.specs.declared.Ran.{Ran}
 use Rattle.scope.specs.declared.Ran
@@ -18,7 +20,6 @@ use Rattle.scope.proofs.Truths.{from_both}
 use Rattle.run_buffers.specs.States.{state_of, memory, Cleared}
 use Rattle.run_limits.specs.Limits.{scratch_lent}
 use Rattle.run_ending.specs.Wiping.{ScratchCleared}
-use Rattle.run_prepare.specs.declared.Prepared.{Prepared}
 use Rattle.run_prepare.specs.Preparing.{PreparedFor}
 use Rattle.run_prepare.proofs.Ways.{wiped_long, wiped-zero}
 use Rattle.run_call.specs.Trial.{StateRoom, Zeroed, Tried, Waiting, RunPrepared}
@@ -95,7 +96,7 @@ module _ {state state₁ : StateWords} (z : Cleared state state₁) where
 -- the state is zero and, where a run is due, has room
 pub may_wait :
     {state state₁ : StateWords} → Cleared state state₁ → {enough : Bool} → enough ≡ state_lent state₁ → {library section s : List ℕ} {x budget : ℕ} {scratch : Bool}
-    {rows₁ codes₁ work₁ ends₁ : List ℕ} {prepared : Prepared} → PreparedFor library section s x budget scratch enough rows₁ codes₁ work₁ ends₁ prepared
+    {rows₁ codes₁ work₁ ends₁ : List ℕ} {prepared : Result (ℕ × ℕ × ℕ) Rejected} → PreparedFor library section s x budget scratch enough rows₁ codes₁ work₁ ends₁ prepared
     → Waiting s budget rows₁ codes₁ work₁ ends₁ state₁ prepared
 may_wait {state₁ = state₁} z {enough} f {library} {section} {s} {x} {budget} {scratch} p =
     record {
@@ -106,7 +107,7 @@ may_wait {state₁ = state₁} z {enough} f {library} {section} {s} {x} {budget}
     }
 
 module _ {state state₁ : StateWords} (z : Cleared state state₁) {enough : Bool} (f : enough ≡ state_lent state₁) {library section s : List ℕ} {x budget : ℕ}
-    {rows shared codes work ends rows₁ codes₁ work₁ ends₁ : List ℕ} {prepared : Prepared}
+    {rows shared codes work ends rows₁ codes₁ work₁ ends₁ : List ℕ} {prepared : Result (ℕ × ℕ × ℕ) Rejected}
     (p : PreparedFor library section s x budget (scratch_lent rows shared codes work ends) enough rows₁ codes₁ work₁ ends₁ prepared) where
   pub tried_whole :
       {state₂ : StateWords} {r : Ran} → RunPrepared s budget rows₁ codes₁ work₁ ends₁ state₁ state₂ prepared r

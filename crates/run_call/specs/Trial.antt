@@ -1,6 +1,8 @@
 -- What each part of the run answers, from the steps outwards to the call: the verdict that it is asked for, and the six buffers
 -- of the state by it. What the code does not hold, the body above all, is quantified.
 use Rattle.std.specs.Prelude.{ℕ, ◌≤◌, ◌≡◌, List, length}
+use Rattle.std.specs.Prelude.{Result, Ok}
+use Rattle.scope.specs.declared.Rejected.{Rejected}
 use Rattle.scope.specs.declared.Ran.{Ran}
 use Rattle.scope.specs.Judging.{Judged, accepted}
 use Rattle.scope.specs.Bodies.{Body}
@@ -14,8 +16,6 @@ use Rattle.run_ends.specs.Matching.{EndsOf}
 use Rattle.run_state.specs.Machines.{Words, words, machine_at, program_at, start_stage}
 use Rattle.run_buffers.specs.States.{Written}
 use Rattle.run_loop.specs.Runs.{Runnable}
-use Rattle.run_prepare.specs.declared.Prepared.{Prepared}
-use Rattle.run_prepare.specs.declared.Prepared
 use Rattle.run_prepare.specs.Preparing.{Placing, Prepares}
 
 -- the state's memory
@@ -78,11 +78,11 @@ pub record RunPlaced (s rows codes work : List ℕ) (count : ℕ) (state state' 
 
 -- what was prepared
 
-pub record Waiting (s : List ℕ) (budget : ℕ) (rows codes work ends : List ℕ) (state : StateWords) (prepared : Prepared) : Type 0 where
+pub record Waiting (s : List ℕ) (budget : ℕ) (rows codes work ends : List ℕ) (state : StateWords) (prepared : Result (ℕ × ℕ × ℕ) Rejected) : Type 0 where
   pub want : Judged Trial
   pub prepares : Prepares want budget s rows codes work ends prepared
   pub zero : Zeroed state
-  pub room : (count results next : ℕ) → prepared ≡ Prepared.TheVariants.Ready count results next → StateRoom state
+  pub room : (count results next : ℕ) → prepared ≡ Ok (count, results, next) → StateRoom state
 
-pub record RunPrepared (s : List ℕ) (budget : ℕ) (rows codes work ends : List ℕ) (state state' : StateWords) (prepared : Prepared) (r : Ran) : Type 0 where
+pub record RunPrepared (s : List ℕ) (budget : ℕ) (rows codes work ends : List ℕ) (state state' : StateWords) (prepared : Result (ℕ × ℕ × ℕ) Rejected) (r : Ran) : Type 0 where
   pub is : (want : Judged Trial) → Prepares want budget s rows codes work ends prepared → Tried s want state state' r

@@ -7,8 +7,7 @@ ghost use Rattle.run_buffers.specs.States.{state_of, memory};
 ghost use Rattle.run_call.specs.Trial.{Startable, RunStarted, Placed, RunPlaced, Waiting, RunPrepared};
 ghost use Rattle.type_table.specs.View.{both_codes};
 
-use run_prepare::Prepared;
-use scope::Ran;
+use scope::{Ran, Rejected};
 
 // The run, and then the state that it leaves.
 fn run_started(
@@ -92,7 +91,7 @@ fn run_prepared(
     locals: &mut [u64],
     operands: &mut [u64],
     blocks: &mut [u16],
-    prepared: Prepared,
+    prepared: Result<(u16, u32, usize), Rejected>,
 ) -> Ran
     requires { let state = state_of counts.old objects.old cells.old locals.old operands.old blocks.old in
         Waiting s.now budget rows.now (both_codes shared.now codes.now) work.now ends.now state prepared }
@@ -101,8 +100,8 @@ fn run_prepared(
         RunPrepared s.now budget rows.now (both_codes shared.now codes.now) work.now ends.now state state' prepared result }
 {
     match prepared {
-        Prepared::Refused(number, place) => Ran::Refused(number, place),
-        Prepared::Ready(count, results, first) => run_placed(
+        Err(Rejected { number, place }) => Ran::Refused(number, place),
+        Ok((count, results, first)) => run_placed(
             s, rows, shared, codes, work, ends, counts, objects, cells, locals, operands, blocks,
             count, results, first, budget,
         ),

@@ -10,6 +10,9 @@ use native.Mathlib.Omega.{arith}
 use lib.ListN.{length, get_or, set}
 use lib.Dec.{eqb}
 use borrow.Author.Tests.{eqb-true, eqb-false}
+use Rattle.std.specs.Prelude.{Result, Ok, Err, None, Some}
+use Rattle.scope.specs.declared.Refused.{Refused}
+use Rattle.scope.specs.Told.{Maybe}
 use Rattle.scope.specs.Sizes.{most_bytes}
 use Rattle.scope.specs.Reading.{Read, got, refused}
 use Rattle.scope.specs.Syntax.{Val}
@@ -22,21 +25,17 @@ use Rattle.scope.proofs.Truths.{decided}
 use Rattle.scope.proofs.Impossible.{contradiction, impossible}
 use Rattle.lent_u16.specs.Words.{word_limit}
 use Rattle.body_immediates.specs.declared.Instruction.{Instruction}
-use Rattle.body_immediates.specs.declared.InstructionRead.{InstructionRead}
-use Rattle.body_immediates.specs.declared.InstructionRead
 use Rattle.body_immediates.specs.Coding.{instruction_of, instruction_is}
 use Rattle.body_immediates.proofs.Laws.{instruction_got, instruction_refused}
 use Rattle.run_ends.specs.declared.Kind.{Kind}
 use Rattle.run_ends.specs.declared.Kind
-use Rattle.run_ends.specs.declared.Noted.{Noted}
-use Rattle.run_ends.specs.declared.Noted
 use Rattle.run_ends.specs.Noting.{kind_of, KindIs, NotedAt, none_there}
 use Rattle.run_ends.specs.Matching.{code_at, Balanced, last, closing, opening_block, opening_loop, inside, Reached, here, further, Opener, is_block, is_loop, Lands, EndsOf, Fillable, Filled}
 use Rattle.run_ends.proofs.Codes.{code_here, code_refused, code-none, reached_next, one_next, past_own_end}
 use Rattle.lent_u16.proofs.Stores.{Stored, stored}
 use Rattle.run_ends.proofs.Chain.{Open, none_open, one_open, open_from, open_later, word_small, open_in, Innermost, innermost_open, no-places, past_inside, past_block_lem, past_loop, past_end}
 
-noted_one : {m n : ℕ} → Noted.TheVariants.Open m ≡ Noted.TheVariants.Open n → m ≡ n
+noted_one : {m n : ℕ} → Some m ≡ Some n → m ≡ n
 noted_one e = cc
 
 -- a block or a loop is what it is
@@ -241,7 +240,7 @@ module _ {s ends₀ : List ℕ} {first : ℕ} {ends : List ℕ} {next innermost 
         stored word_limit e (omega (arith, f.short)) (omega (arith, word_small g.chain, g.inside, g.size, f.room))
 
     -- what was noted, by what was read
-    turn : {ends' : List ℕ} {noted : Noted} {word : ℕ} (j : Instr) → instr_at s next ≡ got j onto → NotedAt ends ends' innermost next onto (kind_of j) noted → noted ≡ Noted.TheVariants.Open word → Going s ends₀ first ends' onto word (done + 1)
+    turn : {ends' : List ℕ} {noted : Maybe ℕ} {word : ℕ} (j : Instr) → instr_at s next ≡ got j onto → NotedAt ends ends' innermost next onto (kind_of j) noted → noted ≡ Some word → Going s ends₀ first ends' onto word (done + 1)
     turn {ends'} {noted} {word} (op o) read n e =
         let same : word ≡ innermost = noted_one (sym e ∙ n.answer) in
         rw (same, n.memory) (turn_inside read)
@@ -304,7 +303,7 @@ module _ {s ends₀ : List ℕ} {first : ℕ} {ends : List ℕ} {next innermost 
             by (got i later) same h = absurd (let wrong = sym h ∙ code_here s onto same in contradiction cc)
             by (refused n place) same h = refl
 
-    finish : {ends' : List ℕ} {noted : Noted} (j : Instr) → instr_at s next ≡ got j onto → NotedAt ends ends' innermost next onto (kind_of j) noted → noted ≡ Noted.TheVariants.Last → {answer : Bool} → answer ≡ none_there (instr_at s onto) → Filled s ends₀ ends' first answer
+    finish : {ends' : List ℕ} {noted : Maybe ℕ} (j : Instr) → instr_at s next ≡ got j onto → NotedAt ends ends' innermost next onto (kind_of j) noted → noted ≡ None → {answer : Bool} → answer ≡ none_there (instr_at s onto) → Filled s ends₀ ends' first answer
     finish (op o) read n e is = let wrong = n.answer in impossible cc
     finish (block rs) read n e is = let wrong = n.answer in impossible cc
     finish (loop rs) read n e is = let wrong = n.answer in impossible cc
@@ -314,25 +313,25 @@ module _ {s ends₀ : List ℕ} {first : ℕ} {ends : List ℕ} {next innermost 
         go zero none m = rw m.memory (own_end read none is)
         go (suc p) some m = let wrong = m.answer in impossible cc
 
-  module _ (f : Fillable s ends₀ first) {r : InstructionRead} (a : r ≡ instruction_is (instr_at s next)) where
-    pub going_refused : {n place : ℕ} → r ≡ InstructionRead.TheVariants.Refused n place → Filled s ends₀ ends first false
+  module _ (f : Fillable s ends₀ first) {r : Result (Instruction × ℕ) Refused} (a : r ≡ instruction_is (instr_at s next)) where
+    pub going_refused : {no : Refused} → r ≡ Err no → Filled s ends₀ ends first false
     going_refused e = stopped (code_refused s next (instruction_refused (instr_at s next) a e))
 
-    module _ {i : Instruction} {onto : ℕ} (e : r ≡ InstructionRead.TheVariants.Is i onto) where
+    module _ {i : Instruction} {onto : ℕ} (e : r ≡ Ok (i, onto)) where
       pub going_early : next < most_bytes
       going_early =
           let (j, read, same) = instruction_got (instr_at s next) a e in
           let (forward, ends-inside) = never_back instr_takes s next read in
           omega (arith, f.short)
 
-      module _ {k : Kind} (is : KindIs i k) {ends' : List ℕ} {noted : Noted} (n : NotedAt ends ends' innermost next onto k noted) where
+      module _ {k : Kind} (is : KindIs i k) {ends' : List ℕ} {noted : Maybe ℕ} (n : NotedAt ends ends' innermost next onto k noted) where
         noted_as : (j : Instr) → i ≡ instruction_of j → NotedAt ends ends' innermost next onto (kind_of j) noted
         noted_as j same = subst (λ (x : Kind). NotedAt ends ends' innermost next onto x noted) (is.is j same) n
 
-        pub going_turn : {word : ℕ} → noted ≡ Noted.TheVariants.Open word → Going s ends₀ first ends' onto word (done + 1)
+        pub going_turn : {word : ℕ} → noted ≡ Some word → Going s ends₀ first ends' onto word (done + 1)
         going_turn q = let (j, read, same) = instruction_got (instr_at s next) a e in turn f j read (noted_as j same) q
 
-        pub going_last : noted ≡ Noted.TheVariants.Last → {answer : Bool} → answer ≡ none_there (instr_at s onto) → Filled s ends₀ ends' first answer
+        pub going_last : noted ≡ None → {answer : Bool} → answer ≡ none_there (instr_at s onto) → Filled s ends₀ ends' first answer
         going_last q b = let (j, read, same) = instruction_got (instr_at s next) a e in finish f j read (noted_as j same) q b
 
 pub ruleset fill_exits = (going_first, going_out, going_refused, going_early, going_turn, going_last)

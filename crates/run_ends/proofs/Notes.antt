@@ -72,14 +72,6 @@ module _ {i : Instruction} where
       go end f = absurd (n f)
       go (op o) f = absurd (not-inside o e f)
 
-  pub kind_block : {w : ℕ} → i ≡ Instruction.TheVariants.Block w → KindIs i Kind.TheVariants.Opens
-  unfolding opens-or_ends tag
-  kind_block e = is_opening (rw e) (λ f. contradiction cc)
-
-  pub kind_loop : {w : ℕ} → i ≡ Instruction.TheVariants.Loop w → KindIs i Kind.TheVariants.Opens
-  unfolding opens-or_ends tag
-  kind_loop e = is_opening (rw e) (λ f. contradiction cc)
-
   pub kind_end : i ≡ Instruction.TheVariants.End → KindIs i Kind.TheVariants.Closes
   unfolding instruction_of opens-or_ends tag
   kind_end e = record { is = go }
@@ -101,4 +93,12 @@ module _ {i : Instruction} where
       go end f = absurd (not_end f)
       go (op o) f = refl
 
-pub ruleset kind_exits = (kind_block, kind_loop, kind_end)
+pub kind_block : (w : ℕ) → KindIs (Instruction.TheVariants.Block w) Kind.TheVariants.Opens
+unfolding opens-or_ends tag
+kind_block w = is_opening refl (λ f. contradiction cc)
+
+pub kind_loop : (w : ℕ) → KindIs (Instruction.TheVariants.Loop w) Kind.TheVariants.Opens
+unfolding opens-or_ends tag
+kind_loop w = is_opening refl (λ f. contradiction cc)
+
+pub ruleset kind_exits = (kind_block, kind_loop, kind_end, kind_inside)

@@ -8,7 +8,7 @@ ghost use Rattle.scope.specs.Instructions.{instr_at};
 ghost use Rattle.run_ends.specs.Noting.{KindIs, none_there, NotedAt};
 ghost use Rattle.run_ends.specs.Matching.{Fillable, Filled};
 
-use body_immediates::{Instruction, InstructionRead};
+use body_immediates::Instruction;
 
 // What an instruction does to the open blocks: it opens one, closes the innermost one or stays inside it.
 #[derive(Clone, Copy)]
@@ -18,6 +18,7 @@ pub enum Kind {
     Inside,
 }
 
+#[tactic(auto, using(crate::proofs::Notes::kind_exits))]
 fn kind_of(i: Instruction) -> Kind
     ensures { KindIs i result }
 {
@@ -29,32 +30,26 @@ fn kind_of(i: Instruction) -> Kind
     }
 }
 
-// The word of the innermost open block, 0 for none, else one more than its place; or the function's own end was read.
-#[derive(Clone, Copy)]
-pub enum Noted {
-    Open(u64),
-    Last,
-}
-
 // An instruction of that kind at `at`, with `after` the place after it. At a block's place stands, while it is open,
-// the word of the one around it, and then the place after its end.
-fn note(ends: &mut [u16], innermost: u64, at: u64, after: u64, kind: Kind) -> Noted
+// the word of the one around it, and then the place after its end. The answer: the word of the innermost open block, 0
+// for none, else one more than its place; nothing where the function's own end was read.
+fn note(ends: &mut [u16], innermost: u64, at: u64, after: u64, kind: Kind) -> Option<u64>
     requires { at < most_bytes }
     ensures { NotedAt ends.old ends.new innermost at after kind result }
 {
     match kind {
-        Kind::Inside => Noted::Open(innermost),
+        Kind::Inside => Some(innermost),
         Kind::Opens => {
             lent_u16::put(ends, at, innermost);
-            Noted::Open(at + 1)
+            Some(at + 1)
         }
         Kind::Closes => {
             if innermost == 0 {
-                return Noted::Last;
+                return None;
             }
             let around = lent_u16::word(ends, innermost - 1);
             lent_u16::put(ends, innermost - 1, after);
-            Noted::Open(around)
+            Some(around)
         }
     }
 }
@@ -63,15 +58,12 @@ fn note(ends: &mut [u16], innermost: u64, at: u64, after: u64, kind: Kind) -> No
 fn none_at(s: &[u8], at: usize) -> bool
     ensures { result ≡ none_there (instr_at s.now at) }
 {
-    let read = body_instruction::instruction_at(s, at);
-    match read {
-        InstructionRead::Refused(_, _) => true,
-        InstructionRead::Is(_, _) => false,
-    }
+    body_instruction::instruction_at(s, at).is_err()
 }
 
 // At the place of each block and loop from `first` on, the place after its matching end. The answer: the ends close
 // what is open, and no instruction follows the last. There are no more instructions than bytes.
+#[tactic(auto, using(crate::proofs::Filling::fill_exits))]
 pub fn fill_ends(s: &[u8], first: usize, ends: &mut [u16]) -> bool
     requires { Fillable s.now ends.old first }
     ensures { Filled s.now ends.old ends.new first result }
@@ -80,24 +72,16 @@ pub fn fill_ends(s: &[u8], first: usize, ends: &mut [u16]) -> bool
     let mut innermost: u64 = 0;
     for _ in 0..s.len() {
         let read = body_instruction::instruction_at(s, next);
-        match read {
-            InstructionRead::Refused(_, _) => {
-                return false;
-            }
-            InstructionRead::Is(i, after) => {
-                let kind = kind_of(i);
-                let noted = note(ends, innermost, next as u64, after as u64, kind);
-                match noted {
-                    Noted::Last => {
-                        return none_at(s, after);
-                    }
-                    Noted::Open(word) => {
-                        innermost = word;
-                        next = after;
-                    }
-                }
-            }
-        }
+        let Ok((i, after)) = read else {
+            return false;
+        };
+        let kind = kind_of(i);
+        let noted = note(ends, innermost, next as u64, after as u64, kind);
+        let Some(word) = noted else {
+            return none_at(s, after);
+        };
+        innermost = word;
+        next = after;
     }
     false
 }

@@ -1,13 +1,12 @@
 -- An object that is made: its row is put after the others', with its cells after theirs. The objects before it say what they
 -- said, and the cells still lie end to end.
-use Prim.Native.Nat.{ℕ, zero, suc, ◌+◌, ◌-◌, ◌*◌, ◌%◌, ◌^◌, ◌≤◌, ◌<◌}
+use Prim.Native.Nat.{ℕ, zero, suc, ◌+◌, ◌-◌, ◌*◌, ◌≤◌, ◌<◌}
 use mathlib.Core.Path.{◌≡◌, refl, sym, ap, ap₂, ◌∙◌}
 use mathlib.Core.Logic.{◌⊎◌, inl, inr}
 use mathlib.Core.Bool.{true, false}
 use mathlib.Core.Option.{some}
 use mathlib.Core.List.{List, [], ◌∷◌, ◌++◌}
 use native.Mathlib.Omega.{arith}
-use native.Mathlib.Nat.{mod-eq_of_lt}
 use lib.ListN.{length, get_or, set, length-set}
 use lib.Seq.{get_or-set_same, get_or-set_other}
 use lib.Dec.{eqb}
@@ -16,7 +15,6 @@ use Rattle.scope.specs.Layout.{value_span, object_span, objects_size, cells_size
 use Rattle.scope.specs.Sizes.{most_objects, most_cells}
 use Rattle.scope.specs.Machine.{Value, Object}
 use Rattle.scope.proofs.Truths.{decided}
-use Rattle.lent_u16.specs.Words.{word_limit}
 use Rattle.run_values.specs.Layout.{type_word, descriptor_word, first_word, count_word}
 use Rattle.type_table.specs.View.{link_at}
 use Rattle.run_values.specs.Values.{value_at, values_from, AllCanon}
@@ -26,18 +24,6 @@ use Rattle.run_cells.specs.Cells.{Filled}
 use Rattle.run_objects.specs.Objects.{object_word, object_with, object_at, store_at, cells_below, Packed, Kept}
 use Rattle.run_objects.proofs.Packs.{below_next, packed_none, packed-inside}
 use Rattle.run_heap.specs.Heap.{with_row, RowPut}
-
--- one store after the other
-
-pub two_stored : (objects : List ℕ) {objects₁ objects₂ : List ℕ} (at to a b : ℕ) → objects₂ ≡ set objects₁ to (b % word_limit) → objects₁ ≡ set objects at (a % word_limit) → a < 2 ^ 16 → b < 2 ^ 16 → objects₂ ≡ set (set objects at a) to b
-two_stored objects at to a b f e h l =
-    let a' : a % word_limit ≡ a = mod-eq_of_lt h in let b' : b % word_limit ≡ b = mod-eq_of_lt l in rw (f, e, a', b')
-
-pub row_stored : (objects : List ℕ) {objects₁ objects₂ : List ℕ} (n x d total k : ℕ) → objects₂ ≡ set (set objects₁ (object_span * n + first_word) total) (object_span * n + count_word) k → objects₁ ≡ set (set objects (object_span * n + type_word) x) (object_span * n + descriptor_word) d → objects₂ ≡ with_row objects n x d total k
-unfolding with_row
-row_stored objects n x d total k f e = rw (f, e)
-
-pub ruleset row_exits = (two_stored, row_stored)
 
 other_word : (l : List ℕ) (at v i : ℕ) {w : ℕ} → (i ≡ at → ⊥) → get_or l i 0 ≡ w → get_or (set l at v) i 0 ≡ w
 other_word l at v i d e = get_or-set_other l at i v 0 d ∙ e

@@ -10,6 +10,7 @@ use scope::sizes;
 
 // Whether there is room for one more object with so many fields: "45 exactly when 1,024 objects exist or fewer than the
 // needed cells are left of 4,096".
+#[tactic(auto, using(crate::proofs::Room::room_exits))]
 pub fn room_for(n: u32, total: u32, need: u32) -> bool
     ensures { RoomFor n total need result }
 {
@@ -28,6 +29,7 @@ fn put_words(objects: &mut [u16], n: u32, k: u8, a: u16, b: u16)
 }
 
 // The words of object n.
+#[tactic(auto, unfolding(crate::specs::Heap::with_row))]
 pub fn put_object(objects: &mut [u16], n: u32, x: u16, descriptor: u16, first: u16, count: u16)
     ensures { objects.new ≡ with_row objects.old n x descriptor first count }
 {

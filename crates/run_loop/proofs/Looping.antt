@@ -4,14 +4,14 @@ use Prim.Native.Nat.{ℕ, suc, ◌+◌, ◌-◌, ◌≤◌, ◌<◌}
 use mathlib.Core.Path.{◌≡◌, refl, sym, ap, ap₂, ◌∙◌}
 use mathlib.Core.List.{List, []}
 use native.Mathlib.Omega.{arith}
+use Rattle.std.specs.Prelude.{Result, Ok, Err}
+use Rattle.scope.specs.declared.Refused.{Refused}
 use Rattle.scope.specs.Instructions.{instr_at}
 use Rattle.scope.specs.Machine.{Machine, Program, Outcome, goes, step}
 use Rattle.scope.specs.Running.{run_by, run, on_outcome}
 use Rattle.scope.proofs.Soundness.{Reaches, at_first, one_more}
 use Rattle.scope.proofs.Impossible.{contradiction, impossible}
 use Rattle.body_immediates.specs.declared.Instruction.{Instruction}
-use Rattle.body_immediates.specs.declared.InstructionRead.{InstructionRead}
-use Rattle.body_immediates.specs.declared.InstructionRead
 use Rattle.body_immediates.specs.Coding.{instruction_is}
 use Rattle.body_immediates.proofs.Laws.{instruction_got, instruction_refused}
 use Rattle.body_decoded.specs.Decoded.{instr_of}
@@ -59,14 +59,14 @@ one-step p budget steps m h =
 
 -- the instruction at the place
 
-module _ {s ends' : List ℕ} {count : ℕ} {w : Words} {st : Stage} (may : Readable s ends' count w st) {read : InstructionRead}
+module _ {s ends' : List ℕ} {count : ℕ} {w : Words} {st : Stage} (may : Readable s ends' count w st) {read : Result (Instruction × ℕ) Refused}
     (is : read ≡ instruction_is (instr_at s st.place)) where
   pub none_read :
-      {n place : ℕ} → read ≡ InstructionRead.TheVariants.Refused n place → {rows codes : List ℕ} {w' : Words} {results : ℕ}
+      {no : Refused} → read ≡ Err no → {rows codes : List ℕ} {w' : Words} {results : ℕ}
       → StepOf s rows codes ends' count w w' st results Stepped.TheVariants.Astray
   none_read e = absurd (may.more (code_refused s st.place (instruction_refused (instr_at s st.place) is e)))
 
-  pub one_read : {i : Instruction} {next : ℕ} → read ≡ InstructionRead.TheVariants.Is i next → Steppable s ends' count w st i next
+  pub one_read : {i : Instruction} {next : ℕ} → read ≡ Ok (i, next) → Steppable s ends' count w st i next
   one_read e =
       let (instr, got-it, kept) = instruction_got (instr_at s st.place) is e in
       record { orderly = may.orderly; here = record { instr = instr; read = got-it; kept = kept; back = ap instr_of kept ∙ may.back instr _ got-it } }

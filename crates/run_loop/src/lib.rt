@@ -7,7 +7,6 @@ ghost use Rattle.run_loop.specs.Runs.{Readable, Runnable, RanFrom};
 ghost use Rattle.type_table.specs.View.{both_codes};
 ghost use Rattle.type_hierarchy.specs.Ranged.{Ranged};
 
-use body_immediates::InstructionRead;
 use run_state::{Stage, Stepped};
 use run_turn::{Ending, Turn};
 
@@ -36,8 +35,8 @@ fn step_next(
     let place = stage.place;
     let read = body_instruction::instruction_at(s, place);
     match read {
-        InstructionRead::Refused(_, _) => Stepped::Astray,
-        InstructionRead::Is(i, next) => run_step::step(
+        Err(_) => Stepped::Astray,
+        Ok((i, next)) => run_step::step(
             s, rows, shared, codes, ends, objects, cells, locals, operands, blocks, count, results,
             stage, next, i,
         ),

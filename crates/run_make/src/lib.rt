@@ -12,6 +12,7 @@ use run_state::{Stage, Stepped};
 use run_value::Value;
 
 // The row of a new object with k cells, and its reference on `left` operands.
+#[tactic(auto, using(crate::proofs::Objects::make_exits))]
 fn put_made(
     objects: &mut [u16],
     operands: &mut [u64],
@@ -29,21 +30,19 @@ fn put_made(
 {
     let n = stage.objects;
     let total = stage.cells;
-    let base = stage.base;
     run_heap::put_object(objects, n, x, d, total as u16, k as u16);
     let number = n as u64;
-    run_stack::push(operands, base, left, Value::Object(number));
+    run_stack::push(operands, stage.base, left, Value::Object(number));
     Stage {
-        place: stage.place,
         objects: n + 1,
         cells: total + k,
-        base: base,
         height: left + 1,
-        depth: stage.depth,
+        ..stage
     }
 }
 
 // An object of the k values that lie on `left` operands.
+#[tactic(auto, using(crate::proofs::Objects::make_exits))]
 pub fn make_given(
     objects: &mut [u16],
     cells: &mut [u64],
@@ -73,6 +72,7 @@ pub fn make_given(
 }
 
 // An object of the defaults of k fields, whose codes stand in the table from `first` on.
+#[tactic(auto, using(crate::proofs::Objects::make_exits))]
 pub fn make_default(
     shared: &[u16],
     codes: &[u16],

@@ -4,13 +4,14 @@ use mathlib.Core.Path.{refl, ap}
 use mathlib.Core.Bool.{Bool, cond}
 use mathlib.Core.List.{List, ◌∷◌}
 use native.Mathlib.Omega.{arith}
+use Rattle.scope.specs.Told.{Maybe}
 use Rattle.scope.specs.Instructions.{ref_test, ref_cast, br_on_cast, br_on_cast_fail, ref_cast_desc_eq, br_on_cast_desc_eq, br_on_cast_desc_eq_fail}
 use Rattle.scope.specs.Refusals.{trap_cast}
 use Rattle.scope.specs.Machine.{Value, goes, traps, with_operands, truth, branch, do_op}
+use Rattle.run_value.specs.declared.Value.{Value as Carrier}
 use Rattle.run_value.specs.declared.Value
 use Rattle.type_table.specs.View.{heap_at_code}
 use Rattle.body_decoded.specs.Decoded.{cast_of}
-use Rattle.run_stack.specs.declared.Topmost.{Topmost}
 use Rattle.run_state.specs.declared.Move.{Move}
 use Rattle.run_state.specs.declared.Move
 use Rattle.run_state.proofs.Tops.{top_low, top_whole}
@@ -20,7 +21,7 @@ use Rattle.run_move_casts.specs.Casts.{CastPlans, DescriptorPlans}
 
 -- a cast by type
 
-module _ {rows codes objects : List ℕ} {n : ℕ} {first : Topmost} {null_too : Bool} {h : ℕ} {r : Move} where
+module _ {rows codes objects : List ℕ} {n : ℕ} {first : Maybe Carrier} {null_too : Bool} {h : ℕ} {r : Move} where
   pub test_is :
       CastChosen rows codes objects n first null_too h (Move.TheVariants.Gives 1 (Value.TheVariants.I32 1)) (Move.TheVariants.Gives 1 (Value.TheVariants.I32 0)) r
       → CastPlans rows codes objects n first (ref_test null_too (heap_at_code h)) r
@@ -72,7 +73,7 @@ module _ {rows codes objects : List ℕ} {n : ℕ} {first : Topmost} {null_too :
 
 -- a cast by descriptor
 
-module _ {objects : List ℕ} {n : ℕ} {first second : Topmost} {null_too : Bool} (h : ℕ) {r : Move} where
+module _ {objects : List ℕ} {n : ℕ} {first second : Maybe Carrier} {null_too : Bool} (h : ℕ) {r : Move} where
   pub descriptor_cast_is :
       DescriptorChosen objects n first second null_too (Move.TheVariants.Leaves 1) (Move.TheVariants.Traps trap_cast) r
       → DescriptorPlans objects n first second (ref_cast_desc_eq null_too (heap_at_code h)) r

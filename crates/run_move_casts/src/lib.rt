@@ -8,7 +8,6 @@ ghost use Rattle.type_hierarchy.specs.Ranged.{Ranged};
 ghost use Rattle.body_decoded.specs.Decoded.{cast_of};
 ghost use Rattle.run_move_casts.specs.Casts.{CastPlans, DescriptorPlans};
 
-use run_stack::Topmost;
 use run_state::Move;
 use run_value::Value;
 use scope::traps;
@@ -20,7 +19,7 @@ pub fn test_move(
     codes: &[u16],
     objects: &[u16],
     n: u32,
-    first: Topmost,
+    first: Option<Value>,
     null: bool,
     h: u64,
 ) -> Move
@@ -39,7 +38,7 @@ pub fn cast_move(
     codes: &[u16],
     objects: &[u16],
     n: u32,
-    first: Topmost,
+    first: Option<Value>,
     null: bool,
     h: u64,
 ) -> Move
@@ -60,7 +59,7 @@ pub fn on_cast_move(
     codes: &[u16],
     objects: &[u16],
     n: u32,
-    first: Topmost,
+    first: Option<Value>,
     l: u64,
     source_null: bool,
     source: u64,
@@ -85,7 +84,7 @@ pub fn on_cast_fail_move(
     codes: &[u16],
     objects: &[u16],
     n: u32,
-    first: Topmost,
+    first: Option<Value>,
     l: u64,
     source_null: bool,
     source: u64,
@@ -106,8 +105,8 @@ pub fn on_cast_fail_move(
 pub fn descriptor_cast_move(
     objects: &[u16],
     n: u32,
-    first: Topmost,
-    second: Topmost,
+    first: Option<Value>,
+    second: Option<Value>,
     null: bool,
     h: u64,
 ) -> Move
@@ -122,8 +121,8 @@ pub fn descriptor_cast_move(
 pub fn on_descriptor_move(
     objects: &[u16],
     n: u32,
-    first: Topmost,
-    second: Topmost,
+    first: Option<Value>,
+    second: Option<Value>,
     l: u64,
     source_null: bool,
     source: u64,
@@ -141,8 +140,8 @@ pub fn on_descriptor_move(
 pub fn on_descriptor_fail_move(
     objects: &[u16],
     n: u32,
-    first: Topmost,
-    second: Topmost,
+    first: Option<Value>,
+    second: Option<Value>,
     l: u64,
     source_null: bool,
     source: u64,

@@ -8,6 +8,8 @@ use lib.ListN.{get_or, get_elem?, drop}
 use lib.Seq.{drop-drop}
 use mir.Syntax.{w32}
 use mir.Val.{Fits}
+use Rattle.scope.specs.Told.{Maybe}
+use Rattle.std.specs.Prelude.{None, Some}
 use Rattle.scope.specs.Layout.{object_span}
 use Rattle.scope.specs.Refusals.{trap_null}
 use Rattle.scope.specs.Instructions.{struct_get, struct_set, ref_get_desc}
@@ -15,16 +17,10 @@ use Rattle.scope.specs.Machine.{Value, Object, Store, Outcome, traps, stuck, on_
 use Rattle.run_values.specs.Layout.{count_word}
 use Rattle.run_value.specs.declared.Value
 use Rattle.run_value.specs.declared.Value.{Value as Carrier}
-use Rattle.type_table.specs.declared.Link.{Link}
-use Rattle.type_table.specs.declared.Link
 use Rattle.type_table.proofs.Laws.{link_nothing, link_to}
-use Rattle.run_objects.specs.declared.Held.{Held}
-use Rattle.run_objects.specs.declared.Held
 use Rattle.run_objects.specs.Objects.{object_word, object_at, DescriptorOf, HeldField}
 use Rattle.run_objects.proofs.Packs.{object_there, object_none}
 use Rattle.run_objects.proofs.Asked.{fields_length, field_got, field_missed}
-use Rattle.run_stack.specs.declared.Topmost.{Topmost}
-use Rattle.run_stack.specs.declared.Topmost
 use Rattle.run_state.specs.declared.Move
 use Rattle.run_state.specs.declared.Reference.{Reference}
 use Rattle.run_state.specs.declared.Reference
@@ -34,7 +30,7 @@ use Rattle.run_state.proofs.Moving.{strays, trapping, giving, setting_field, giv
 
 -- the topmost operand, looked into
 
-module _ {vs : List Value} {t : Topmost} {r : Reference} (s : Seen vs t) (is : r ≡ reference_at t) (os : Store) (f : List Value → ℕ → Object → Outcome) where
+module _ {vs : List Value} {t : Maybe Carrier} {r : Reference} (s : Seen vs t) (is : r ≡ reference_at t) (os : Store) (f : List Value → ℕ → Object → Outcome) where
   look_wrong : r ≡ Reference.TheVariants.Wrong → on_taken vs (λ v below. on_object os trap_null v (f below)) ≡ stuck
   look_wrong e = wrong_top s is e _
 
@@ -50,7 +46,7 @@ module _ {vs : List Value} {t : Topmost} {r : Reference} (s : Seen vs t) (is : r
 
 -- struct.get
 
-module _ {objects cells : List ℕ} {n : ℕ} {first : Topmost} (x i : ℕ) {r : Reference} (is : r ≡ reference_at first) where
+module _ {objects cells : List ℕ} {n : ℕ} {first : Maybe Carrier} (x i : ℕ) {r : Reference} (is : r ≡ reference_at first) where
   pub get_wrong : r ≡ Reference.TheVariants.Wrong → FieldPlans objects cells n first (struct_get x i) Move.TheVariants.Astray
   unfolding do_op
   get_wrong e = record { is = λ p codes m total a. strays (look_wrong a.top is m.heap _ e) }
@@ -65,13 +61,13 @@ module _ {objects cells : List ℕ} {n : ℕ} {first : Topmost} (x i : ℕ) {r :
     get_past h =
         record { is = λ p codes m total a. strays (look_missing a.top is m.heap _ e (object_none objects cells a.heap h)) }
 
-    module _ (h : o < n) {held : Held} (b : HeldField objects cells o i held) where
-      pub get_missed : held ≡ Held.TheVariants.Absent → FieldPlans objects cells n first (struct_get x i) Move.TheVariants.Astray
+    module _ (h : o < n) {held : Maybe Carrier} (b : HeldField objects cells o i held) where
+      pub get_missed : held ≡ None → FieldPlans objects cells n first (struct_get x i) Move.TheVariants.Astray
       unfolding do_op
       get_missed q =
           record { is = λ p codes m total a. strays (look_there a.top is m.heap _ e (object_there objects cells a.heap h) ∙ rw (field_missed b q)) }
 
-      pub get_got : {v : Carrier} → held ≡ Held.TheVariants.Is v → FieldPlans objects cells n first (struct_get x i) (Move.TheVariants.Gives 1 v)
+      pub get_got : {v : Carrier} → held ≡ Some v → FieldPlans objects cells n first (struct_get x i) (Move.TheVariants.Gives 1 v)
       unfolding do_op
       get_got {v} q =
           record {
@@ -83,12 +79,12 @@ module _ {objects cells : List ℕ} {n : ℕ} {first : Topmost} (x i : ℕ) {r :
 
 -- struct.set
 
-module _ {objects cells : List ℕ} {n : ℕ} {first second : Topmost} (x i : ℕ) where
-  pub set_nothing : first ≡ Topmost.TheVariants.Nothing → SetPlans objects cells n first second (struct_set x i) Move.TheVariants.Astray
+module _ {objects cells : List ℕ} {n : ℕ} {first second : Maybe Carrier} (x i : ℕ) where
+  pub set_nothing : first ≡ None → SetPlans objects cells n first second (struct_set x i) Move.TheVariants.Astray
   unfolding do_op
   set_nothing e = record { is = λ p codes m total a next. strays (on_none m.operands (no_top a.top e) _) }
 
-  module _ {v : Carrier} (q : first ≡ Topmost.TheVariants.Is v) {r : Reference} (is : r ≡ reference_at second) where
+  module _ {v : Carrier} (q : first ≡ Some v) {r : Reference} (is : r ≡ reference_at second) where
     pub set_wrong : r ≡ Reference.TheVariants.Wrong → SetPlans objects cells n first second (struct_set x i) Move.TheVariants.Astray
     unfolding do_op
     set_wrong e =
@@ -110,8 +106,8 @@ module _ {objects cells : List ℕ} {n : ℕ} {first second : Topmost} (x i : �
                 ∙ look_missing next is m.heap _ e (object_none objects cells a.heap h));
           }
 
-      module _ (h : o < n) {held : Held} (b : HeldField objects cells o i held) where
-        pub set_missed : held ≡ Held.TheVariants.Absent → SetPlans objects cells n first second (struct_set x i) Move.TheVariants.Astray
+      module _ (h : o < n) {held : Maybe Carrier} (b : HeldField objects cells o i held) where
+        pub set_missed : held ≡ None → SetPlans objects cells n first second (struct_set x i) Move.TheVariants.Astray
         unfolding do_op
         set_missed f =
             record {
@@ -122,7 +118,7 @@ module _ {objects cells : List ℕ} {n : ℕ} {first second : Topmost} (x i : �
                   ∙ rw (field_missed b f));
             }
 
-        pub set_got : {u : Carrier} → held ≡ Held.TheVariants.Is u → SetPlans objects cells n first second (struct_set x i) (Move.TheVariants.SetsField 2 o i v)
+        pub set_got : {u : Carrier} → held ≡ Some u → SetPlans objects cells n first second (struct_set x i) (Move.TheVariants.SetsField 2 o i v)
         unfolding do_op
         set_got {u} f =
             record {
@@ -138,7 +134,7 @@ module _ {objects cells : List ℕ} {n : ℕ} {first second : Topmost} (x i : �
 
 -- the number of a field that is there is less than how many there are, which is one word
 pub field_fits :
-    {objects cells : List ℕ} {o i : ℕ} {held : Held} → HeldField objects cells o i held → {v : Carrier} → held ≡ Held.TheVariants.Is v → ((j : ℕ) → get_or objects j 0 < 2 ^ 16)
+    {objects cells : List ℕ} {o i : ℕ} {held : Maybe Carrier} → HeldField objects cells o i held → {v : Carrier} → held ≡ Some v → ((j : ℕ) → get_or objects j 0 < 2 ^ 16)
     → Fits w32 i
 field_fits {objects} {cells} {o} {i} b {v} e words =
     let small = words (object_span * o + count_word) in
@@ -146,7 +142,7 @@ field_fits {objects} {cells} {o} {i} b {v} e words =
 
 -- ref.get_desc
 
-module _ {objects cells : List ℕ} {n : ℕ} {first : Topmost} (x : ℕ) {r : Reference} (is : r ≡ reference_at first) where
+module _ {objects cells : List ℕ} {n : ℕ} {first : Maybe Carrier} (x : ℕ) {r : Reference} (is : r ≡ reference_at first) where
   pub desc_wrong : r ≡ Reference.TheVariants.Wrong → FieldPlans objects cells n first (ref_get_desc x) Move.TheVariants.Astray
   unfolding do_op
   desc_wrong e = record { is = λ p codes m total a. strays (look_wrong a.top is m.heap _ e) }
@@ -161,8 +157,8 @@ module _ {objects cells : List ℕ} {n : ℕ} {first : Topmost} (x : ℕ) {r : R
     desc_past h =
         record { is = λ p codes m total a. strays (look_missing a.top is m.heap _ e (object_none objects cells a.heap h)) }
 
-    module _ (h : o < n) {link : Link} (b : DescriptorOf objects o link) where
-      pub desc_missed : link ≡ Link.TheVariants.Nothing → FieldPlans objects cells n first (ref_get_desc x) Move.TheVariants.Astray
+    module _ (h : o < n) {link : Maybe ℕ} (b : DescriptorOf objects o link) where
+      pub desc_missed : link ≡ None → FieldPlans objects cells n first (ref_get_desc x) Move.TheVariants.Astray
       unfolding do_op
       desc_missed q =
           record {
@@ -172,7 +168,7 @@ module _ {objects cells : List ℕ} {n : ℕ} {first : Topmost} (x : ℕ) {r : R
                 ∙ rw (link_nothing (object_at objects cells o).descriptor (b.is cells) q));
           }
 
-      pub desc_got : {d : ℕ} → link ≡ Link.TheVariants.To d → FieldPlans objects cells n first (ref_get_desc x) (Move.TheVariants.Gives 1 (Value.TheVariants.Object d))
+      pub desc_got : {d : ℕ} → link ≡ Some d → FieldPlans objects cells n first (ref_get_desc x) (Move.TheVariants.Gives 1 (Value.TheVariants.Object d))
       unfolding do_op
       desc_got {d} q =
           record {

@@ -4,19 +4,17 @@
 ghost use Rattle.scope.specs.Instructions.{struct_get, struct_set, ref_get_desc};
 ghost use Rattle.run_state.specs.Planned.{FieldPlans, SetPlans};
 
-use run_objects::Held;
-use run_stack::Topmost;
 use run_state::{Move, Reference};
 use run_value::Value;
 use scope::traps::NULL as NULL_USED;
-use type_table::Link;
 
 // struct.get x i
+#[tactic(auto, using(crate::proofs::Fields::field_exits))]
 pub fn get_field_move(
     objects: &[u16],
     cells: &[u64],
     n: u32,
-    first: Topmost,
+    first: Option<Value>,
     x: u64,
     i: u64,
 ) -> Move
@@ -32,26 +30,27 @@ pub fn get_field_move(
             }
             let held = run_objects::held_field(objects, cells, o as u32, i);
             match held {
-                Held::Absent => Move::Astray,
-                Held::Is(v) => Move::Gives(1, v),
+                None => Move::Astray,
+                Some(v) => Move::Gives(1, v),
             }
         }
     }
 }
 
 // struct.set x i
+#[tactic(auto, using(crate::proofs::Fields::field_exits))]
 pub fn set_field_move(
     objects: &[u16],
     cells: &[u64],
     n: u32,
-    first: Topmost,
-    second: Topmost,
+    first: Option<Value>,
+    second: Option<Value>,
     x: u64,
     i: u64,
 ) -> Move
     ensures { SetPlans objects.now cells.now n first second (struct_set x i) result }
 {
-    let Topmost::Is(v) = first else {
+    let Some(v) = first else {
         return Move::Astray;
     };
     let reference = run_state::reference_of(second);
@@ -64,15 +63,22 @@ pub fn set_field_move(
             }
             let held = run_objects::held_field(objects, cells, o as u32, i);
             match held {
-                Held::Absent => Move::Astray,
-                Held::Is(_) => Move::SetsField(2, o as u32, i as u32, v),
+                None => Move::Astray,
+                Some(_) => Move::SetsField(2, o as u32, i as u32, v),
             }
         }
     }
 }
 
 // ref.get_desc x
-pub fn get_descriptor_move(objects: &[u16], cells: &[u64], n: u32, first: Topmost, x: u64) -> Move
+#[tactic(auto, using(crate::proofs::Fields::field_exits))]
+pub fn get_descriptor_move(
+    objects: &[u16],
+    cells: &[u64],
+    n: u32,
+    first: Option<Value>,
+    x: u64,
+) -> Move
     ensures { FieldPlans objects.now cells.now n first (ref_get_desc x) result }
 {
     let reference = run_state::reference_of(first);
@@ -85,8 +91,8 @@ pub fn get_descriptor_move(objects: &[u16], cells: &[u64], n: u32, first: Topmos
             }
             let link = run_objects::descriptor_of(objects, o as u32);
             match link {
-                Link::Nothing => Move::Astray,
-                Link::To(d) => Move::Gives(1, Value::Object(d)),
+                None => Move::Astray,
+                Some(d) => Move::Gives(1, Value::Object(d)),
             }
         }
     }

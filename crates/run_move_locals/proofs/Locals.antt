@@ -1,18 +1,18 @@
 -- Each way out of the instructions that read or put a local.
 use Prim.Native.Nat.{ℕ, ◌≤◌, ◌<◌}
-use mathlib.Core.Path.{◌≡◌, ap, ◌∙◌}
+use mathlib.Core.Path.{◌≡◌, refl, ap, ◌∙◌}
 use mathlib.Core.Option.{Option, none, some}
 use mathlib.Core.List.{List, ◌∷◌}
 use native.Mathlib.Omega.{arith}
 use lib.ListN.{length, get_elem?, set, drop}
+use Rattle.scope.specs.Told.{Maybe}
+use Rattle.std.specs.Prelude.{None, Some}
 use Rattle.scope.specs.Reading.{given}
 use Rattle.scope.specs.Instructions.{local_get, local_set, local_tee}
 use Rattle.scope.specs.Machine.{Value, Machine, Outcome, goes, stuck, with_operands, with_locals, on_set, do_op}
 use Rattle.run_values.specs.Values.{held_from}
 use Rattle.run_value.specs.declared.Value.{Value as Carrier}
 use Rattle.run_value.specs.Carried.{decoded}
-use Rattle.run_stack.specs.declared.Topmost.{Topmost}
-use Rattle.run_stack.specs.declared.Topmost
 use Rattle.run_stack.specs.declared.HeldLocal.{HeldLocal}
 use Rattle.run_stack.specs.declared.HeldLocal
 use Rattle.run_stack.specs.Pile.{LocalIs}
@@ -55,26 +55,27 @@ module _ (locals : List ℕ) {count x : ℕ} (m : Machine) (same : m.locals ≡ 
 local_inside : (locals : List ℕ) {count x : ℕ} (m : Machine) → m.locals ≡ held_from locals 0 count → x < count → x < length m.locals
 local_inside locals {count} m same h = rw (same, locals-length locals count) h
 
-module _ {locals : List ℕ} {count : ℕ} {first : Topmost} (x : ℕ) where
-  pub set_nothing : first ≡ Topmost.TheVariants.Nothing → LocalPlans locals count first (local_set x) Move.TheVariants.Astray
+module _ {locals : List ℕ} {count : ℕ} (x : ℕ) where
+  pub set-absent : (v : Carrier) → count ≤ x → LocalPlans locals count (Some v) (local_set x) Move.TheVariants.Astray
+  unfolding do_op
+  set-absent v h =
+      record { is = λ p codes m same top. strays (on_top_lem m.operands (value_top top refl) _ ∙ set_past locals m same (decoded v) (λ after. goes (with_operands after (drop 1 m.operands))) h) }
+
+  pub tee_absent : (v : Carrier) → count ≤ x → LocalPlans locals count (Some v) (local_tee x) Move.TheVariants.Astray
+  unfolding do_op
+  tee_absent v h =
+      record { is = λ p codes m same top. strays (on_top_lem m.operands (value_top top refl) _ ∙ set_past locals m same (decoded v) goes h) }
+
+module _ {locals : List ℕ} {count : ℕ} {first : Maybe Carrier} (x : ℕ) where
+  pub set_nothing : first ≡ None → LocalPlans locals count first (local_set x) Move.TheVariants.Astray
   unfolding do_op
   set_nothing e = record { is = λ p codes m same top. strays (on_none m.operands (no_top top e) _) }
 
-  pub tee_nothing : first ≡ Topmost.TheVariants.Nothing → LocalPlans locals count first (local_tee x) Move.TheVariants.Astray
+  pub tee_nothing : first ≡ None → LocalPlans locals count first (local_tee x) Move.TheVariants.Astray
   unfolding do_op
   tee_nothing e = record { is = λ p codes m same top. strays (on_none m.operands (no_top top e) _) }
 
-  module _ {v : Carrier} (e : first ≡ Topmost.TheVariants.Is v) where
-    pub set-absent : count ≤ x → LocalPlans locals count first (local_set x) Move.TheVariants.Astray
-    unfolding do_op
-    set-absent h =
-        record { is = λ p codes m same top. strays (on_top_lem m.operands (value_top top e) _ ∙ set_past locals m same (decoded v) (λ after. goes (with_operands after (drop 1 m.operands))) h) }
-
-    pub tee_absent : count ≤ x → LocalPlans locals count first (local_tee x) Move.TheVariants.Astray
-    unfolding do_op
-    tee_absent h =
-        record { is = λ p codes m same top. strays (on_top_lem m.operands (value_top top e) _ ∙ set_past locals m same (decoded v) goes h) }
-
+  module _ {v : Carrier} (e : first ≡ Some v) where
     pub set_local : x < count → LocalPlans locals count first (local_set x) (Move.TheVariants.SetsLocal 1 x v)
     unfolding do_op
     set_local h =

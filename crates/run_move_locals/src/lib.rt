@@ -4,10 +4,12 @@
 ghost use Rattle.scope.specs.Instructions.{local_get, local_set, local_tee};
 ghost use Rattle.run_state.specs.Planned.{HeldPlans, LocalPlans};
 
-use run_stack::{HeldLocal, Topmost};
+use run_stack::HeldLocal;
 use run_state::Move;
+use run_value::Value;
 
 // local.get
+#[tactic(auto, using(crate::proofs::Locals::local_exits))]
 pub fn get_move(locals: &[u64], count: u16, x: u64) -> Move
     ensures { HeldPlans locals.now count (local_get x) result }
 {
@@ -20,12 +22,13 @@ pub fn get_move(locals: &[u64], count: u16, x: u64) -> Move
 }
 
 // local.set
-pub fn set_move(locals: &[u64], count: u16, first: Topmost, x: u64) -> Move
+#[tactic(auto, using(crate::proofs::Locals::local_exits))]
+pub fn set_move(locals: &[u64], count: u16, first: Option<Value>, x: u64) -> Move
     ensures { LocalPlans locals.now count first (local_set x) result }
 {
     match first {
-        Topmost::Nothing => Move::Astray,
-        Topmost::Is(v) => {
+        None => Move::Astray,
+        Some(v) => {
             if x < count as u64 {
                 return Move::SetsLocal(1, x, v);
             }
@@ -35,12 +38,13 @@ pub fn set_move(locals: &[u64], count: u16, first: Topmost, x: u64) -> Move
 }
 
 // local.tee
-pub fn tee_move(locals: &[u64], count: u16, first: Topmost, x: u64) -> Move
+#[tactic(auto, using(crate::proofs::Locals::local_exits))]
+pub fn tee_move(locals: &[u64], count: u16, first: Option<Value>, x: u64) -> Move
     ensures { LocalPlans locals.now count first (local_tee x) result }
 {
     match first {
-        Topmost::Nothing => Move::Astray,
-        Topmost::Is(v) => {
+        None => Move::Astray,
+        Some(v) => {
             if x < count as u64 {
                 return Move::SetsLocal(0, x, v);
             }

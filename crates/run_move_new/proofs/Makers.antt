@@ -9,12 +9,14 @@ use native.Mathlib.Nat.{mod-eq_of_lt}
 use lib.ListN.{length, take, drop, length-drop, length-reverse, length-map}
 use lib.Seq.{drop-drop, length-take-le}
 use borrow.Author.Tests.{not-true, not-false}
+use Rattle.scope.specs.Told.{Maybe}
 use Rattle.scope.specs.Refusals.{trap_null_descriptor, trap_no_room}
 use Rattle.scope.specs.Sizes.{most_objects}
 use Rattle.scope.specs.Syntax.{Field}
 use Rattle.scope.specs.BodyRules.{fields_of, holds_of}
 use Rattle.scope.specs.Instructions.{Op, struct_new, struct_new_default, struct_new_desc, struct_new_default_desc}
 use Rattle.scope.specs.Machine.{Value, Store, Machine, Program, traps, goes, stuck, has_room, make, make_given, make_default, do_op}
+use Rattle.run_value.specs.declared.Value.{Value as Carrier}
 use Rattle.lent_u16.specs.Words.{word_limit}
 use Rattle.type_table.specs.View.{view, link_at, field_at_code, codes_at}
 use Rattle.type_table.specs.Answers.{shape_form}
@@ -28,7 +30,6 @@ use Rattle.run_objects.specs.Objects.{store_at, Kept}
 use Rattle.run_objects.proofs.Packs.{heap-length}
 use Rattle.run_heap.specs.Heap.{RoomFor}
 use Rattle.run_heap.proofs.Made.{link_more}
-use Rattle.run_stack.specs.declared.Topmost.{Topmost}
 use Rattle.run_stack.proofs.Laws.{take_split, few_split}
 use Rattle.run_state.specs.declared.Move.{Move}
 use Rattle.run_state.specs.declared.Move
@@ -179,7 +180,7 @@ pub ruleset make_exits = (given_func, given_short, given_made, given_full, defau
 
 -- struct.new and struct.new_default
 
-module _ {rows codes : List ℕ} {n total height : ℕ} {first : Topmost} {x : ℕ} {r : Move} where
+module _ {rows codes : List ℕ} {n total height : ℕ} {first : Maybe Carrier} {x : ℕ} {r : Move} where
   pub new_plan : MakesGiven rows codes n total height 0 x 0 r → MakePlans rows codes n total height first (struct_new x) r
   unfolding do_op
   new_plan a =
@@ -196,7 +197,7 @@ module _ {rows codes : List ℕ} {n total height : ℕ} {first : Topmost} {x : �
 link_is_lem : {d n : ℕ} → d < n → n ≤ most_objects → link_at ((d + 1) % word_limit) ≡ some d
 link_is_lem {d} h few = let small : (d + 1) % word_limit ≡ d + 1 = mod-eq_of_lt (omega arith) in ap link_at small ∙ link_more d
 
-module _ {rows codes : List ℕ} {n total height : ℕ} {first : Topmost} (x : ℕ) {to : Reference} (is : to ≡ reference_at first) where
+module _ {rows codes : List ℕ} {n total height : ℕ} {first : Maybe Carrier} (x : ℕ) {to : Reference} (is : to ≡ reference_at first) where
   pub new_desc_wrong : to ≡ Reference.TheVariants.Wrong → MakePlans rows codes n total height first (struct_new_desc x) Move.TheVariants.Astray
   unfolding do_op
   new_desc_wrong e = record { is = λ p m objects cells types long knows. strays (wrong_top knows.top is e _) }

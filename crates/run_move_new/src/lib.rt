@@ -8,8 +8,8 @@ ghost use Rattle.run_state.specs.Planned.{MakePlans};
 ghost use Rattle.run_move_new.specs.Makes.{MakesGiven, MakesDefaults};
 ghost use Rattle.type_table.specs.View.{both_codes};
 
-use run_stack::Topmost;
 use run_state::{Move, Reference};
+use run_value::Value;
 use scope::traps::{NO_ROOM, NULL_DESCRIPTOR};
 use type_table::Shape;
 
@@ -83,7 +83,7 @@ pub fn new_move(
     n: u32,
     total: u32,
     height: u32,
-    first: Topmost,
+    first: Option<Value>,
     x: u64,
 ) -> Move
     requires { x < word_limit }
@@ -100,7 +100,7 @@ pub fn new_default_move(
     n: u32,
     total: u32,
     height: u32,
-    first: Topmost,
+    first: Option<Value>,
     x: u64,
 ) -> Move
     requires { x < word_limit }
@@ -117,7 +117,7 @@ pub fn new_desc_move(
     n: u32,
     total: u32,
     height: u32,
-    first: Topmost,
+    first: Option<Value>,
     x: u64,
 ) -> Move
     requires { x < word_limit }
@@ -154,7 +154,7 @@ pub fn new_default_desc_move(
     n: u32,
     total: u32,
     height: u32,
-    first: Topmost,
+    first: Option<Value>,
     x: u64,
 ) -> Move
     requires { x < word_limit }

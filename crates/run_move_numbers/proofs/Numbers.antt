@@ -6,6 +6,7 @@ use mathlib.Core.Option.{Option, none, some}
 use mathlib.Core.List.{List, [], ◌∷◌}
 use native.Mathlib.Omega.{arith}
 use lib.ListN.{length, get_or, drop}
+use Rattle.scope.specs.Told.{Maybe}
 use Rattle.scope.specs.Reading.{given}
 use Rattle.scope.specs.Refusals.{trap_other_numeric}
 use Rattle.scope.specs.Numeric.{Numeric, numeric_of}
@@ -19,7 +20,6 @@ use Rattle.run_calculated.specs.declared.Calculated
 use Rattle.run_calculated.specs.declared.Uncalculated
 use Rattle.run_calculated.specs.Calculations.{Calculation, Comes, one_gives, two_give, other, wrong, bits_as, by_one, by_two, by_deed, comes_to, told, CalculatedIs}
 use Rattle.run_calculated.proofs.Laws.{done, numeric_is}
-use Rattle.run_stack.specs.declared.Topmost.{Topmost}
 use Rattle.run_stack.specs.Pile.{head_of}
 use Rattle.run_state.specs.declared.Move
 use Rattle.run_state.specs.Planned.{Seen, PairPlans}
@@ -37,7 +37,7 @@ under_is [] = refl
 under_is (v ∷ []) = refl
 under_is (v ∷ w ∷ vs) = refl
 
-seen_is : {vs : List Value} {t : Topmost} {x : Carrier} → Seen vs t → OperandIs t x → decoded x ≡ given (head_of vs) null (λ v. v)
+seen_is : {vs : List Value} {t : Maybe Carrier} {x : Carrier} → Seen vs t → OperandIs t x → decoded x ≡ given (head_of vs) null (λ v. v)
 seen_is s a = a.is ∙ ap (λ (v : Option Value). given v null (λ u. u)) s.is
 
 -- a result has the operands that it is of
@@ -86,7 +86,7 @@ two-low (v ∷ w ∷ vs) code e = omega arith
 
 -- the move
 
-module _ {first second : Topmost} {code : ℕ} {x y : Carrier} (a : OperandIs first x) (b : OperandIs second y) {r : Calculation} (c : CalculatedIs code x y r) where
+module _ {first second : Maybe Carrier} {code : ℕ} {x y : Carrier} (a : OperandIs first x) (b : OperandIs second y) {r : Calculation} (c : CalculatedIs code x y r) where
   comes : (m : Machine) → Seen m.operands first → Seen (drop 1 m.operands) second → {q : Calculation} → r ≡ q → told q ≡ comes_to code (get_or m.operands 0 null) (get_or m.operands 1 null)
   comes m top next e =
       ap told (sym e)

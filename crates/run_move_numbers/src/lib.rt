@@ -7,24 +7,23 @@ ghost use Rattle.run_state.specs.Planned.{PairPlans};
 ghost use Rattle.run_move_numbers.specs.Operands.{OperandIs};
 
 use run_calculated::{Calculated, Uncalculated};
-use run_stack::Topmost;
 use run_state::Move;
 use run_value::Value;
 use scope::traps;
 
 // The operand, or null where there is none: null is of no number's kind.
-fn operand(top: Topmost) -> Value
+fn operand(top: Option<Value>) -> Value
     ensures { OperandIs top result }
 {
     match top {
-        Topmost::Nothing => Value::Null,
-        Topmost::Is(v) => v,
+        None => Value::Null,
+        Some(v) => v,
     }
 }
 
 // 45 to C4
 #[tactic(auto, using(crate::proofs::Numbers::numeric_exits))]
-pub fn numeric_move(first: Topmost, second: Topmost, code: u8) -> Move
+pub fn numeric_move(first: Option<Value>, second: Option<Value>, code: u8) -> Move
     ensures { PairPlans first second (numeric code) result }
 {
     let topmost = operand(first);

@@ -5,37 +5,39 @@ ghost use Rattle.scope.specs.Instructions.{drop_value, br_if};
 ghost use Rattle.run_state.specs.Planned.{TopPlans};
 ghost use Rattle.run_move_operands.specs.Seconds.{SecondIs};
 
-use run_stack::Topmost;
 use run_state::Move;
 use run_value::Value;
 
 // The operand under the topmost.
-pub fn second_of(operands: &[u64], base: u32, height: u32) -> Topmost
+#[tactic(auto, using(crate::proofs::UnderTop::second_exits))]
+pub fn second_of(operands: &[u64], base: u32, height: u32) -> Option<Value>
     ensures { SecondIs operands.now base height result }
 {
     if height == 0 {
-        return Topmost::Nothing;
+        return None;
     }
     run_stack::top(operands, base, height - 1)
 }
 
 // drop
-pub fn drop_move(first: Topmost) -> Move
+#[tactic(auto, using(crate::proofs::Operands::operand_exits))]
+pub fn drop_move(first: Option<Value>) -> Move
     ensures { TopPlans first drop_value result }
 {
     match first {
-        Topmost::Nothing => Move::Astray,
-        Topmost::Is(_) => Move::Leaves(1),
+        None => Move::Astray,
+        Some(_) => Move::Leaves(1),
     }
 }
 
 // br_if
-pub fn branch_move(first: Topmost, label: u64) -> Move
+#[tactic(auto, using(crate::proofs::Operands::operand_exits))]
+pub fn branch_move(first: Option<Value>, label: u64) -> Move
     ensures { TopPlans first (br_if label) result }
 {
     match first {
-        Topmost::Nothing => Move::Astray,
-        Topmost::Is(v) => match v {
+        None => Move::Astray,
+        Some(v) => match v {
             Value::I32(n) => {
                 if n == 0 {
                     return Move::Leaves(1);

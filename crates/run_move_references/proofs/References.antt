@@ -8,12 +8,13 @@ use native.Mathlib.Omega.{arith}
 use lib.ListN.{drop}
 use lib.Seq.{drop-drop}
 use borrow.Author.Tests.{eq-eqb, ne_eqb}
+use Rattle.scope.specs.Told.{Maybe}
 use Rattle.scope.specs.Refusals.{trap_null}
 use Rattle.scope.specs.Syntax.{i32}
 use Rattle.scope.specs.Instructions.{ref_is_null, ref_eq, ref_as_non_null}
 use Rattle.scope.specs.Machine.{Value, number, null, object, Machine, Program, Outcome, goes, on_taken, on_reference, truth, same_reference, with_operands, do_op}
+use Rattle.run_value.specs.declared.Value.{Value as Carrier}
 use Rattle.run_value.specs.declared.Value
-use Rattle.run_stack.specs.declared.Topmost.{Topmost}
 use Rattle.run_stack.specs.Pile.{head_of}
 use Rattle.run_state.specs.declared.Move
 use Rattle.run_state.specs.declared.Reference.{Reference}
@@ -25,7 +26,7 @@ use Rattle.run_state.proofs.Moving.{strays, trapping, giving_i32, giving_object}
 
 -- ref.is_null and ref.as_non_null
 
-module _ {first : Topmost} {r : Reference} (is : r ≡ reference_at first) where
+module _ {first : Maybe Carrier} {r : Reference} (is : r ≡ reference_at first) where
   pub is_null_wrong : r ≡ Reference.TheVariants.Wrong → TopPlans first ref_is_null Move.TheVariants.Astray
   unfolding do_op
   is_null_wrong e = record { is = λ p codes m top. strays (wrong_top top is e _) }
@@ -79,7 +80,7 @@ module _ (p : Program) (codes : List ℕ) (m : Machine) (x : Option ℕ) (top : 
   eq_next = looked_first m.operands _ ∙ on_top_lem m.operands top _ ∙ on-refer x _
 
   eq_missing :
-      {second : Topmost} {other : Reference} → Seen (drop 1 m.operands) second → other ≡ reference_at second → other ≡ Reference.TheVariants.Wrong
+      {second : Maybe Carrier} {other : Reference} → Seen (drop 1 m.operands) second → other ≡ reference_at second → other ≡ Reference.TheVariants.Wrong
       → MoveIs p codes m (do_op p m m.operands ref_eq) Move.TheVariants.Astray
   eq_missing next is e = strays (eq_next ∙ wrong_top next is e _)
 
@@ -94,7 +95,7 @@ module _ (p : Program) (codes : List ℕ) (m : Machine) (x : Option ℕ) (top : 
       ∙ ap₂ (λ (n : ℕ) (below : List Value). goes (with_operands m (number i32 n ∷ below))) e (drop-drop 1 1 m.operands))
       (two-low m.operands top next)
 
-module _ {first second : Topmost} {one other : Reference} (a : one ≡ reference_at first) (b : other ≡ reference_at second) where
+module _ {first second : Maybe Carrier} {one other : Reference} (a : one ≡ reference_at first) (b : other ≡ reference_at second) where
   pub eq_wrong : one ≡ Reference.TheVariants.Wrong → PairPlans first second ref_eq Move.TheVariants.Astray
   unfolding do_op
   eq_wrong e = record { is = λ p codes m top next. strays (looked_first m.operands _ ∙ wrong_top top a e _) }

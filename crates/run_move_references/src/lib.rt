@@ -4,13 +4,13 @@
 ghost use Rattle.scope.specs.Instructions.{ref_is_null, ref_eq, ref_as_non_null};
 ghost use Rattle.run_state.specs.Planned.{TopPlans, PairPlans};
 
-use run_stack::Topmost;
 use run_state::{Move, Reference};
 use run_value::Value;
 use scope::traps;
 
 // ref.is_null
-pub fn is_null_move(first: Topmost) -> Move
+#[tactic(auto, using(crate::proofs::References::reference_exits))]
+pub fn is_null_move(first: Option<Value>) -> Move
     ensures { TopPlans first ref_is_null result }
 {
     let reference = run_state::reference_of(first);
@@ -22,7 +22,8 @@ pub fn is_null_move(first: Topmost) -> Move
 }
 
 // ref.eq: null is the same as null, an object as itself.
-pub fn eq_move(first: Topmost, second: Topmost) -> Move
+#[tactic(auto, using(crate::proofs::References::eq_exits))]
+pub fn eq_move(first: Option<Value>, second: Option<Value>) -> Move
     ensures { PairPlans first second ref_eq result }
 {
     let one = run_state::reference_of(first);
@@ -48,7 +49,8 @@ pub fn eq_move(first: Topmost, second: Topmost) -> Move
 }
 
 // ref.as_non_null
-pub fn as_non_null_move(first: Topmost) -> Move
+#[tactic(auto, using(crate::proofs::References::reference_exits))]
+pub fn as_non_null_move(first: Option<Value>) -> Move
     ensures { TopPlans first ref_as_non_null result }
 {
     let reference = run_state::reference_of(first);

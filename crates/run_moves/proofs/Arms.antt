@@ -5,6 +5,7 @@ use mathlib.Core.List.{List, ◌∷◌}
 use native.Mathlib.Omega.{arith}
 use native.Mathlib.Nat.{mod-eq_of_lt}
 use lib.ListN.{length, drop}
+use Rattle.scope.specs.Told.{Maybe}
 use Rattle.scope.specs.Refusals.{trap_unreachable}
 use Rattle.scope.specs.Instructions.{Op, op}
 use Rattle.scope.specs.Syntax.{Number}
@@ -20,7 +21,6 @@ use Rattle.body_immediates.specs.declared.Instruction.{Instruction}
 use Rattle.body_immediates.specs.declared.Instruction
 use Rattle.body_decoded.specs.Decoded.{instr_of}
 use Rattle.body_decoded.specs.Named.{number_of, Modest}
-use Rattle.run_stack.specs.declared.Topmost.{Topmost}
 use Rattle.run_stack.specs.Pile.{head_of, TopIs}
 use Rattle.run_stack.proofs.Laws.{pile-length}
 use Rattle.run_state.specs.declared.Stage.{Stage}
@@ -35,7 +35,7 @@ use Rattle.run_moves.specs.Moving.{MoveOf}
 
 -- what is seen of a machine
 
-module _ {m : Machine} {objects cells locals operands : List ℕ} {count : ℕ} {st : Stage} {first : Topmost} (t : TopIs operands st.base st.height first) (holds : Holds m objects cells locals operands count st) where
+module _ {m : Machine} {objects cells locals operands : List ℕ} {count : ℕ} {st : Stage} {first : Maybe Carrier} (t : TopIs operands st.base st.height first) (holds : Holds m objects cells locals operands count st) where
   sees : Seen m.operands first
   sees = record { is = t.is ∙ ap head_of (sym holds.values) }
 
@@ -43,7 +43,7 @@ module _ {m : Machine} {objects cells locals operands : List ℕ} {count : ℕ} 
   knows = record { top = sees; heap = holds.heap; kept = holds.kept }
 
 module _ {m : Machine} {objects cells locals operands : List ℕ} {count : ℕ} {st : Stage} (holds : Holds m objects cells locals operands count st) where
-  sees_next : {second : Topmost} → SecondIs operands st.base st.height second → Seen (drop 1 m.operands) second
+  sees_next : {second : Maybe Carrier} → SecondIs operands st.base st.height second → Seen (drop 1 m.operands) second
   sees_next u = rw holds.values u.seen
 
   as_high : length m.operands ≡ st.height
@@ -56,10 +56,10 @@ module _ (rows codes objects cells locals operands : List ℕ) (count : ℕ) (st
   abbrev Tells : Instruction → Move → Type 0
   Tells i r = MoveOf rows codes objects cells locals operands count st i r
 
-  abbrev First : Topmost → Type 0
+  abbrev First : Maybe Carrier → Type 0
   First t = TopIs operands st.base st.height t
 
-  abbrev Second : Topmost → Type 0
+  abbrev Second : Maybe Carrier → Type 0
   Second t = SecondIs operands st.base st.height t
 
   module _ {i j : Instruction} (e : i ≡ j) where
@@ -80,7 +80,7 @@ module _ (rows codes objects cells locals operands : List ℕ) (count : ℕ) (st
       pub by_held : HeldPlans locals count o r → instr_of j ≡ op o → Tells i r
       by_held a f = tells f (λ p m types holds. a.is p codes m holds.held)
 
-      module _ {first : Topmost} where
+      module _ {first : Maybe Carrier} where
         pub by_top : TopPlans first o r → First first → instr_of j ≡ op o → Tells i r
         by_top a t f = tells f (λ p m types holds. a.is p codes m (sees t holds))
 
@@ -96,7 +96,7 @@ module _ (rows codes objects cells locals operands : List ℕ) (count : ℕ) (st
         pub by_casts : CastPlans rows codes objects st.objects first o r → First first → instr_of j ≡ op o → Tells i r
         by_casts a t f = tells f (λ p m types holds. a.is p m cells st.cells types (knows t holds))
 
-        module _ {second : Topmost} where
+        module _ {second : Maybe Carrier} where
           pub by_pair : PairPlans first second o r → First first → Second second → instr_of j ≡ op o → Tells i r
           by_pair a t u f = tells f (λ p m types holds. a.is p codes m (sees t holds) (sees_next holds u))
 

@@ -7,20 +7,18 @@ use native.Mathlib.Omega.{arith}
 use native.Mathlib.Nat.{mod-eq_of_lt}
 use lib.ListN.{length, get_or, get_elem?, set}
 use borrow.Author.Tests.{ne_eqb}
+use Rattle.scope.specs.Told.{Maybe}
+use Rattle.std.specs.Prelude.{None, Some}
 use Rattle.scope.specs.Layout.{object_span}
 use Rattle.scope.specs.Sizes.{most_cells}
 use Rattle.scope.specs.Machine.{Value, with_field}
 use Rattle.lent_u16.specs.Words.{WordAt}
-use Rattle.type_table.specs.declared.Link.{Link}
-use Rattle.type_table.specs.declared.Link
 use Rattle.run_values.specs.Values.{Word64At, value_at, entry_in}
 use Rattle.run_value.specs.declared.Value.{Value as Carrier}
 use Rattle.run_value.specs.Carried.{decoded, value_kind, value_bits, with_value, ValueIs}
 use Rattle.run_value.proofs.Laws.{said, canon_said}
 use Rattle.run_values.proofs.Numbered.{numbered-length, numbered_there, numbered-none}
 use Rattle.run_values.proofs.Laws.{put_long}
-use Rattle.run_objects.specs.declared.Held.{Held}
-use Rattle.run_objects.specs.declared.Held
 use Rattle.run_objects.specs.Objects.{object_word, object_at, store_at, TypeOf, DescriptorOf, FieldCount, held_option, HeldField, FieldSet}
 use Rattle.run_objects.proofs.Packs.{packed-inside, store_set, set_canon}
 use Rattle.scope.proofs.Impossible.{impossible}
@@ -33,11 +31,11 @@ module _ {objects : List ℕ} {o : ℕ} where
   type_is a = record { is = λ cells. sym a.is; small = a.small }
 
   module _ {w : ℕ} (a : WordAt objects (object_span * o + descriptor_word) w) where
-    pub descriptor_none : w ≡ 0 → DescriptorOf objects o Link.TheVariants.Nothing
+    pub descriptor_none : w ≡ 0 → DescriptorOf objects o None
     unfolding object_at
     descriptor_none e = record { is = λ cells. rw (← a.is, e) }
 
-    pub descriptor_some : (w ≡ 0 → ⊥) → DescriptorOf objects o (Link.TheVariants.To (w - 1))
+    pub descriptor_some : (w ≡ 0 → ⊥) → DescriptorOf objects o (Some (w - 1))
     unfolding object_at
     descriptor_some d = record { is = λ cells. rw (← a.is, ne_eqb w 0 d) }
 
@@ -51,7 +49,7 @@ module _ {objects : List ℕ} {o count : ℕ} (a : WordAt objects (object_span *
   count_is = record { is = λ cells. fields_length objects cells o ∙ sym a.is; small = a.small }
 
   module _ (cells : List ℕ) {i : ℕ} where
-    pub field_absent : count ≤ i → HeldField objects cells o i Held.TheVariants.Absent
+    pub field_absent : count ≤ i → HeldField objects cells o i None
     unfolding object_at
     field_absent h =
         let past : object_word objects o count_word ≤ i = rw (← a.is) h in
@@ -61,7 +59,7 @@ module _ {objects : List ℕ} {o count : ℕ} (a : WordAt objects (object_span *
         }
 
     module _ (h : i < count) {first : ℕ} (b : WordAt objects (object_span * o + first_word) first) {kind bits : ℕ} where
-      pub field_held : Word64At cells (kind_place (first + i)) kind → Word64At cells (bits_place (first + i)) bits → {v : Carrier} → ValueIs kind bits v → HeldField objects cells o i (Held.TheVariants.Is v)
+      pub field_held : Word64At cells (kind_place (first + i)) kind → Word64At cells (bits_place (first + i)) bits → {v : Carrier} → ValueIs kind bits v → HeldField objects cells o i (Some v)
       unfolding object_at entry_in
       field_held c d q =
           let there : i < object_word objects o count_word = rw (← a.is) h in
@@ -75,11 +73,11 @@ module _ {objects : List ℕ} {o count : ℕ} (a : WordAt objects (object_span *
 
 -- the answer, taken apart
 
-module _ {objects cells : List ℕ} {o i : ℕ} {r : Held} (a : HeldField objects cells o i r) where
-  pub field_got : {v : Carrier} → r ≡ Held.TheVariants.Is v → get_elem? (object_at objects cells o).fields i ≡ some (decoded v)
+module _ {objects cells : List ℕ} {o i : ℕ} {r : Maybe Carrier} (a : HeldField objects cells o i r) where
+  pub field_got : {v : Carrier} → r ≡ Some v → get_elem? (object_at objects cells o).fields i ≡ some (decoded v)
   field_got e = sym a.is ∙ ap held_option e
 
-  pub field_missed : r ≡ Held.TheVariants.Absent → get_elem? (object_at objects cells o).fields i ≡ none
+  pub field_missed : r ≡ None → get_elem? (object_at objects cells o).fields i ≡ none
   field_missed e = sym a.is ∙ ap held_option e
 
 -- a store in a field

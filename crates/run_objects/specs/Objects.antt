@@ -3,6 +3,8 @@
 use Rattle.std.specs.Prelude.{ℕ, zero, suc, ◌+◌, ◌*◌, ◌<◌, ◌≤◌, ◌≡◌, List, get_or, length, set}
 use Rattle.std.proofs.Math.Option.{Option, none, some}
 use Rattle.std.proofs.Math.ListN.{get_elem?}
+use Rattle.scope.specs.Told.{Maybe}
+use Rattle.std.specs.Prelude.{None, Some}
 use Rattle.scope.specs.Layout.{object_span, objects_size, cells_size}
 use Rattle.scope.specs.Sizes.{most_objects, most_cells}
 use Rattle.scope.specs.Machine.{Value, Object, Store, with_field}
@@ -10,12 +12,9 @@ use Rattle.lent_u16.specs.Words.{word_limit}
 use Rattle.run_values.specs.Layout.{type_word, descriptor_word, first_word, count_word}
 use Rattle.type_table.specs.View.{link_at}
 use Rattle.type_table.specs.Answers.{link_is}
-use Rattle.type_table.specs.declared.Link.{Link}
 use Rattle.run_values.specs.Values.{numbered, values_from, AllCanon}
 use Rattle.run_value.specs.declared.Value.{Value as Carrier}
 use Rattle.run_value.specs.Carried.{decoded}
-use Rattle.run_objects.specs.declared.Held.{Held}
-use Rattle.run_objects.specs.declared.Held
 
 -- word k of object o
 abbrev pub object_word : List ℕ → ℕ → ℕ → ℕ
@@ -58,20 +57,20 @@ pub record TypeOf (objects : List ℕ) (o r : ℕ) : Type 0 where
   pub is : (cells : List ℕ) → (object_at objects cells o).type ≡ r
   pub small : r < word_limit
 
-pub record DescriptorOf (objects : List ℕ) (o : ℕ) (r : Link) : Type 0 where
+pub record DescriptorOf (objects : List ℕ) (o : ℕ) (r : Maybe ℕ) : Type 0 where
   pub is : (cells : List ℕ) → r ≡ link_is (object_at objects cells o).descriptor
 
 pub record FieldCount (objects : List ℕ) (o r : ℕ) : Type 0 where
   pub is : (cells : List ℕ) → length (object_at objects cells o).fields ≡ r
   pub small : r < word_limit
 
-abbrev pub held_option : Held → Option Value
-held_option Held.TheVariants.Absent = none
-held_option (Held.TheVariants.Is v) = some (decoded v)
+abbrev pub held_option : Maybe Carrier → Option Value
+held_option None = none
+held_option (Some v) = some (decoded v)
 
-pub record HeldField (objects cells : List ℕ) (o i : ℕ) (r : Held) : Type 0 where
+pub record HeldField (objects cells : List ℕ) (o i : ℕ) (r : Maybe Carrier) : Type 0 where
   pub is : held_option r ≡ get_elem? (object_at objects cells o).fields i
-  pub inside : (v : Carrier) → r ≡ Held.TheVariants.Is v → i < length (object_at objects cells o).fields
+  pub inside : (v : Carrier) → r ≡ Some v → i < length (object_at objects cells o).fields
 
 -- a field that was set: that object has another value there, and no other object is changed
 pub record FieldSet (objects cells cells' : List ℕ) (o i : ℕ) (v : Carrier) : Type 0 where

@@ -10,14 +10,6 @@ ghost use Rattle.run_objects.specs.Objects.{TypeOf, DescriptorOf, FieldCount, He
 use run_value::Value;
 use run_values::layout;
 use scope::sizes;
-use type_table::Link;
-
-// What a field holds.
-#[derive(Clone, Copy)]
-pub enum Held {
-    Absent,
-    Is(Value),
-}
 
 // A word of an object.
 fn object_word(objects: &[u16], o: u32, k: u8) -> u64
@@ -27,6 +19,7 @@ fn object_word(objects: &[u16], o: u32, k: u8) -> u64
 }
 
 // The type as which it was made.
+#[tactic(auto, using(crate::proofs::Asked::ask_exits))]
 pub fn type_of(objects: &[u16], o: u32) -> u64
     ensures { TypeOf objects.now o result }
 {
@@ -34,17 +27,19 @@ pub fn type_of(objects: &[u16], o: u32) -> u64
 }
 
 // The number of its descriptor object.
-pub fn descriptor_of(objects: &[u16], o: u32) -> Link
+#[tactic(auto, using(crate::proofs::Asked::ask_exits))]
+pub fn descriptor_of(objects: &[u16], o: u32) -> Option<u64>
     ensures { DescriptorOf objects.now o result }
 {
     let w = object_word(objects, o, layout::DESCRIPTOR);
     if w == 0 {
-        return Link::Nothing;
+        return None;
     }
-    Link::To(w - 1)
+    Some(w - 1)
 }
 
 // How many fields it has.
+#[tactic(auto, using(crate::proofs::Asked::ask_exits))]
 pub fn field_count(objects: &[u16], o: u32) -> u64
     ensures { FieldCount objects.now o result }
 {
@@ -52,22 +47,24 @@ pub fn field_count(objects: &[u16], o: u32) -> u64
 }
 
 // What its field i holds.
-pub fn held_field(objects: &[u16], cells: &[u64], o: u32, i: u64) -> Held
+#[tactic(auto, using(crate::proofs::Asked::ask_exits))]
+pub fn held_field(objects: &[u16], cells: &[u64], o: u32, i: u64) -> Option<Value>
     ensures { HeldField objects.now cells.now o i result }
 {
     let count = object_word(objects, o, layout::COUNT);
     if count <= i {
-        return Held::Absent;
+        return None;
     }
     let first = object_word(objects, o, layout::FIRST);
     let place = sizes::VALUE * (first + i);
     let kind = run_values::word64(cells, place);
     let bits = run_values::word64(cells, place + 1);
     let v = run_value::value_of(kind, bits);
-    Held::Is(v)
+    Some(v)
 }
 
 // Another value in its field i.
+#[tactic(auto, using(crate::proofs::Asked::ask_exits))]
 pub fn set_field(objects: &[u16], cells: &mut [u64], o: u32, i: u32, v: Value)
     ensures { FieldSet objects.now cells.old cells.new o i v }
 {

@@ -5,11 +5,13 @@ use mathlib.Core.Bool.{Bool, true, false}
 use mathlib.Core.Option.{Option, some}
 use mathlib.Core.List.{List}
 use lib.ListN.{drop}
+use Rattle.scope.specs.Told.{Maybe}
+use Rattle.std.specs.Prelude.{None, Some}
 use Rattle.scope.specs.Reading.{given}
 use Rattle.scope.specs.Refusals.{trap_null_descriptor}
 use Rattle.scope.specs.Machine.{Value, Store, Machine, Program, Outcome, traps, on_taken, on_reference, cast_passes, descriptor_cast_passes}
+use Rattle.run_value.specs.declared.Value.{Value as Carrier}
 use Rattle.type_table.specs.View.{heap_at_code}
-use Rattle.run_stack.specs.declared.Topmost.{Topmost}
 use Rattle.run_stack.specs.Pile.{head_of}
 use Rattle.run_state.specs.declared.Reference.{Reference}
 use Rattle.run_state.specs.declared.Reference
@@ -19,11 +21,9 @@ use Rattle.run_state.specs.Moved.{MoveIs}
 use Rattle.run_state.specs.Planned.{reference_at}
 use Rattle.run_state.proofs.Tops.{on_top_lem, top_low, wrong_top, null_top, object_top}
 use Rattle.run_state.proofs.Moving.{strays, trapping}
-use Rattle.run_passing.specs.declared.Passing.{Passing}
-use Rattle.run_passing.specs.declared.Passing
 use Rattle.run_passing.specs.Passes.{Answers, PassesAs, PassesDescriptorAs, chosen_of, CastChosen, DescriptorChosen}
 
-module _ (p : Program) (codes : List ℕ) (m : Machine) {vs : List Value} {ask : Value → (Bool → Outcome) → Outcome} {passing : Passing} (a : Answers vs ask passing) (yes' no' : Move) (f : Value → List Value → Bool → Outcome) where
+module _ (p : Program) (codes : List ℕ) (m : Machine) {vs : List Value} {ask : Value → (Bool → Outcome) → Outcome} {passing : Maybe Bool} (a : Answers vs ask passing) (yes' no' : Move) (f : Value → List Value → Bool → Outcome) where
   -- the two moves are those of the two answers
   choice :
       ((v : Value) → head_of vs ≡ some v → MoveIs p codes m (f v (drop 1 vs) true) yes')
@@ -31,13 +31,13 @@ module _ (p : Program) (codes : List ℕ) (m : Machine) {vs : List Value} {ask :
       → MoveIs p codes m (on_taken vs (λ v below. ask v (f v below))) (chosen_of passing yes' no')
   choice yes-is no-is = go passing refl
     where
-      go : (q : Passing) → passing ≡ q → MoveIs p codes m (on_taken vs (λ v below. ask v (f v below))) (chosen_of q yes' no')
-      go Passing.TheVariants.Wrong e = strays (a.wrong e f)
-      go (Passing.TheVariants.Is true) e = let (v, top) = a.there true e in rw (a.is true e v top f) (yes-is v top)
-      go (Passing.TheVariants.Is false) e = let (v, top) = a.there false e in rw (a.is false e v top f) (no-is v top)
+      go : (q : Maybe Bool) → passing ≡ q → MoveIs p codes m (on_taken vs (λ v below. ask v (f v below))) (chosen_of q yes' no')
+      go None e = strays (a.wrong e f)
+      go (Some true) e = let (v, top) = a.there true e in rw (a.is true e v top f) (yes-is v top)
+      go (Some false) e = let (v, top) = a.there false e in rw (a.is false e v top f) (no-is v top)
 
 pub cast_chosen :
-    {rows codes objects : List ℕ} {n : ℕ} {first : Topmost} {null_too : Bool} {h : ℕ} {passing : Passing} → PassesAs rows codes objects n first null_too h passing
+    {rows codes objects : List ℕ} {n : ℕ} {first : Maybe Carrier} {null_too : Bool} {h : ℕ} {passing : Maybe Bool} → PassesAs rows codes objects n first null_too h passing
     → {yes' no' r : Move} → r ≡ chosen_of passing yes' no' → CastChosen rows codes objects n first null_too h yes' no' r
 cast_chosen {codes} {null_too} {h} {passing} a {yes'} {no'} e =
     record {
@@ -51,7 +51,7 @@ abbrev past_descriptor : Store → Bool → (List Value → Bool → Outcome) �
 past_descriptor os null_too f others r =
     given r (traps trap_null_descriptor) (λ d. on_taken others (λ w below. descriptor_cast_passes os null_too d w (f others)))
 
-module _ {objects : List ℕ} {n : ℕ} {first second : Topmost} {null_too : Bool} {yes' no' : Move} {q : Reference} (is : q ≡ reference_at first) where
+module _ {objects : List ℕ} {n : ℕ} {first second : Maybe Carrier} {null_too : Bool} {yes' no' : Move} {q : Reference} (is : q ≡ reference_at first) where
   pub descriptor_wrong : q ≡ Reference.TheVariants.Wrong → DescriptorChosen objects n first second null_too yes' no' Move.TheVariants.Astray
   descriptor_wrong e =
       record {
@@ -67,7 +67,7 @@ module _ {objects : List ℕ} {n : ℕ} {first second : Topmost} {null_too : Boo
       }
 
   pub descriptor_chosen :
-      {d : ℕ} → q ≡ Reference.TheVariants.To d → {passing : Passing} → PassesDescriptorAs objects n second null_too d passing → {r : Move} → r ≡ chosen_of passing yes' no'
+      {d : ℕ} → q ≡ Reference.TheVariants.To d → {passing : Maybe Bool} → PassesDescriptorAs objects n second null_too d passing → {r : Move} → r ≡ chosen_of passing yes' no'
       → DescriptorChosen objects n first second null_too yes' no' r
   descriptor_chosen {d} e {passing} a g =
       record {

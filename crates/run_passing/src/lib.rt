@@ -7,86 +7,87 @@ ghost use Rattle.run_passing.specs.Passes.{PassesAs, PassesDescriptorAs, chosen_
 ghost use Rattle.type_table.specs.View.{both_codes};
 ghost use Rattle.type_hierarchy.specs.Ranged.{Ranged};
 
-use run_stack::Topmost;
 use run_state::{Move, Reference};
+use run_value::Value;
 use scope::traps;
-use type_table::Link;
-
-// Whether a value passes a cast; or it is missing or no reference.
-#[derive(Clone, Copy)]
-pub enum Passing {
-    Wrong,
-    Is(bool),
-}
 
 // Null passes where the target may be null, an object by the type it was made as.
+#[tactic(auto, using(crate::proofs::Passings::passing_exits))]
 fn passes_cast(
     rows: &[u16],
     shared: &[u16],
     codes: &[u16],
     objects: &[u16],
     n: u32,
-    top: Topmost,
+    top: Option<Value>,
     null: bool,
     h: u64,
-) -> Passing
+) -> Option<bool>
     requires { Ranged rows.now (both_codes shared.now codes.now) }
     ensures { PassesAs rows.now (both_codes shared.now codes.now) objects.now n top null h result }
 {
     let reference = run_state::reference_of(top);
     match reference {
-        Reference::Wrong => Passing::Wrong,
-        Reference::Null => Passing::Is(null),
+        Reference::Wrong => None,
+        Reference::Null => Some(null),
         Reference::To(o) => {
             if n as u64 <= o {
-                return Passing::Wrong;
+                return None;
             }
             let made = run_objects::type_of(objects, o as u32);
             let below = type_order::heap_below(rows, shared, codes, 11 + 2 * made, h);
-            Passing::Is(below)
+            Some(below)
         }
     }
 }
 
 // "ref.cast_desc_eq passes when the object's descriptor is the very object given, or on null with a nullable target."
-fn passes_descriptor(objects: &[u16], n: u32, top: Topmost, null: bool, d: u64) -> Passing
+#[tactic(auto, using(crate::proofs::Passings::passing_exits))]
+fn passes_descriptor(
+    objects: &[u16],
+    n: u32,
+    top: Option<Value>,
+    null: bool,
+    d: u64,
+) -> Option<bool>
     ensures { PassesDescriptorAs objects.now n top null d result }
 {
     let reference = run_state::reference_of(top);
     match reference {
-        Reference::Wrong => Passing::Wrong,
-        Reference::Null => Passing::Is(null),
+        Reference::Wrong => None,
+        Reference::Null => Some(null),
         Reference::To(o) => {
             if n as u64 <= o {
-                return Passing::Wrong;
+                return None;
             }
             let link = run_objects::descriptor_of(objects, o as u32);
             match link {
-                Link::Nothing => Passing::Is(false),
-                Link::To(e) => Passing::Is(e == d),
+                None => Some(false),
+                Some(e) => Some(e == d),
             }
         }
     }
 }
 
 // The move by whether the value passes.
-fn chosen(passes: Passing, yes: Move, no: Move) -> Move
+fn chosen(passes: Option<bool>, yes: Move, no: Move) -> Move
     ensures { result ≡ chosen_of passes yes no }
 {
     match passes {
-        Passing::Wrong => Move::Astray,
-        Passing::Is(so) => { if so { yes } else { no } }
+        None => Move::Astray,
+        Some(so) => { if so { yes } else { no } }
     }
 }
 
 // A cast of the topmost operand to the heap type with the code h, nullable or not.
+#[tactic(auto, using(crate::proofs::Choices::chosen_exits))]
 pub fn move_by_type(
     rows: &[u16],
     shared: &[u16],
     codes: &[u16],
     objects: &[u16],
     n: u32,
-    first: Topmost,
+    first: Option<Value>,
     null: bool,
     h: u64,
     yes: Move,
@@ -100,11 +101,12 @@ pub fn move_by_type(
 }
 
 // A cast of the operand under the topmost, which is the descriptor: that is looked at first.
+#[tactic(auto, using(crate::proofs::Choices::chosen_exits))]
 pub fn move_by_descriptor(
     objects: &[u16],
     n: u32,
-    first: Topmost,
-    second: Topmost,
+    first: Option<Value>,
+    second: Option<Value>,
     null: bool,
     yes: Move,
     no: Move,

@@ -5,6 +5,10 @@ use mathlib.Core.Bool.{Bool, true}
 use mathlib.Core.List.{List}
 use native.Mathlib.Omega.{arith}
 use lib.ListN.{length, replicate}
+use Rattle.std.specs.Prelude.{Result, Ok, Err}
+use Rattle.std.specs.Prelude.{Result, Ok, Err}
+use Rattle.scope.specs.declared.Rejected.{Rejected}
+use Rattle.scope.specs.declared.Refused.{Refused}
 use Rattle.scope.specs.Reading.{got}
 use Rattle.scope.specs.Syntax.{Val, func, Definition, types_of}
 use Rattle.scope.specs.Layout.{work_size, ends_size}
@@ -13,18 +17,15 @@ use Rattle.scope.specs.Bodies.{Body}
 use Rattle.scope.specs.declared.Place.{Place}
 use Rattle.scope.proofs.Accepted.{sections_joined}
 use Rattle.scope.proofs.Impossible.{contradiction}
+use Rattle.scope.proofs.Told.{place_is}
 use Rattle.type_table.specs.declared.Shape.{Shape}
 use Rattle.type_table.specs.declared.Shape
 use Rattle.type_table.specs.Answers.{shape_form}
 use Rattle.type_table.specs.View.{val_at_code, codes_at, view, both_codes}
 use Rattle.body_state.specs.State.{val_at_word}
 use Rattle.body_state.proofs.Answers.{codes-length}
-use Rattle.body_start.specs.declared.Started.{Started}
-use Rattle.body_start.specs.declared.Started
 use Rattle.body_start.specs.Beginning.{locals_first, Starting, StartedAs}
 use Rattle.run_ends.specs.Matching.{Fillable, Filled, EndsOf}
-use Rattle.section_both.specs.declared.TwoJudged.{TwoJudged}
-use Rattle.section_both.specs.declared.TwoJudged
 use Rattle.section_both.specs.Both.{joined_is, BothJudged}
 use Rattle.section_both.proofs.Viewing.{viewed}
 use Rattle.body_judge.proofs.Typing.{started_got, started_refused, form_is_lem}
@@ -41,7 +42,7 @@ may_start-again t f zero room = record { zero = zero; room = omega arith; few = 
 module _ {library section s : List ℕ} {x : ℕ} {b : Body} (p : Parts library section s x b) where
   -- the sections
 
-  module _ {rows shared codes rows₁ shared₁ codes₁ : List ℕ} {v : TwoJudged} (a : BothJudged library section rows shared codes rows₁ shared₁ codes₁ v) where
+  module _ {rows shared codes rows₁ shared₁ codes₁ : List ℕ} {v : Result (ℕ × ℕ) Rejected} (a : BothJudged library section rows shared codes rows₁ shared₁ codes₁ v) where
     record JudgedAgain : Type 0 where
       both : Joined
       judged : judge_joined library section ≡ accepted both
@@ -53,22 +54,22 @@ module _ {library section s : List ℕ} {x : ℕ} {b : Body} (p : Parts library 
         go : (j : Joined) × (judge_joined library section ≡ accepted j) × (j.types ≡ b.types) → JudgedAgain
         go (j, is, types) = record { both = j; judged = is; same = types }
 
-    verdict-again : v ≡ TwoJudged.TheVariants.Accepted judged-again.both.before (length b.types)
+    verdict-again : v ≡ Ok (judged-again.both.before, (length b.types))
     verdict-again =
         let again = judged-again in
-        a.answer ∙ ap joined_is again.judged ∙ ap (λ (ds : List Definition). TwoJudged.TheVariants.Accepted again.both.before (length ds)) again.same
+        a.answer ∙ ap joined_is again.judged ∙ ap (λ (ds : List Definition). Ok (again.both.before, (length ds))) again.same
 
-    pub sections_unrefused : {n : ℕ} {place : Place} → v ≡ TwoJudged.TheVariants.Refused n place → ⊥
+    pub sections_unrefused : {no : Rejected} → v ≡ Err no → ⊥
     sections_unrefused e = let f = verdict-again in contradiction cc
 
-    pub sections_again : {before count : ℕ} → v ≡ TwoJudged.TheVariants.Accepted before count → TypesAgain b rows₁ (both_codes shared₁ codes₁) count
+    pub sections_again : {before count : ℕ} → v ≡ Ok (before, count) → TypesAgain b rows₁ (both_codes shared₁ codes₁) count
     sections_again {count = count} e =
         let f = verdict-again in
-        let many : count ≡ length b.types = cc in
+        let many : count ≡ length b.types = place_is e f in
         let again = judged-again in
         record { types = viewed library section again.judged (a.stands again.both again.judged) ∙ ap types_of again.same; many = many; few = omega (arith, few_types p); ranged = a.ranged again.both again.judged }
 
-    pub count_fits : {before count : ℕ} → v ≡ TwoJudged.TheVariants.Accepted before count → count < 2 ^ 16
+    pub count_fits : {before count : ℕ} → v ≡ Ok (before, count) → count < 2 ^ 16
     count_fits e = let few = (sections_again e).few in omega arith
 
   -- the function's type
@@ -96,11 +97,11 @@ module _ {library section s : List ℕ} {x : ℕ} {b : Body} (p : Parts library 
     read_again : locals_first types n s ≡ got b.locals p.first
     read_again = rw (t.many, f.many_parameters) p.read
 
-    module _ {work work₁ : List ℕ} {r : Started} (a : StartedAs (locals_first types n s) s codes work work₁ first n r) where
-      pub start_unrefused : {k place : ℕ} → r ≡ Started.TheVariants.Refused k place → ⊥
+    module _ {work work₁ : List ℕ} {r : Result (ℕ × ℕ) Refused} (a : StartedAs (locals_first types n s) s codes work work₁ first n r) where
+      pub start_unrefused : {no : Refused} → r ≡ Err no → ⊥
       start_unrefused e = let g = started_refused n (locals_first types n s) a.answer e in let h = read_again in contradiction cc
 
-      pub start-again : {count next : ℕ} → r ≡ Started.TheVariants.Is count next → LocalsAgain b s work₁ count next
+      pub start-again : {count next : ℕ} → r ≡ Ok (count, next) → LocalsAgain b s work₁ count next
       start-again {count} {next} e =
           let (vs, got-them, many) = started_got n (locals_first types n s) a.answer e in
           with_locals_lem vs got-them many

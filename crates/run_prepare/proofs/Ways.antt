@@ -8,6 +8,9 @@ use native.Mathlib.Omega.{arith}
 use lib.ListN.{length, replicate, length-replicate}
 use lib.Dec.{ltb}
 use borrow.Author.Tests.{not-true, not-false, leb-true, le-leb}
+use Rattle.scope.specs.Told.{no_in}
+use Rattle.std.specs.Prelude.{Result, Ok, Err}
+use Rattle.scope.specs.declared.Rejected.{Rejected}
 use Rattle.scope.specs.Sizes.{most_budget}
 use Rattle.scope.specs.Layout.{work_size, ends_size}
 use Rattle.scope.specs.Refusals.{oversize, buffer_too_small, no_default}
@@ -19,25 +22,21 @@ use Rattle.scope.specs.Bodies.{Body, instructions, judge_body}
 use Rattle.scope.specs.Running.{with_parameters, trial_run}
 use Rattle.scope.specs.Memory.{wiped}
 use Rattle.scope.specs.Answers.{table_lent, verdict_of, body_call, BodyJudged}
-use Rattle.scope.specs.declared.Verdict.{Verdict}
-use Rattle.scope.specs.declared.Verdict
 use Rattle.scope.proofs.Truths.{from_both}
 use Rattle.scope.proofs.Impossible.{impossible}
+use Rattle.scope.proofs.Told.{rejected_as}
 use Rattle.type_table.specs.declared.Shape.{Shape}
 use Rattle.type_table.specs.declared.Shape
 use Rattle.type_table.specs.Answers.{shape_form}
 use Rattle.type_table.specs.View.{view, both_codes}
 use Rattle.body_plan_defaults.specs.Defaults.{all_default}
-use Rattle.body_start.specs.declared.Started as begin
+use Rattle.std.specs.Prelude.{Result, Ok, Err}
+use Rattle.scope.specs.declared.Refused.{Refused}
 use Rattle.body_start.specs.Beginning.{locals_first, Starting, StartedAs}
 use Rattle.run_ends.specs.Matching.{Fillable, Filled}
 use Rattle.lent_limits.proofs.Enough.{table-sizes}
-use Rattle.section_both.specs.declared.TwoJudged.{TwoJudged}
-use Rattle.section_both.specs.declared.TwoJudged
 use Rattle.section_both.specs.Both.{Ready, BothJudged}
 use Rattle.run_limits.specs.Limits.{scratch_lent}
-use Rattle.run_prepare.specs.declared.Prepared.{Prepared}
-use Rattle.run_prepare.specs.declared.Prepared
 use Rattle.run_prepare.specs.Preparing.{ZeroScratch, Shaping, Shaped, BodyRead, Typing, Typed, TypeRead, Allowed, SectionRead, ScratchRoom, RunJudged, PreparedFor}
 use Rattle.run_prepare.proofs.Bodily.{parts}
 use Rattle.run_prepare.proofs.Again.{sections_unrefused, sections_again, count_fits, shape_not_struct, shape_again, may_start-again, start_unrefused, start-again, may_fill_again, ends_told, ends_again}
@@ -48,19 +47,19 @@ module _ {s codes work ends : List ℕ} {types first params results : ℕ} (may 
   pub may_read_locals : Starting work types params
   may_read_locals = may_start-again may.shaping.table may.shaping.function may.scratch.zero may.scratch.room
 
-  module _ {work₁ : List ℕ} {read : begin.Started} (a : StartedAs (locals_first types params s) s codes work work₁ first params read) where
+  module _ {work₁ : List ℕ} {read : Result (ℕ × ℕ) Refused} (a : StartedAs (locals_first types params s) s codes work work₁ first params read) where
     pub locals_read :
-        {n place : ℕ} → read ≡ begin.TheVariants.Refused n place → {work' ends' : List ℕ} {r : Prepared}
+        {no : Refused} → read ≡ Err no → {work' ends' : List ℕ} {r : Result (ℕ × ℕ × ℕ) Rejected}
         → BodyRead s codes work' ends' types first params results r
     locals_read e = absurd (start_unrefused (parts may.shaping.judged) may.shaping.table may.shaping.function a e)
 
-    module _ {count next : ℕ} (is : read ≡ begin.TheVariants.Is count next) {all : Bool} (asked : all ≡ all_default false codes first params) where
+    module _ {count next : ℕ} (is : read ≡ Ok (count, next)) {all : Bool} (asked : all ≡ all_default false codes first params) where
       -- all parameters have a default, by the definition's test
       defaults : {rows : List ℕ} {body : Body} → Shaping s rows codes types first params results body → every has_default body.function.parameters ≡ all
       unfolding all_default
       defaults sh = sym (asked ∙ ap (every has_default) sh.function.parameters)
 
-      pub no_default_lem : not all ≡ true → {work' ends' : List ℕ} → BodyRead s codes work' ends' types first params results (Prepared.TheVariants.Refused no_default (plain 0))
+      pub no_default_lem : not all ≡ true → {work' ends' : List ℕ} → BodyRead s codes work' ends' types first params results (Err (no_in no_default (plain 0)))
       no_default_lem n =
           record { is = λ rows body budget sh. let none-all : every has_default body.function.parameters ≡ false = defaults sh ∙ not-true all n in rw none-all refl }
 
@@ -70,12 +69,12 @@ module _ {s codes work ends : List ℕ} {types first params results : ℕ} (may 
           may_fill_again (parts sh.judged) (start-again (parts sh.judged) sh.table sh.function a is) may.scratch.ends_room
 
       module _ {ends₁ : List ℕ} {matched : Bool} (filled-ends : Filled s ends ends₁ next matched) where
-        pub ends_match : not matched ≡ true → {work' ends' : List ℕ} {r : Prepared} → BodyRead s codes work' ends' types first params results r
+        pub ends_match : not matched ≡ true → {work' ends' : List ℕ} {r : Result (ℕ × ℕ × ℕ) Rejected} → BodyRead s codes work' ends' types first params results r
         ends_match n =
             let sh = may.shaping in
             absurd (false≢true (let yes' : matched ≡ true = ends_told (parts sh.judged) (start-again (parts sh.judged) sh.table sh.function a is) filled-ends in rw yes' at n))
 
-        pub body_read : not all ≡ false → BodyRead s codes work₁ ends₁ types first params results (Prepared.TheVariants.Ready count results next)
+        pub body_read : not all ≡ false → BodyRead s codes work₁ ends₁ types first params results (Ok (count, results, next))
         body_read yes-all =
             record {
               is = λ rows body budget sh.
@@ -109,7 +108,7 @@ pub ruleset body_exits = (may_read_locals, locals_read, no_default_lem, may_fill
 module _ {s : List ℕ} {x : ℕ} {rows codes work ends : List ℕ} {types : ℕ} (may : Typed s x rows codes work ends types) {shape : Shape} where
   pub function_there :
       {first n : ℕ} → shape ≡ Shape.TheVariants.Struct first n → (view rows codes x).form ≡ shape_form codes shape
-      → {work' ends' : List ℕ} {r : Prepared} → TypeRead s x rows codes work' ends' types r
+      → {work' ends' : List ℕ} {r : Result (ℕ × ℕ × ℕ) Rejected} → TypeRead s x rows codes work' ends' types r
   function_there is a = absurd (shape_not_struct (parts may.typing.judged) may.typing.table is a)
 
   module _ {first n second m : ℕ} (is : shape ≡ Shape.TheVariants.Func first n second m) (a : (view rows codes x).form ≡ shape_form codes shape) where
@@ -120,21 +119,21 @@ module _ {s : List ℕ} {x : ℕ} {rows codes work ends : List ℕ} {types : ℕ
     pub may_shape : Shaped s codes work ends types first n m
     may_shape = record { rows = rows; body = may.body; shaping = shaping_of may.body may.typing; scratch = may.scratch }
 
-    pub type_read : {work' ends' : List ℕ} {r : Prepared} → BodyRead s codes work' ends' types first n m r → TypeRead s x rows codes work' ends' types r
+    pub type_read : {work' ends' : List ℕ} {r : Result (ℕ × ℕ × ℕ) Rejected} → BodyRead s codes work' ends' types first n m r → TypeRead s x rows codes work' ends' types r
     type_read read = record { is = λ body budget t. read.is rows body budget (shaping_of body t) }
 
 pub ruleset type_exits = (function_there, may_shape, type_read)
 
 -- the sections
 
-module _ {library section s : List ℕ} {x : ℕ} {rows shared codes work ends : List ℕ} (may : Allowed library section s x rows shared codes work ends) {rows₁ shared₁ codes₁ : List ℕ} {v : TwoJudged}
+module _ {library section s : List ℕ} {x : ℕ} {rows shared codes work ends : List ℕ} (may : Allowed library section s x rows shared codes work ends) {rows₁ shared₁ codes₁ : List ℕ} {v : Result (ℕ × ℕ) Rejected}
     (a : BothJudged library section rows shared codes rows₁ shared₁ codes₁ v) where
   pub sections_there :
-      {n : ℕ} {place : Place} → v ≡ TwoJudged.TheVariants.Refused n place → {rows' codes' work' ends' : List ℕ} {r : Prepared}
+      {no : Rejected} → v ≡ Err no → {rows' codes' work' ends' : List ℕ} {r : Result (ℕ × ℕ × ℕ) Rejected}
       → SectionRead library section s x rows' codes' work' ends' r
   sections_there is = absurd (sections_unrefused (parts may.judged) a is)
 
-  module _ {before types : ℕ} (is : v ≡ TwoJudged.TheVariants.Accepted before types) where
+  module _ {before types : ℕ} (is : v ≡ Ok (before, types)) where
     pub types-fit : types < 2 ^ 16
     types-fit = count_fits (parts may.judged) a is
 
@@ -144,7 +143,7 @@ module _ {library section s : List ℕ} {x : ℕ} {rows shared codes work ends :
     pub may_type : Typed s x rows₁ (both_codes shared₁ codes₁) work ends types
     may_type = record { body = may.body; typing = typing_of may.body may.judged; scratch = may.scratch }
 
-    pub section_read : {work' ends' : List ℕ} {r : Prepared} → TypeRead s x rows₁ (both_codes shared₁ codes₁) work' ends' types r → SectionRead library section s x rows₁ (both_codes shared₁ codes₁) work' ends' r
+    pub section_read : {work' ends' : List ℕ} {r : Result (ℕ × ℕ × ℕ) Rejected} → TypeRead s x rows₁ (both_codes shared₁ codes₁) work' ends' types r → SectionRead library section s x rows₁ (both_codes shared₁ codes₁) work' ends' r
     section_read read = record { is = λ body budget j. read.is body budget (typing_of body j) }
 
 pub ruleset section_exits = (sections_there, types-fit, may_type, section_read)
@@ -166,11 +165,11 @@ module _ (library section s : List ℕ) (x budget : ℕ) where
 
 -- the verdict on the body
 
-body_refused : (j : Judged Body) {v : Verdict} {n : ℕ} {p : Place} → v ≡ verdict_of instructions j → v ≡ Verdict.TheVariants.Refused n p → j ≡ rejected n p
+body_refused : (j : Judged Body) {v : Result ℕ Rejected} {no : Rejected} → v ≡ verdict_of instructions j → v ≡ Err no → j ≡ rejected no.number no.place
 body_refused (accepted b) e f = impossible cc
-body_refused (rejected n p) e f = cc
+body_refused (rejected n p) e f = rejected_as e f
 
-body_accepted : (j : Judged Body) {v : Verdict} {k : ℕ} → v ≡ verdict_of instructions j → v ≡ Verdict.TheVariants.Accepted k → (b : Body) × (j ≡ accepted b)
+body_accepted : (j : Judged Body) {v : Result ℕ Rejected} {k : ℕ} → v ≡ verdict_of instructions j → v ≡ Ok k → (b : Body) × (j ≡ accepted b)
 body_accepted (accepted b) e f = (b, refl)
 body_accepted (rejected n p) e f = impossible cc
 
@@ -185,7 +184,7 @@ wiped-zero m e = e ∙ ap (λ (n : ℕ). replicate n 0) (sym (wiped_long m e))
 -- the body, and then the budget
 
 module _ {rows shared codes work ends : List ℕ} (lent : ScratchRoom rows shared codes work ends) {library section s : List ℕ} {x : ℕ}
-    {rows₁ shared₁ codes₁ work₁ : List ℕ} {v : Verdict} (a : BodyJudged library section s x rows shared codes work rows₁ shared₁ codes₁ work₁ v) where
+    {rows₁ shared₁ codes₁ work₁ : List ℕ} {v : Result ℕ Rejected} (a : BodyJudged library section s x rows shared codes work rows₁ shared₁ codes₁ work₁ v) where
   call_is : body_call library section s x rows shared codes work ≡ judge_body library section s x
   call_is = rw (lent.table, le-leb work_size (length work) lent.work_room)
 
@@ -206,24 +205,24 @@ module _ {rows shared codes work ends : List ℕ} (lent : ScratchRoom rows share
 
   module _ {budget : ℕ} where
     pub run_refused :
-        {n : ℕ} {p : Place} → v ≡ Verdict.TheVariants.Refused n p → {rows' codes' work' ends' : List ℕ}
-        → RunJudged library section s x budget rows' codes' work' ends' (Prepared.TheVariants.Refused n p)
+        {no : Rejected} → v ≡ Err no → {rows' codes' work' ends' : List ℕ}
+        → RunJudged library section s x budget rows' codes' work' ends' (Err no)
     run_refused f = record { is = trial_rejected library section s x budget (body_refused (judge_body library section s x) answer_is f) }
 
-    module _ {k : ℕ} (f : v ≡ Verdict.TheVariants.Accepted k) {over : Bool} (asked : over ≡ ltb most_budget budget) where
-      pub run_over : over ≡ true → {rows' codes' work' ends' : List ℕ} → RunJudged library section s x budget rows' codes' work' ends' (Prepared.TheVariants.Refused oversize (plain 0))
+    module _ {k : ℕ} (f : v ≡ Ok k) {over : Bool} (asked : over ≡ ltb most_budget budget) where
+      pub run_over : over ≡ true → {rows' codes' work' ends' : List ℕ} → RunJudged library section s x budget rows' codes' work' ends' (Err (no_in oversize (plain 0)))
       run_over h =
           let (body, judged) = body_accepted (judge_body library section s x) answer_is f in
           record { is = trial_over library section s x budget judged (sym asked ∙ h) }
 
       pub run-judged :
-          over ≡ false → {rows' codes' work' ends' : List ℕ} {r : Prepared} → SectionRead library section s x rows' codes' work' ends' r
+          over ≡ false → {rows' codes' work' ends' : List ℕ} {r : Result (ℕ × ℕ × ℕ) Rejected} → SectionRead library section s x rows' codes' work' ends' r
           → RunJudged library section s x budget rows' codes' work' ends' r
       run-judged h j =
           let (body, judged) = body_accepted (judge_body library section s x) answer_is f in
           record { is = rw (trial_within library section s x budget judged (sym asked ∙ h)) (j.is body budget judged) }
 
-  pub may_read_section : {k : ℕ} → v ≡ Verdict.TheVariants.Accepted k → Allowed library section s x rows₁ shared₁ codes₁ work₁ ends
+  pub may_read_section : {k : ℕ} → v ≡ Ok k → Allowed library section s x rows₁ shared₁ codes₁ work₁ ends
   may_read_section f =
       let (body, judged) = body_accepted (judge_body library section s x) answer_is f in
       record { body = body; judged = judged; ready = table_ready; scratch = scratch_zero }
@@ -235,20 +234,20 @@ pub ruleset judge_exits = (run_refused, run_over, run-judged, may_read_section)
 module _ (scratch : Bool) where
   pub scratch_small :
       {r : Bool} → r ≡ scratch → not r ≡ true → {state : Bool} {library section s : List ℕ} {x budget : ℕ} {rows' codes' work' ends' : List ℕ}
-      → PreparedFor library section s x budget scratch state rows' codes' work' ends' (Prepared.TheVariants.Refused buffer_too_small (plain 0))
+      → PreparedFor library section s x budget scratch state rows' codes' work' ends' (Err (no_in buffer_too_small (plain 0)))
   scratch_small {r} f small =
       let none : scratch ≡ false = sym f ∙ not-true r small in
       record { is = rw none refl; room = λ count results next e. impossible cc }
 
   pub state-small :
       {state : Bool} → not state ≡ true → {library section s : List ℕ} {x budget : ℕ} {rows' codes' work' ends' : List ℕ}
-      → PreparedFor library section s x budget scratch state rows' codes' work' ends' (Prepared.TheVariants.Refused buffer_too_small (plain 0))
+      → PreparedFor library section s x budget scratch state rows' codes' work' ends' (Err (no_in buffer_too_small (plain 0)))
   state-small {state} small =
       let none : state ≡ false = not-true state small in
       record { is = rw (none, and-false scratch) refl; room = λ count results next e. impossible cc }
 
   pub prepared :
-      {r : Bool} → r ≡ scratch → not r ≡ false → {state : Bool} → not state ≡ false → {library section s : List ℕ} {x budget : ℕ} {rows' codes' work' ends' : List ℕ} {a : Prepared}
+      {r : Bool} → r ≡ scratch → not r ≡ false → {state : Bool} → not state ≡ false → {library section s : List ℕ} {x budget : ℕ} {rows' codes' work' ends' : List ℕ} {a : Result (ℕ × ℕ × ℕ) Rejected}
       → RunJudged library section s x budget rows' codes' work' ends' a → PreparedFor library section s x budget scratch state rows' codes' work' ends' a
   prepared {r} f is-so {state} also j =
       let both₁ : scratch ≡ true = sym f ∙ not-false r is-so in

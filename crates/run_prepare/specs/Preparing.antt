@@ -1,6 +1,9 @@
 -- What each part of the preparation answers, from the body's bytes outwards to the call: the refusal, or all that the run
 -- needs. What the code does not hold, the body above all, is quantified.
 use Rattle.std.specs.Prelude.{ℕ, ◌≤◌, ◌≡◌, Bool, true, ◌&&◌, List, length, replicate}
+use Rattle.scope.specs.Told.{no_in}
+use Rattle.std.specs.Prelude.{Result, Ok, Err}
+use Rattle.scope.specs.declared.Rejected.{Rejected}
 use Rattle.scope.specs.Judging.{Judged, accepted, rejected}
 use Rattle.scope.specs.Bodies.{Body, judge_body}
 use Rattle.scope.specs.Running.{trial_of, with_parameters, Trial, trial_run}
@@ -9,8 +12,6 @@ use Rattle.scope.specs.Layout.{work_size, ends_size}
 use Rattle.scope.proofs.Soundness.{Runs}
 use Rattle.section_both.specs.Both.{Ready}
 use Rattle.run_ends.specs.Matching.{EndsOf}
-use Rattle.run_prepare.specs.declared.Prepared.{Prepared}
-use Rattle.run_prepare.specs.declared.Prepared
 use Rattle.run_prepare.specs.Parts.{TypesAgain, FunctionAgain, LocalsAgain}
 
 -- the answer
@@ -37,9 +38,9 @@ pub record Readied (want : Judged Trial) (budget : ℕ) (s rows codes work ends 
   pub matching : EndsOf s ends next
 
 -- the answer is of a verdict: the refusal is its, and of a run all is at hand
-abbrev pub Prepares : Judged Trial → ℕ → List ℕ → List ℕ → List ℕ → List ℕ → List ℕ → Prepared → Type 0
-Prepares want budget s rows codes work ends (Prepared.TheVariants.Ready count results next) = Readied want budget s rows codes work ends count results next
-Prepares want budget s rows codes work ends (Prepared.TheVariants.Refused n p) = want ≡ rejected n p
+abbrev pub Prepares : Judged Trial → ℕ → List ℕ → List ℕ → List ℕ → List ℕ → List ℕ → Result (ℕ × ℕ × ℕ) Rejected → Type 0
+Prepares want budget s rows codes work ends (Ok (count, results, next)) = Readied want budget s rows codes work ends count results next
+Prepares want budget s rows codes work ends (Err why) = want ≡ rejected why.number why.place
 
 -- the scratch: zero as a verdict leaves it, and room for the ends
 
@@ -65,7 +66,7 @@ pub record Shaped (s codes work ends : List ℕ) (types first params results : �
   pub shaping : Shaping s rows codes types first params results body
   pub scratch : ZeroScratch work ends
 
-pub record BodyRead (s codes work' ends' : List ℕ) (types first params results : ℕ) (r : Prepared) : Type 0 where
+pub record BodyRead (s codes work' ends' : List ℕ) (types first params results : ℕ) (r : Result (ℕ × ℕ × ℕ) Rejected) : Type 0 where
   pub is :
       (rows : List ℕ) (b : Body) (budget : ℕ) → Shaping s rows codes types first params results b
       → Prepares (with_parameters b budget) budget s rows codes work' ends' r
@@ -83,7 +84,7 @@ pub record Typed (s : List ℕ) (x : ℕ) (rows codes work ends : List ℕ) (typ
   pub typing : Typing s x rows codes types body
   pub scratch : ZeroScratch work ends
 
-pub record TypeRead (s : List ℕ) (x : ℕ) (rows codes work' ends' : List ℕ) (types : ℕ) (r : Prepared) : Type 0 where
+pub record TypeRead (s : List ℕ) (x : ℕ) (rows codes work' ends' : List ℕ) (types : ℕ) (r : Result (ℕ × ℕ × ℕ) Rejected) : Type 0 where
   pub is : (b : Body) (budget : ℕ) → Typing s x rows codes types b → Prepares (with_parameters b budget) budget s rows codes work' ends' r
 
 -- a body that was accepted, and memory as its verdict left it
@@ -94,7 +95,7 @@ pub record Allowed (library section s : List ℕ) (x : ℕ) (rows shared codes w
   pub ready : Ready rows shared codes
   pub scratch : ZeroScratch work ends
 
-pub record SectionRead (library section s : List ℕ) (x : ℕ) (rows' codes' work' ends' : List ℕ) (r : Prepared) : Type 0 where
+pub record SectionRead (library section s : List ℕ) (x : ℕ) (rows' codes' work' ends' : List ℕ) (r : Result (ℕ × ℕ × ℕ) Rejected) : Type 0 where
   pub is : (b : Body) (budget : ℕ) → judge_body library section s x ≡ accepted b → Prepares (with_parameters b budget) budget s rows' codes' work' ends' r
 
 -- each buffer of the scratch has its size
@@ -104,10 +105,10 @@ pub record ScratchRoom (rows shared codes work ends : List ℕ) : Type 0 where
   pub work_room : work_size ≤ length work
   pub ends_room : ends_size ≤ length ends
 
-pub record RunJudged (library section s : List ℕ) (x budget : ℕ) (rows' codes' work' ends' : List ℕ) (r : Prepared) : Type 0 where
+pub record RunJudged (library section s : List ℕ) (x budget : ℕ) (rows' codes' work' ends' : List ℕ) (r : Result (ℕ × ℕ × ℕ) Rejected) : Type 0 where
   pub is : Prepares (trial_run library section s x budget) budget s rows' codes' work' ends' r
 
 -- the whole: 14 for the scratch or the state, then the verdict; and a run only where both are enough
-pub record PreparedFor (library section s : List ℕ) (x budget : ℕ) (scratch state : Bool) (rows' codes' work' ends' : List ℕ) (r : Prepared) : Type 0 where
+pub record PreparedFor (library section s : List ℕ) (x budget : ℕ) (scratch state : Bool) (rows' codes' work' ends' : List ℕ) (r : Result (ℕ × ℕ × ℕ) Rejected) : Type 0 where
   pub is : Prepares (lent_enough (scratch && state) (trial_run library section s x budget)) budget s rows' codes' work' ends' r
-  pub room : (count results next : ℕ) → r ≡ Prepared.TheVariants.Ready count results next → state ≡ true
+  pub room : (count results next : ℕ) → r ≡ Ok (count, results, next) → state ≡ true

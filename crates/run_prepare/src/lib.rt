@@ -7,17 +7,8 @@ ghost use Rattle.run_limits.specs.Limits.{scratch_lent};
 ghost use Rattle.run_prepare.specs.Preparing.{Shaped, BodyRead, Typed, TypeRead, Allowed, SectionRead, ScratchRoom, RunJudged, PreparedFor};
 ghost use Rattle.type_table.specs.View.{both_codes};
 
-use body_start::Started;
-use scope::{Place, Verdict, refusals};
-use section_both::TwoJudged;
+use scope::{Place, Refused, Rejected, refusals};
 use type_table::Shape;
-
-// A run may start: how many locals there are, how many results, and where the first instruction stands; or the refusal.
-#[derive(Clone, Copy)]
-pub enum Prepared {
-    Ready(u16, u32, usize),
-    Refused(u64, Place),
-}
 
 // The locals and the matching ends, which an accepted body has; between them 29, where a parameter has no default.
 fn read_body(
@@ -30,22 +21,31 @@ fn read_body(
     first: u32,
     params: u32,
     results: u32,
-) -> Prepared
+) -> Result<(u16, u32, usize), Rejected>
     requires { Shaped s.now (both_codes shared.now codes.now) work.old ends.old types first params results }
     ensures { let work' = work.new in let ends' = ends.new in
         BodyRead s.now (both_codes shared.now codes.now) work' ends' types first params results result }
 {
     let started = body_start::start(s, shared, codes, work, types, first, params);
     match started {
-        Started::Refused(number, place) => Prepared::Refused(number, Place::Plain(place as u64)),
-        Started::Is(count, next) => {
+        Err(Refused { number, at: place }) => Err(Rejected {
+            number,
+            place: Place::Plain(place as u64),
+        }),
+        Ok((count, next)) => {
             if !body_plan_defaults::all_default(shared, codes, first, params, false) {
-                return Prepared::Refused(refusals::NO_DEFAULT, Place::Plain(0));
+                return Err(Rejected {
+                    number: refusals::NO_DEFAULT,
+                    place: Place::Plain(0),
+                });
             }
             if !run_ends::fill_ends(s, next, ends) {
-                return Prepared::Refused(refusals::BYTES_END, Place::Plain(s.len() as u64));
+                return Err(Rejected {
+                    number: refusals::BYTES_END,
+                    place: Place::Plain(s.len() as u64),
+                });
             }
-            Prepared::Ready(count, results, next)
+            Ok((count, results, next))
         }
     }
 }
@@ -60,14 +60,17 @@ fn read_type(
     work: &mut [u32],
     ends: &mut [u16],
     types: u16,
-) -> Prepared
+) -> Result<(u16, u32, usize), Rejected>
     requires { Typed s.now number rows.now (both_codes shared.now codes.now) work.old ends.old types }
     ensures { let work' = work.new in let ends' = ends.new in
         TypeRead s.now number rows.now (both_codes shared.now codes.now) work' ends' types result }
 {
     let shape = type_table::shape_of(rows, shared, codes, number);
     match shape {
-        Shape::Struct(_, _) => Prepared::Refused(refusals::NOT_A_FUNCTION, Place::Plain(0)),
+        Shape::Struct(_, _) => Err(Rejected {
+            number: refusals::NOT_A_FUNCTION,
+            place: Place::Plain(0),
+        }),
         Shape::Func(first, n, second, m) => read_body(
             s, shared, codes, work, ends, types, first, n, m,
         ),
@@ -85,7 +88,7 @@ fn read_section(
     codes: &mut [u16],
     work: &mut [u32],
     ends: &mut [u16],
-) -> Prepared
+) -> Result<(u16, u32, usize), Rejected>
     requires { Allowed library.now section.now s.now number rows.old shared.old codes.old work.old ends.old }
     ensures { let rows' = rows.new in let codes' = both_codes shared.new codes.new in
         let work' = work.new in let ends' = ends.new in
@@ -93,17 +96,8 @@ fn read_section(
 {
     let judged = section_both::judge_both(library, section, rows, shared, codes);
     match judged {
-        TwoJudged::Refused(refusal, place) => Prepared::Refused(refusal, place),
-        TwoJudged::Accepted(_, count) => read_type(
-            s,
-            number,
-            rows,
-            shared,
-            codes,
-            work,
-            ends,
-            count as u16,
-        ),
+        Err(e) => Err(e),
+        Ok((_, count)) => read_type(s, number, rows, shared, codes, work, ends, count as u16),
     }
 }
 
@@ -119,7 +113,7 @@ fn judge(
     codes: &mut [u16],
     work: &mut [u32],
     ends: &mut [u16],
-) -> Prepared
+) -> Result<(u16, u32, usize), Rejected>
     requires { ScratchRoom rows.old shared.old codes.old work.old ends.old }
     ensures { let rows' = rows.new in let codes' = both_codes shared.new codes.new in
         let work' = work.new in let ends' = ends.new in
@@ -127,10 +121,13 @@ fn judge(
 {
     let judged = body_call::judge_body(library, section, s, number, rows, shared, codes, work);
     match judged {
-        Verdict::Refused(refusal, place) => Prepared::Refused(refusal, place),
-        Verdict::Accepted(_) => {
+        Err(e) => Err(e),
+        Ok(_) => {
             if run_limits::over_budget(budget) {
-                return Prepared::Refused(refusals::OVERSIZE, Place::Plain(0));
+                return Err(Rejected {
+                    number: refusals::OVERSIZE,
+                    place: Place::Plain(0),
+                });
             }
             read_section(library, section, s, number, rows, shared, codes, work, ends)
         }
@@ -150,17 +147,23 @@ pub fn prepare(
     work: &mut [u32],
     ends: &mut [u16],
     enough: bool,
-) -> Prepared
+) -> Result<(u16, u32, usize), Rejected>
     ensures { let before = scratch_lent rows.old shared.old codes.old work.old ends.old in
         let rows' = rows.new in let codes' = both_codes shared.new codes.new in
         let work' = work.new in let ends' = ends.new in
         PreparedFor library.now section.now s.now number budget before enough rows' codes' work' ends' result }
 {
     if !run_limits::scratch_enough(rows, shared, codes, work, ends) {
-        return Prepared::Refused(refusals::BUFFER_TOO_SMALL, Place::Plain(0));
+        return Err(Rejected {
+            number: refusals::BUFFER_TOO_SMALL,
+            place: Place::Plain(0),
+        });
     }
     if !enough {
-        return Prepared::Refused(refusals::BUFFER_TOO_SMALL, Place::Plain(0));
+        return Err(Rejected {
+            number: refusals::BUFFER_TOO_SMALL,
+            place: Place::Plain(0),
+        });
     }
     judge(
         library, section, s, number, budget, rows, shared, codes, work, ends,

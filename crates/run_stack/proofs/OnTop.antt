@@ -5,11 +5,10 @@ use mathlib.Core.Option.{some}
 use mathlib.Core.List.{List, ◌∷◌}
 use native.Mathlib.Omega.{arith}
 use lib.ListN.{length, get_or}
+use Rattle.std.specs.Prelude.{None, Some}
 use Rattle.scope.specs.Layout.{value_span}
 use Rattle.run_values.specs.Values.{Word64At, value_at, entry_in}
 use Rattle.run_values.proofs.Laws.{put_long, put_beside, put_here, put_all_more}
-use Rattle.run_stack.specs.declared.Topmost.{Topmost}
-use Rattle.run_stack.specs.declared.Topmost
 use Rattle.run_stack.specs.Pile.{Room, head_of, TopIs, Pushed}
 use Rattle.run_stack.proofs.Laws.{pile-none, pile_more, pile-some, pile_same}
 use Rattle.run_value.specs.declared.Value.{Value as Carrier}
@@ -19,10 +18,10 @@ use Rattle.run_values.specs.Layout.{bits_place}
 
 -- read
 
-pub top_nothing : (m : List ℕ) (base : ℕ) {h : ℕ} → h ≡ 0 → TopIs m base h Topmost.TheVariants.Nothing
+pub top_nothing : (m : List ℕ) (base : ℕ) {h : ℕ} → h ≡ 0 → TopIs m base h None
 top_nothing m base e = record { is = ap head_of (sym (pile-none m base e)) }
 
-pub top_there : {m : List ℕ} {base h k n : ℕ} → (h ≡ 0 → ⊥) → Word64At m (value_span * (base + (h - 1))) k → Word64At m (value_span * (base + (h - 1)) + 1) n → {v : Carrier} → ValueIs k n v → TopIs m base h (Topmost.TheVariants.Is v)
+pub top_there : {m : List ℕ} {base h k n : ℕ} → (h ≡ 0 → ⊥) → Word64At m (value_span * (base + (h - 1))) k → Word64At m (value_span * (base + (h - 1)) + 1) n → {v : Carrier} → ValueIs k n v → TopIs m base h (Some v)
 unfolding entry_in
 top_there {m} {base} {h} {k} {n} d a b c =
     record { is = ap some c.is ∙ ap₂ (λ (x y : ℕ). some (value_at x y)) a.is b.is ∙ ap head_of (sym (pile-some m base d)) }

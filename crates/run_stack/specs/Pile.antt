@@ -3,6 +3,8 @@
 use Rattle.std.specs.Prelude.{ℕ, zero, suc, ◌+◌, ◌*◌, ◌≤◌, ◌<◌, ◌≡◌, List, [], ◌∷◌, map, length, get_or, set}
 use Rattle.std.proofs.Math.Option.{Option, none, some}
 use Rattle.std.proofs.Math.ListN.{get_elem?}
+use Rattle.scope.specs.Told.{Maybe}
+use Rattle.std.specs.Prelude.{None, Some}
 use Rattle.scope.specs.Layout.{value_span, locals_size, operands_size}
 use Rattle.scope.specs.Sizes.{most_locals, most_operands}
 use Rattle.scope.specs.Machine.{Value, default_of}
@@ -12,8 +14,6 @@ use Rattle.run_values.specs.Values.{value_at, held_at, held_from, set_value, Hel
 use Rattle.body_state.specs.State.{val_at_word}
 use Rattle.run_value.specs.declared.Value.{Value as Carrier}
 use Rattle.run_value.specs.Carried.{decoded}
-use Rattle.run_stack.specs.declared.Topmost.{Topmost}
-use Rattle.run_stack.specs.declared.Topmost
 use Rattle.run_stack.specs.declared.HeldLocal.{HeldLocal}
 use Rattle.run_stack.specs.declared.HeldLocal
 
@@ -31,15 +31,15 @@ pub record Room (m : List ℕ) (base h n : ℕ) : Type 0 where
 
 -- the operand on top
 
-abbrev pub top_of : Topmost → Option Value
-top_of Topmost.TheVariants.Nothing = none
-top_of (Topmost.TheVariants.Is v) = some (decoded v)
+abbrev pub top_of : Maybe Carrier → Option Value
+top_of None = none
+top_of (Some v) = some (decoded v)
 
 abbrev pub head_of : List Value → Option Value
 head_of [] = none
 head_of (v ∷ vs) = some v
 
-pub record TopIs (m : List ℕ) (base h : ℕ) (r : Topmost) : Type 0 where
+pub record TopIs (m : List ℕ) (base h : ℕ) (r : Maybe Carrier) : Type 0 where
   pub is : top_of r ≡ head_of (pile m base h)
 
 -- The value stands on top of the others, and no operand below is changed.

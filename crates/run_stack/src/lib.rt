@@ -13,26 +13,19 @@ use scope::sizes;
 // The codes of references begin here, after those of the four number types; the odd ones may be null.
 const REFERENCES: u64 = 4;
 
-// The operand on top.
-#[derive(Clone, Copy)]
-pub enum Topmost {
-    Nothing,
-    Is(Value),
-}
-
 // The top one of h operands, above the lowest `base`.
-pub fn top(m: &[u64], base: u32, h: u32) -> Topmost
+pub fn top(m: &[u64], base: u32, h: u32) -> Option<Value>
     ensures { TopIs m.now base h result }
 {
     if h == 0 {
-        return Topmost::Nothing;
+        return None;
     }
     let last = h - 1;
     let at = sizes::VALUE * (base as u64 + last as u64);
     let kind = run_values::word64(m, at);
     let bits = run_values::word64(m, at + 1);
     let v = run_value::value_of(kind, bits);
-    Topmost::Is(v)
+    Some(v)
 }
 
 // A value on top.

@@ -7,14 +7,14 @@ use native.Mathlib.Omega.{arith}
 use lib.ListN.{length, get_elem?, drop}
 use types.Run.{OneOf, miss}
 use denote.Enum.Declared.{tag_of}
+use Rattle.scope.specs.Told.{Maybe}
+use Rattle.std.specs.Prelude.{None, Some}
 use Rattle.scope.specs.Machine.{Value, number, null, object, Outcome, stuck, on_taken, on_reference}
 use Rattle.scope.proofs.Impossible.{impossible}
 use Rattle.run_value.specs.contracts.Value.{the_type}
 use Rattle.run_value.specs.declared.Value
 use Rattle.run_value.specs.declared.Value.{Value as Carrier}
 use Rattle.run_value.specs.Carried.{decoded}
-use Rattle.run_stack.specs.declared.Topmost.{Topmost}
-use Rattle.run_stack.specs.declared.Topmost
 use Rattle.run_stack.specs.Pile.{top_of, head_of}
 use Rattle.run_state.specs.declared.Reference.{Reference}
 use Rattle.run_state.specs.declared.Reference
@@ -51,10 +51,10 @@ top_whole (w ∷ vs) {v} e = let same : v ≡ w = cc in rw same refl
 
 -- as it was seen
 
-pub value_top : {vs : List Value} {t : Topmost} {v : Carrier} → Seen vs t → t ≡ Topmost.TheVariants.Is v → head_of vs ≡ some (decoded v)
+pub value_top : {vs : List Value} {t : Maybe Carrier} {v : Carrier} → Seen vs t → t ≡ Some v → head_of vs ≡ some (decoded v)
 value_top s e = sym s.is ∙ ap top_of e
 
-pub no_top : {vs : List Value} {t : Topmost} → Seen vs t → t ≡ Topmost.TheVariants.Nothing → head_of vs ≡ none
+pub no_top : {vs : List Value} {t : Maybe Carrier} → Seen vs t → t ≡ None → head_of vs ≡ none
 no_top s e = sym s.is ∙ ap top_of e
 
 -- as a reference
@@ -71,7 +71,7 @@ looked_first (number k n ∷ w ∷ vs) f = refl
 looked_first (null ∷ w ∷ vs) f = refl
 looked_first (object o ∷ w ∷ vs) f = refl
 
-pub reference_nothing : {t : Topmost} → t ≡ Topmost.TheVariants.Nothing → Reference.TheVariants.Wrong ≡ reference_at t
+pub reference_nothing : {t : Maybe Carrier} → t ≡ None → Reference.TheVariants.Wrong ≡ reference_at t
 unfolding reference_at
 reference_nothing e = rw e refl
 
@@ -89,7 +89,7 @@ number_wrong (Value.TheVariants.Nan64 n) h = refl
 number_wrong Value.TheVariants.Null h = absurd (miss numbers 6 tt h)
 number_wrong (Value.TheVariants.Object o) h = absurd (miss numbers 7 tt h)
 
-module _ {t : Topmost} {v : Carrier} (e : t ≡ Topmost.TheVariants.Is v) where
+module _ {t : Maybe Carrier} {v : Carrier} (e : t ≡ Some v) where
   pub reference_null : v ≡ Value.TheVariants.Null → Reference.TheVariants.Null ≡ reference_at t
   unfolding reference_at
   reference_null h = rw (e, h) refl
@@ -122,12 +122,12 @@ refers_by vs (Value.TheVariants.Nan64 n) e = λ f. on_top_lem vs e _
 refers_by vs Value.TheVariants.Null e = e
 refers_by vs (Value.TheVariants.Object o) e = e
 
-refers : {vs : List Value} (t : Topmost) → Seen vs t → Refers vs (reference_at t)
+refers : {vs : List Value} (t : Maybe Carrier) → Seen vs t → Refers vs (reference_at t)
 unfolding Refers reference_at
-refers {vs} Topmost.TheVariants.Nothing s = λ f. on_none vs (no_top s refl) _
-refers {vs} (Topmost.TheVariants.Is v) s = refers_by vs v (value_top s refl)
+refers {vs} None s = λ f. on_none vs (no_top s refl) _
+refers {vs} (Some v) s = refers_by vs v (value_top s refl)
 
-module _ {vs : List Value} {t : Topmost} {r : Reference} (s : Seen vs t) (is : r ≡ reference_at t) where
+module _ {vs : List Value} {t : Maybe Carrier} {r : Reference} (s : Seen vs t) (is : r ≡ reference_at t) where
   refers_here : {q : Reference} → r ≡ q → Refers vs q
   refers_here e = subst (Refers vs) (sym is ∙ e) (refers t s)
 

@@ -9,7 +9,6 @@ ghost use Rattle.lent_u16.specs.Words.{WordAt};
 ghost use Rattle.run_state.specs.Machines.{lower, start_stage, at_height};
 ghost use Rattle.run_state.specs.Planned.{reference_at};
 
-use run_stack::Topmost;
 use run_value::Value;
 use run_values::layout;
 use scope::sizes;
@@ -98,12 +97,12 @@ pub enum Reference {
     To(u64),
 }
 
-pub fn reference_of(top: Topmost) -> Reference
+pub fn reference_of(top: Option<Value>) -> Reference
     ensures { result ≡ reference_at top }
 {
     match top {
-        Topmost::Nothing => Reference::Wrong,
-        Topmost::Is(v) => match v {
+        None => Reference::Wrong,
+        Some(v) => match v {
             Value::Null => Reference::Null,
             Value::Object(o) => Reference::To(o),
             _ => Reference::Wrong,

@@ -15,9 +15,6 @@ enum_told-1 c = search (to_exits, rules)
 pub enum_known-read : goal.enum_known-read
 enum_known-read c = search (to_exits, rules)
 
-pub enum_told-in-Loop : goal.enum_told-in-Loop
-enum_told-in-Loop c = search (to_exits, rules)
-
 pub block_word-below-requires : goal.block_word-below-requires
 block_word-below-requires c = search (to_exits, rules)
 
@@ -36,8 +33,8 @@ takes_of-takes-requires c = search (to_exits, rules)
 pub branch_out-requires : goal.branch_out-requires
 branch_out-requires c = search (to_exits, rules)
 
-pub returns-in-Refused : goal.returns-in-Refused
-returns-in-Refused c = search (to_exits, rules)
+pub returns-in-Err : goal.returns-in-Err
+returns-in-Err c = search (to_exits, rules)
 
 pub returns-in-Loop : goal.returns-in-Loop
 returns-in-Loop c = search (to_exits, rules)

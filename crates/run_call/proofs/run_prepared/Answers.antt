@@ -6,8 +6,8 @@ use Rattle.run_call.proofs.run_prepared.Goals as goal
 pub run_placed-requires : goal.run_placed-requires
 run_placed-requires c = search (may_place, rules)
 
-pub returns-in-Refused : goal.returns-in-Refused
-returns-in-Refused c = search (refusal-told, rules)
+pub returns-in-Err : goal.returns-in-Err
+returns-in-Err c = search (refusal-told, rules)
 
-pub returns-in-Ready : goal.returns-in-Ready
-returns-in-Ready c = search (run-told, rules)
+pub returns-in-Ok : goal.returns-in-Ok
+returns-in-Ok c = search (run-told, rules)

@@ -3,20 +3,14 @@ use borrow.Author.Rules.{rules}
 use Rattle.run_ends.proofs.Filling.{fill_exits}
 use Rattle.run_ends.proofs.fill_ends.Goals as goal
 
-pub loop-init : goal.loop-init
-loop-init c = search (fill_exits, rules)
-
-pub returns-in-Refused : goal.returns-in-Refused
-returns-in-Refused c = search (fill_exits, rules)
+pub returns-in_default : goal.returns-in_default
+returns-in_default c = search (fill_exits, rules)
 
 pub note-noted-requires : goal.note-noted-requires
 note-noted-requires c = search (fill_exits, rules)
 
-pub returns-in-Last : goal.returns-in-Last
-returns-in-Last c = search (fill_exits, rules)
-
-pub loop-preserved : goal.loop-preserved
-loop-preserved c = search (fill_exits, rules)
+pub returns-in_default-noted : goal.returns-in_default-noted
+returns-in_default-noted c = search (fill_exits, rules)
 
 pub returns : goal.returns
 returns c = search (fill_exits, rules)

@@ -6,5 +6,5 @@ use Rattle.run_loop.proofs.step_next.Goals as goal
 pub step-requires : goal.step-requires
 step-requires c = search (read_exits, rules)
 
-pub returns-in-Refused : goal.returns-in-Refused
-returns-in-Refused c = search (read_exits, rules)
+pub returns-in-Err : goal.returns-in-Err
+returns-in-Err c = search (read_exits, rules)

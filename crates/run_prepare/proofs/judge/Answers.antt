@@ -21,8 +21,8 @@ returns-then-over_budget c = search (judge_exits, rules)
 pub read_section-requires : goal.read_section-requires
 read_section-requires c = search (may_read_section, judge_exits, rules)
 
-pub returns-in-Refused : goal.returns-in-Refused
-returns-in-Refused c = search (judge_exits, rules)
+pub returns-in-Err : goal.returns-in-Err
+returns-in-Err c = search (judge_exits, rules)
 
 pub returns-else-over_budget : goal.returns-else-over_budget
 returns-else-over_budget c = search (run-judged, judge_exits, rules)

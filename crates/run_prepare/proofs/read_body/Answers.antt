@@ -9,8 +9,8 @@ start-started-requires c = search (body_exits, rules)
 pub enum_known-started : goal.enum_known-started
 enum_known-started c = search (body_exits, rules)
 
-pub enum_known-started-in-Is-1 : goal.enum_known-started-in-Is-1
-enum_known-started-in-Is-1 c = search (body_exits, rules)
+pub enum_known-started-in-Ok-1 : goal.enum_known-started-in-Ok-1
+enum_known-started-in-Ok-1 c = search (body_exits, rules)
 
 pub all_default-requires : goal.all_default-requires
 all_default-requires c = search (body_exits, rules)
@@ -24,8 +24,8 @@ fill_ends-requires c = search (body_exits, rules)
 pub returns-then-not-fill_ends : goal.returns-then-not-fill_ends
 returns-then-not-fill_ends c = search (body_exits, rules)
 
-pub returns-in-Refused : goal.returns-in-Refused
-returns-in-Refused c = search (body_exits, rules)
+pub returns-in-Err : goal.returns-in-Err
+returns-in-Err c = search (body_exits, rules)
 
 pub returns-else-not-fill_ends : goal.returns-else-not-fill_ends
 returns-else-not-fill_ends c = search (body_read, body_exits, rules)

@@ -6,8 +6,8 @@ use Rattle.run_prepare.proofs.read_section.Goals as goal
 pub enum_known-judged : goal.enum_known-judged
 enum_known-judged c = search (section_exits, rules)
 
-pub enum_known-judged-in-Accepted-1 : goal.enum_known-judged-in-Accepted-1
-enum_known-judged-in-Accepted-1 c = search (section_exits, rules)
+pub enum_known-judged-in-Ok-1 : goal.enum_known-judged-in-Ok-1
+enum_known-judged-in-Ok-1 c = search (section_exits, rules)
 
 pub overflow_cast-count : goal.overflow_cast-count
 overflow_cast-count c = search (section_exits, rules)
@@ -15,8 +15,8 @@ overflow_cast-count c = search (section_exits, rules)
 pub read_type-requires : goal.read_type-requires
 read_type-requires c = search (may_type, section_exits, rules)
 
-pub returns-in-Refused : goal.returns-in-Refused
-returns-in-Refused c = search (section_exits, rules)
+pub returns-in-Err : goal.returns-in-Err
+returns-in-Err c = search (section_exits, rules)
 
-pub returns-in-Accepted : goal.returns-in-Accepted
-returns-in-Accepted c = search (section_exits, rules)
+pub returns-in-Ok : goal.returns-in-Ok
+returns-in-Ok c = search (section_exits, rules)

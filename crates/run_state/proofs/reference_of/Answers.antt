@@ -15,8 +15,8 @@ enum_told-in-Null c = search (reference_exits, rules)
 pub enum_known-v : goal.enum_known-v
 enum_known-v c = search (reference_exits, rules)
 
-pub returns-in-Nothing : goal.returns-in-Nothing
-returns-in-Nothing c = search (reference_exits, rules)
+pub returns-in-None : goal.returns-in-None
+returns-in-None c = search (reference_exits, rules)
 
 pub returns-in-Null : goal.returns-in-Null
 returns-in-Null c = search (reference_exits, rules)
