@@ -2,10 +2,11 @@
 use Prim.Native.Nat.{ℕ}
 use mathlib.Core.Path.{◌≡◌, refl}
 use mathlib.Core.List.{List, [], ◌∷◌}
+use Rattle.scope.specs.Told.{no_in}
+use Rattle.std.specs.Prelude.{Result, Ok, Err}
+use Rattle.scope.specs.declared.Rejected.{Rejected}
 use Rattle.scope.specs.declared.Place.{Place}
 use Rattle.scope.specs.declared.Place
-use Rattle.scope.specs.declared.Verdict.{Verdict}
-use Rattle.scope.specs.declared.Verdict
 use Rattle.scope.specs.declared.Asked.{Asked}
 use Rattle.scope.specs.declared.Asked
 use Rattle.scope.specs.declared.Ran.{Ran}
@@ -21,10 +22,10 @@ in_addon_told e = record { kind = refl; values = rw e }
 pub plain-told : {number at : ℕ} {place : Place} → place ≡ Place.TheVariants.Plain at → RefusalTold number place 0 (number ∷ at ∷ 0 ∷ 0 ∷ [])
 plain-told e = record { kind = refl; values = rw e }
 
-pub accepted_told : {v : Verdict} {count : ℕ} → v ≡ Verdict.TheVariants.Accepted count → VerdictTold v 1 (count ∷ 0 ∷ 0 ∷ 0 ∷ [])
+pub accepted_told : {v : Result ℕ Rejected} {count : ℕ} → v ≡ Ok count → VerdictTold v 1 (count ∷ 0 ∷ 0 ∷ 0 ∷ [])
 accepted_told e = record { kind = rw e; values = rw e }
 
-pub refused_told : {v : Verdict} {number r : ℕ} {place : Place} {answer' : List ℕ} → v ≡ Verdict.TheVariants.Refused number place → RefusalTold number place r answer' → VerdictTold v r answer'
+pub refused_told : {v : Result ℕ Rejected} {number r : ℕ} {place : Place} {answer' : List ℕ} → v ≡ Err (no_in number place) → RefusalTold number place r answer' → VerdictTold v r answer'
 refused_told e t = record { kind = rw e t.kind; values = rw e t.values }
 
 pub library_told : {a : Asked} {from to : ℕ} → a ≡ Asked.TheVariants.Library from to → AskedTold a 1 (from ∷ to ∷ 1 ∷ 0 ∷ [])

@@ -2,14 +2,15 @@
 use Prim.Native.Nat.{ℕ}
 use mathlib.Core.Path.{ap, ◌∙◌}
 use mathlib.Core.List.{List}
+use Rattle.std.specs.Prelude.{Result}
+use Rattle.scope.specs.declared.Rejected.{Rejected}
 use Rattle.scope.specs.Answers.{SectionJudged, TypeAsked, BodyJudged, RunMemory, RunTried}
-use Rattle.scope.specs.declared.Verdict.{Verdict}
 use Rattle.scope.specs.declared.Asked.{Asked}
 use Rattle.scope.specs.declared.Ran.{Ran}
 use Rattle.chelbugan_told.specs.Values.{verdict_kind, verdict_values, VerdictTold, asked_kind, asked_values, AskedTold, RanTold}
 use Rattle.chelbugan_told.specs.Told.{SectionTold, TypeTold, BodyTold, RunTold}
 
-pub section-told : {library section rows shared codes rows' shared' codes' : List ℕ} {v : Verdict} {r : ℕ} {answer' : List ℕ} → SectionJudged library section rows shared codes rows' shared' codes' v → VerdictTold v r answer' → SectionTold library section rows shared codes rows' shared' codes' r answer'
+pub section-told : {library section rows shared codes rows' shared' codes' : List ℕ} {v : Result ℕ Rejected} {r : ℕ} {answer' : List ℕ} → SectionJudged library section rows shared codes rows' shared' codes' v → VerdictTold v r answer' → SectionTold library section rows shared codes rows' shared' codes' r answer'
 section-told a t =
     record {
       kind = t.kind ∙ ap verdict_kind a.answer;
@@ -29,7 +30,7 @@ type-told a t =
       codes_after = a.codes_after;
     }
 
-pub body-told : {library section s rows shared codes work rows' shared' codes' work' : List ℕ} {x : ℕ} {v : Verdict} {r : ℕ} {answer' : List ℕ} → BodyJudged library section s x rows shared codes work rows' shared' codes' work' v → VerdictTold v r answer' → BodyTold library section s x rows shared codes work rows' shared' codes' work' r answer'
+pub body-told : {library section s rows shared codes work rows' shared' codes' work' : List ℕ} {x : ℕ} {v : Result ℕ Rejected} {r : ℕ} {answer' : List ℕ} → BodyJudged library section s x rows shared codes work rows' shared' codes' work' v → VerdictTold v r answer' → BodyTold library section s x rows shared codes work rows' shared' codes' work' r answer'
 body-told a t =
     record {
       kind = t.kind ∙ ap verdict_kind a.answer;

@@ -2,10 +2,11 @@
 -- A refusal is kind 0 with its number, its place and the input in which that lies; yes is kind 1 with what was counted, or where
 -- the bytes lie and in which input. A run that is done is kind 1, a trap kind 2, a spent budget kind 3.
 use Rattle.std.specs.Prelude.{ℕ, ◌≡◌, List, [], ◌∷◌}
+use Rattle.scope.specs.Told.{no_in}
+use Rattle.std.specs.Prelude.{Result, Ok, Err}
+use Rattle.scope.specs.declared.Rejected.{Rejected}
 use Rattle.scope.specs.Judging.{place_number, place_input, in_library, in_addon}
 use Rattle.scope.specs.declared.Place.{Place}
-use Rattle.scope.specs.declared.Verdict.{Verdict}
-use Rattle.scope.specs.declared.Verdict
 use Rattle.scope.specs.declared.Asked.{Asked}
 use Rattle.scope.specs.declared.Asked
 use Rattle.scope.specs.declared.Ran.{Ran}
@@ -20,15 +21,15 @@ pub record RefusalTold (number : ℕ) (place : Place) (r : ℕ) (answer' : List 
   pub kind : r ≡ 0
   pub values : answer' ≡ refusal_values number place
 
-abbrev pub verdict_kind : Verdict → ℕ
-verdict_kind (Verdict.TheVariants.Accepted count) = 1
-verdict_kind (Verdict.TheVariants.Refused number place) = 0
+abbrev pub verdict_kind : Result ℕ Rejected → ℕ
+verdict_kind (Ok count) = 1
+verdict_kind (Err why) = 0
 
-abbrev pub verdict_values : Verdict → List ℕ
-verdict_values (Verdict.TheVariants.Accepted count) = count ∷ 0 ∷ 0 ∷ 0 ∷ []
-verdict_values (Verdict.TheVariants.Refused number place) = refusal_values number place
+abbrev pub verdict_values : Result ℕ Rejected → List ℕ
+verdict_values (Ok count) = count ∷ 0 ∷ 0 ∷ 0 ∷ []
+verdict_values (Err why) = refusal_values why.number why.place
 
-pub record VerdictTold (v : Verdict) (r : ℕ) (answer' : List ℕ) : Type 0 where
+pub record VerdictTold (v : Result ℕ Rejected) (r : ℕ) (answer' : List ℕ) : Type 0 where
   pub kind : r ≡ verdict_kind v
   pub values : answer' ≡ verdict_values v
 

@@ -4,7 +4,7 @@
 
 ghost use Rattle.chelbugan_told.specs.Values.{RefusalTold, VerdictTold, AskedTold, RanTold};
 
-use scope::{Asked, Place, Ran, Verdict};
+use scope::{Asked, Place, Ran, Rejected};
 
 // What an answer is: the number that each call returns.
 const NO: u64 = 0;
@@ -46,15 +46,15 @@ fn tell_refusal(number: u64, place: Place, answer: &mut [u64; 4]) -> u64
 }
 
 // A verdict: yes with a count, or the refusal.
-pub fn tell_verdict(verdict: Verdict, answer: &mut [u64; 4]) -> u64
+pub fn tell_verdict(verdict: Result<u64, Rejected>, answer: &mut [u64; 4]) -> u64
     ensures { VerdictTold verdict result answer.new }
 {
     match verdict {
-        Verdict::Accepted(count) => {
+        Ok(count) => {
             *answer = [count, 0, 0, 0];
             YES
         }
-        Verdict::Refused(number, place) => tell_refusal(number, place, answer),
+        Err(Rejected { number, place }) => tell_refusal(number, place, answer),
     }
 }
 

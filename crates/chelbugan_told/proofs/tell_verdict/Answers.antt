@@ -2,8 +2,8 @@
 use Rattle.chelbugan_told.proofs.Exits.{accepted_told, refused_told}
 use Rattle.chelbugan_told.proofs.tell_verdict.Goals as goal
 
-pub returns-in-Accepted : goal.returns-in-Accepted
-returns-in-Accepted c = search accepted_told
+pub returns-in-Ok : goal.returns-in-Ok
+returns-in-Ok c = search accepted_told
 
-pub returns-in-Refused : goal.returns-in-Refused
-returns-in-Refused c = search refused_told
+pub returns-in-Err : goal.returns-in-Err
+returns-in-Err c = search refused_told
