@@ -78,7 +78,7 @@ impl Word for u32 {
     }
 
     fn top_turned(self) -> u32 {
-        self.wrapping_add(0x8000_0000)
+        self.wrapping_add(run_value::SIGN_32)
     }
 
     fn is_zero(self) -> bool {
@@ -119,7 +119,7 @@ impl Word for u64 {
     }
 
     fn top_turned(self) -> u64 {
-        self.wrapping_add(0x8000_0000_0000_0000)
+        self.wrapping_add(run_value::SIGN_64)
     }
 
     fn is_zero(self) -> bool {

@@ -28,6 +28,11 @@ pub const NAN_32: u32 = 0x7fc0_0000;
 
 pub const NAN_64: u64 = 0x7ff8_0000_0000_0000;
 
+// The sign's bit, which is the highest.
+pub const SIGN_32: u32 = 0x8000_0000;
+
+pub const SIGN_64: u64 = 0x8000_0000_0000_0000;
+
 // The float with these bits.
 pub fn single(bits: u32) -> Value
     ensures { SingleIs bits result }
