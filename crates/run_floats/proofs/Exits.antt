@@ -22,7 +22,7 @@ use Rattle.run_value.proofs.Laws.{within-twice}
 use Rattle.run_calculated.specs.declared.Calculated
 use Rattle.run_calculated.specs.declared.Uncalculated.{Uncalculated}
 use Rattle.run_calculated.specs.Calculations.{Calculation, OneIs, TwoIs, bits_as}
-use Rattle.run_integers.specs.Words.{WordTaken}
+use Rattle.run_words.specs.Words.{WordTaken}
 use Rattle.run_calculated.proofs.Exits.{one_is, first_wrong, second_wrong}
 use Rattle.run_floats.specs.declared.FloatDeed.{FloatDeed}
 use Rattle.run_floats.specs.FloatDeeds.{operated, deed_bits, kind_of}

@@ -11,13 +11,13 @@ ghost use Rattle.scope.specs.Floats.{float_neg};
 ghost use Rattle.run_values.specs.Values.{width};
 ghost use Rattle.run_float_bits.specs.Formats.{width_of};
 ghost use Rattle.run_calculated.specs.Calculations.{OneIs, TwoIs};
-ghost use Rattle.run_integers.specs.Words.{WordIs, WordTaken};
+ghost use Rattle.run_words.specs.Words.{WordIs, WordTaken};
 ghost use Rattle.run_floats.specs.FloatDeeds.{operated, deed_bits, kind_of};
 ghost use Rattle.run_floats.specs.Reals.{RealIs, CarriedIs, RealTaken};
 
 use run_calculated::{Calculated, Calculation, Uncalculated};
-use run_integers::Word;
 use run_value::Value;
+use run_words::Word;
 use std::num::{
     f32_from_bits_with_nan, f32_to_bits_with_nan, f64_from_bits_with_nan, f64_to_bits_with_nan,
 };
@@ -242,7 +242,7 @@ fn pattern<F: Real>(v: Value) -> Result<F::Bits, Uncalculated>
 }
 
 // neg: of one that is no number too, its payload kept.
-#[tactic(auto, using(crate::proofs::Exits::exits, run_integers::proofs::Exits::no_one))]
+#[tactic(auto, using(crate::proofs::Exits::exits, run_words::proofs::Exits::no_one))]
 pub fn negated<F: Real>(first: Value) -> Calculation
     ensures { let kind = kind_of F.format in OneIs kind kind (float_neg (width_of F.format)) first result }
 {

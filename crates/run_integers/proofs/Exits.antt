@@ -11,18 +11,15 @@ use Rattle.run_value.specs.declared.Value.{Value as Carrier}
 use Rattle.run_calculated.specs.declared.Calculated
 use Rattle.run_calculated.specs.declared.Uncalculated.{Uncalculated}
 use Rattle.run_calculated.specs.Calculations.{Calculation, TruthIs, OneIs, TwoIs}
-use Rattle.run_calculated.proofs.Exits.{one_is, one_wrong, two_is, first_wrong, second_wrong, tested}
+use Rattle.run_calculated.proofs.Exits.{one_is, two_is, first_wrong, second_wrong, tested}
+use Rattle.run_words.specs.Words.{WordTaken, NumberIs}
+use Rattle.run_words.proofs.Exits.{no_one}
 use Rattle.run_integers.specs.declared.IntegerTest.{IntegerTest}
 use Rattle.run_integers.specs.IntegerTests.{test_of, test_bits, zero_bits}
-use Rattle.run_integers.specs.Words.{WordTaken, NumberIs}
 
 -- an operand of another kind
 
 module _ {W : Type 0} (bits : W → ℕ) {k : Number} {v : Carrier} {e : Uncalculated} (not : WordTaken k bits v (Err e)) (j : Number) where
-  pub no_one : (f : ℕ → ℕ) {q : Calculation} → IsErr q × IsErrAnd q (λ x. x ≡ e) → OneIs k j f v q
-  no_one f {q = Ok a} (b, n) = absurd n
-  no_one f {q = Err x} (b, is) = rw (is, not.wrong e refl) (one_wrong k j f (not.missing e refl))
-
   pub no_first : (f : ℕ → ℕ → ℕ) {second : Carrier} {q : Calculation} → IsErr q × IsErrAnd q (λ x. x ≡ e) → TwoIs k j f v second q
   no_first f {second} {q = Ok a} (b, n) = absurd n
   no_first f {second} {q = Err x} (b, is) = rw (is, not.wrong e refl) (first_wrong k j f (not.missing e refl))

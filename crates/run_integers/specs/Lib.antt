@@ -1,2 +1,1 @@
 pub mod IntegerTests
-pub mod Words
