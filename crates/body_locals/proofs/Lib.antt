@@ -1,3 +1,4 @@
+pub mod Filling
 pub mod OneEntry
 pub mod Listing
 pub mod Laws

@@ -9,9 +9,9 @@ use scope::{Read, Refused, refusals, sizes};
 
 // An entry of the list: how many locals, and the code of their type.
 #[derive(Clone, Copy)]
-struct Entry {
-    count: u64,
-    code: u64,
+pub struct Entry {
+    pub count: u64,
+    pub code: u64,
 }
 
 // One entry, after so many locals. 6 and then 4, both at its first byte.
@@ -43,7 +43,9 @@ fn fill(work: &mut [u32], at: u64, k: u64, code: u64)
     requires { Space work.old at k code }
     ensures { Puts work.old work.new at (replicate k code) }
 {
-    work[at as usize..(at + k) as usize].fill(code as u32);
+    for i in 0..k {
+        lent_u32::put32(work, at + i, code);
+    }
 }
 
 // n entries, after so many parameters: how many locals there are with the parameters. Local i has its word at `first` + i.
