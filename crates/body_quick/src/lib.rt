@@ -155,33 +155,48 @@ pub fn go_on(
     ensures { let both = both_codes shared.now codes.now in
         Ran rows.now both work.old work.new scene s.now from result }
 {
-    let mut state = from;
-    for _ in 0..s.len() {
+    let mut next = from.next;
+    let mut depth = from.depth;
+    let mut base = from.base;
+    let mut top = from.top;
+    let mut dead = from.dead;
+    for done in 0..s.len() {
         let told = told_at(
             s,
-            state.next as usize,
+            next as usize,
             rows,
             shared,
             codes,
             table,
             work,
             scene,
-            state.depth,
-            state.base,
-            state.top,
-            state.dead,
+            depth,
+            base,
+            top,
+            dead,
         );
         if told.size == 0 {
-            return state;
+            return Progress {
+                count: from.count + done as u64,
+                next,
+                depth,
+                base,
+                top,
+                dead,
+            };
         }
-        state = Progress {
-            count: state.count + 1,
-            next: state.next + told.size,
-            depth: told.depth,
-            base: told.base,
-            top: told.top,
-            dead: told.dead,
-        };
+        next += told.size;
+        depth = told.depth;
+        base = told.base;
+        top = told.top;
+        dead = told.dead;
     }
-    state
+    Progress {
+        count: from.count + s.len() as u64,
+        next,
+        depth,
+        base,
+        top,
+        dead,
+    }
 }
