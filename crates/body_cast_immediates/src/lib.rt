@@ -73,11 +73,22 @@ pub fn casting_at(s: &[u8], at: usize, code: u64) -> Read<Instruction>
         target_null,
         target,
     } = cast;
-    let instruction = match code {
-        0x18 => Instruction::BrOnCast(label, source_null, source, target_null, target),
-        0x19 => Instruction::BrOnCastFail(label, source_null, source, target_null, target),
-        0x25 => Instruction::BrOnCastDescEq(label, source_null, source, target_null, target),
-        _ => Instruction::BrOnCastDescEqFail(label, source_null, source, target_null, target),
-    };
-    Ok((instruction, next))
+    match code {
+        0x18 => Ok((
+            Instruction::BrOnCast(label, source_null, source, target_null, target),
+            next,
+        )),
+        0x19 => Ok((
+            Instruction::BrOnCastFail(label, source_null, source, target_null, target),
+            next,
+        )),
+        0x25 => Ok((
+            Instruction::BrOnCastDescEq(label, source_null, source, target_null, target),
+            next,
+        )),
+        _ => Ok((
+            Instruction::BrOnCastDescEqFail(label, source_null, source, target_null, target),
+            next,
+        )),
+    }
 }

@@ -78,12 +78,10 @@ pub fn opening_at(s: &[u8], at: usize, code: u64) -> Read<Instruction>
     ensures { result ≡ instruction_is (opening_at code s.now at) }
 {
     let (result, next) = block_type_at(s, at)?;
-    let instruction = if code == 0x02 {
-        Instruction::Block(result)
-    } else {
-        Instruction::Loop(result)
-    };
-    Ok((instruction, next))
+    if code == 0x02 {
+        return Ok((Instruction::Block(result), next));
+    }
+    Ok((Instruction::Loop(result), next))
 }
 
 // 0C br, 0D br_if, 20/21/22 local.get/set/tee: a label or a local.
@@ -92,14 +90,13 @@ pub fn numbered_at(s: &[u8], at: usize, code: u64) -> Read<Instruction>
     ensures { result ≡ instruction_is (numbered_at code s.now at) }
 {
     let (x, next) = number::u32_at(s, at)?;
-    let instruction = match code {
-        0x0C => Instruction::Br(x),
-        0x0D => Instruction::BrIf(x),
-        0x20 => Instruction::LocalGet(x),
-        0x21 => Instruction::LocalSet(x),
-        _ => Instruction::LocalTee(x),
-    };
-    Ok((instruction, next))
+    match code {
+        0x0C => Ok((Instruction::Br(x), next)),
+        0x0D => Ok((Instruction::BrIf(x), next)),
+        0x20 => Ok((Instruction::LocalGet(x), next)),
+        0x21 => Ok((Instruction::LocalSet(x), next)),
+        _ => Ok((Instruction::LocalTee(x), next)),
+    }
 }
 
 // 32 bits hold so many numbers.
@@ -166,14 +163,13 @@ pub fn typed_at(s: &[u8], at: usize, code: u64) -> Read<Instruction>
 {
     let (x, next) = number::u32_at(s, at)?;
     let kept = type_read::kept_number(x);
-    let instruction = match code {
-        0x00 => Instruction::StructNew(kept),
-        0x01 => Instruction::StructNewDefault(kept),
-        0x20 => Instruction::StructNewDesc(kept),
-        0x21 => Instruction::StructNewDefaultDesc(kept),
-        _ => Instruction::RefGetDesc(kept),
-    };
-    Ok((instruction, next))
+    match code {
+        0x00 => Ok((Instruction::StructNew(kept), next)),
+        0x01 => Ok((Instruction::StructNewDefault(kept), next)),
+        0x20 => Ok((Instruction::StructNewDesc(kept), next)),
+        0x21 => Ok((Instruction::StructNewDefaultDesc(kept), next)),
+        _ => Ok((Instruction::RefGetDesc(kept), next)),
+    }
 }
 
 // FB 02 struct.get, 05 struct.set: a type number and a field.
@@ -184,12 +180,10 @@ pub fn fielded_at(s: &[u8], at: usize, code: u64) -> Read<Instruction>
     let (x, field) = number::u32_at(s, at)?;
     let (i, next) = number::u32_at(s, field)?;
     let kept = type_read::kept_number(x);
-    let instruction = if code == 0x02 {
-        Instruction::StructGet(kept, i)
-    } else {
-        Instruction::StructSet(kept, i)
-    };
-    Ok((instruction, next))
+    if code == 0x02 {
+        return Ok((Instruction::StructGet(kept, i), next));
+    }
+    Ok((Instruction::StructSet(kept, i), next))
 }
 
 // FB 14/15 ref.test (null), 16/17 ref.cast (null), 23/24 ref.cast_desc_eq (null): a heap type.
@@ -198,13 +192,12 @@ pub fn tested_at(s: &[u8], at: usize, code: u64) -> Read<Instruction>
     ensures { result ≡ instruction_is (tested_at code s.now at) }
 {
     let (heap, next) = type_read::heap_at(s, at)?;
-    let instruction = match code {
-        0x14 => Instruction::RefTest(false, heap),
-        0x15 => Instruction::RefTest(true, heap),
-        0x16 => Instruction::RefCast(false, heap),
-        0x17 => Instruction::RefCast(true, heap),
-        0x23 => Instruction::RefCastDescEq(false, heap),
-        _ => Instruction::RefCastDescEq(true, heap),
-    };
-    Ok((instruction, next))
+    match code {
+        0x14 => Ok((Instruction::RefTest(false, heap), next)),
+        0x15 => Ok((Instruction::RefTest(true, heap), next)),
+        0x16 => Ok((Instruction::RefCast(false, heap), next)),
+        0x17 => Ok((Instruction::RefCast(true, heap), next)),
+        0x23 => Ok((Instruction::RefCastDescEq(false, heap), next)),
+        _ => Ok((Instruction::RefCastDescEq(true, heap), next)),
+    }
 }

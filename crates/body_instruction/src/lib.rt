@@ -26,7 +26,8 @@ fn numeric_at(at: usize, b: u64, next: usize) -> Read<Instruction>
     })
 }
 
-// What the first byte b at `at` begins, where it is not FB; what follows the byte is read at `next`.
+// What the first byte b at `at` begins, where it is not FB; what follows the byte is read at `next`. A byte has a line of its own, so
+// that the reader of its immediates is put there with the byte that it is: this is done at each step of a run.
 #[tactic(auto, using(crate::proofs::Codes::single_exits), unfolding(crate::proofs::Codes::rows))]
 fn single_at(s: &[u8], at: usize, b: u64, next: usize) -> Read<Instruction>
     requires { b < 2 ^ 8 }
@@ -35,11 +36,16 @@ fn single_at(s: &[u8], at: usize, b: u64, next: usize) -> Read<Instruction>
     match b {
         0x00 => Ok((Instruction::Unreachable, next)),
         0x01 => Ok((Instruction::Nop, next)),
-        0x02 | 0x03 => body_immediates::opening_at(s, next, b),
+        0x02 => body_immediates::opening_at(s, next, b),
+        0x03 => body_immediates::opening_at(s, next, b),
         0x0B => Ok((Instruction::End, next)),
-        0x0C | 0x0D | 0x20 | 0x21 | 0x22 => body_immediates::numbered_at(s, next, b),
+        0x0C => body_immediates::numbered_at(s, next, b),
+        0x0D => body_immediates::numbered_at(s, next, b),
         0x0F => Ok((Instruction::Return, next)),
         0x1A => Ok((Instruction::Drop, next)),
+        0x20 => body_immediates::numbered_at(s, next, b),
+        0x21 => body_immediates::numbered_at(s, next, b),
+        0x22 => body_immediates::numbered_at(s, next, b),
         0x41 => body_immediates::constant_at(s, next),
         0x42 => body_immediates::wide_at(s, next),
         0x43 => body_immediates::float32_const_at(s, next),
@@ -58,10 +64,23 @@ fn listed_at(s: &[u8], at: usize, n: u64, next: usize) -> Read<Instruction>
     ensures { result ≡ instruction_is (listed_at n s.now at next) }
 {
     match n {
-        0x00 | 0x01 | 0x20 | 0x21 | 0x22 => body_immediates::typed_at(s, next, n),
-        0x02 | 0x05 => body_immediates::fielded_at(s, next, n),
-        0x14 | 0x15 | 0x16 | 0x17 | 0x23 | 0x24 => body_immediates::tested_at(s, next, n),
-        0x18 | 0x19 | 0x25 | 0x26 => body_cast_immediates::casting_at(s, next, n),
+        0x00 => body_immediates::typed_at(s, next, n),
+        0x01 => body_immediates::typed_at(s, next, n),
+        0x02 => body_immediates::fielded_at(s, next, n),
+        0x05 => body_immediates::fielded_at(s, next, n),
+        0x14 => body_immediates::tested_at(s, next, n),
+        0x15 => body_immediates::tested_at(s, next, n),
+        0x16 => body_immediates::tested_at(s, next, n),
+        0x17 => body_immediates::tested_at(s, next, n),
+        0x18 => body_cast_immediates::casting_at(s, next, n),
+        0x19 => body_cast_immediates::casting_at(s, next, n),
+        0x20 => body_immediates::typed_at(s, next, n),
+        0x21 => body_immediates::typed_at(s, next, n),
+        0x22 => body_immediates::typed_at(s, next, n),
+        0x23 => body_immediates::tested_at(s, next, n),
+        0x24 => body_immediates::tested_at(s, next, n),
+        0x25 => body_cast_immediates::casting_at(s, next, n),
+        0x26 => body_cast_immediates::casting_at(s, next, n),
         _ => Err(Refused {
             number: refusals::NOT_LISTED,
             at,
