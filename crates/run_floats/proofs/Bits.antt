@@ -1,12 +1,12 @@
 -- Floats and their bits, once over the format: what a value is read as, and what an operation's result is written as.
 use Prim.Native.Nat.{ℕ}
 use mathlib.Core.Path.{◌≡◌, refl, sym, ap, ap₂, ◌∙◌}
-use mathlib.Core.Bool.{Bool, true}
+use mathlib.Core.Bool.{true}
 use mathlib.Core.Option.{Option, none, some}
 use Rattle.std.specs.Prelude.{Ok}
 use native.Mathlib.Nat.{mod-eq_of_lt}
 use lib.Dec.{T}
-use lib.Ieee.{Float, nan, inf, fin, Format, binary32, binary64, size, fits, odd, of_fields, of_bits, to_bits, is_nan, div}
+use lib.Ieee.{Float, nan, inf, fin, Format, binary32, binary64, fits, of_bits, to_bits, is_nan}
 use lib.Ieee.Bits.{of_bits-to_bits, to_bits-lt}
 use lib.Ieee.Fits.{add-fits, sub-fits, mul-fits, div-fits}
 use denote.Floats.{passes}
@@ -40,15 +40,6 @@ unfolding is_nan
 only_nan nan e = refl
 only_nan (inf s) e = impossible cc
 only_nan (fin s m g) e = impossible cc
-
--- zero by zero is it
-zero_by_zero : (f : Format) → div f (of_bits f 0) (of_bits f 0) ≡ nan
-unfolding div of_bits of_fields odd size
-zero_by_zero binary32 = refl
-zero_by_zero binary64 = refl
-
-pub no_number : (f : Format) (x : Float) {q : Bool} → q ≡ is_nan x → q ≡ true → x ≡ div f (of_bits f 0) (of_bits f 0)
-no_number f x e z = sym (zero_by_zero f ∙ only_nan x (sym e ∙ z))
 
 -- an operation, on what two patterns are read as
 deed_is : (f : Format) (deed : FloatDeed) (a b : ℕ) → to_bits f (operated f deed (of_bits f a) (of_bits f b)) ≡ deed_bits deed (width_of f) a b

@@ -1,7 +1,7 @@
 -- Each way out of an instruction, over the format.
 use Rattle.std.proofs.Common.{◌≡◌, ℕ, ◌+◌, ◌-◌, ◌^◌, Bool, true, false, cond, refl, ap, ◌∙◌, inl, inr, arith, le-leb}
 use mathlib.Core.Option.{none, some}
-use lib.Ieee.{Float, Format, binary32, binary64, fits, of_bits, to_bits, is_nan, div}
+use lib.Ieee.{Float, Format, binary32, binary64, fits, to_bits, is_nan}
 use borrow.Author.Tests.{lt-leb}
 use Rattle.std.specs.Prelude.{Some, Ok, Err, IsErr, IsErrAnd}
 use Rattle.scope.specs.Syntax.{Number, i32, i64, f32, f64}
@@ -27,7 +27,7 @@ use Rattle.run_calculated.proofs.Exits.{one_is, first_wrong, second_wrong}
 use Rattle.run_floats.specs.declared.FloatDeed.{FloatDeed}
 use Rattle.run_floats.specs.FloatDeeds.{operated, deed_bits, kind_of}
 use Rattle.run_floats.specs.Reals.{RealIs, RealTaken, CarriedIs}
-use Rattle.run_floats.proofs.Bits.{read_back, only_nan, no_number, none_of, bits_of, reckoned}
+use Rattle.run_floats.proofs.Bits.{read_back, only_nan, none_of, bits_of, reckoned}
 
 -- an operand, read
 
@@ -37,10 +37,6 @@ own binary64 n = refl
 
 pub real_is : (f : Format) {v : Carrier} {x : Float} → decoded v ≡ number (kind_of f) (within (kind_of f) (to_bits f x)) → fits f x ≡ true → RealIs f (λ y. y) v (Some x)
 real_is f {v} {x} e h = record { is = rw (e, own f (within (kind_of f) (to_bits f x))) (ap some (read_back f x h)) }
-
--- one that is no number may be read as zero by zero
-pub nan_is : (f : Format) {v : Carrier} {x : Float} {q : Bool} → q ≡ is_nan x → q ≡ true → RealIs f (λ y. y) v (Some x) → RealIs f (λ y. y) v (Some (div f (of_bits f 0) (of_bits f 0)))
-nan_is f {x = x} e z read = record { is = read.is ∙ ap some (no_number f x e z) }
 
 -- a result that is no number
 
@@ -52,7 +48,7 @@ pub nan_carried_64 : (x : Float) → is_nan x ≡ true → CarriedIs binary64 (t
 unfolding to_bits
 nan_carried_64 x e = record { is = ap (λ y. number (kind_of binary64) (within (kind_of binary64) (to_bits binary64 y))) (only_nan x e) }
 
-pub ruleset reads = (real_is, nan_is, nan_carried_32, nan_carried_64)
+pub ruleset reads = (real_is, nan_carried_32, nan_carried_64)
 
 -- an operand of another kind
 

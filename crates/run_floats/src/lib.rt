@@ -38,8 +38,8 @@ pub trait Real: Copy
     // The bits of such a number.
     type Bits: Word;
 
-    // An operand, if it is of the kind. One that is no number is read as the language's one such, zero by zero: none of its bits
-    // is asked for again.
+    // An operand, if it is of the kind. One that is no number is read as the language's one such: none of its bits is asked for
+    // again.
     fn of(v: Value) -> Option<Self>
         ensures { RealIs format float v result };
 
@@ -90,13 +90,7 @@ impl Real for f32 {
     fn of(v: Value) -> Option<f32> {
         match v {
             Value::F32(x) => Some(x),
-            Value::Nan32(bits) => {
-                let x = f32_from_bits_with_nan(bits);
-                if x.is_nan() {
-                    return Some(0.0f32 / 0.0);
-                }
-                Some(x)
-            }
+            Value::Nan32(bits) => Some(f32_from_bits_with_nan(bits)),
             _ => None,
         }
     }
@@ -155,13 +149,7 @@ impl Real for f64 {
     fn of(v: Value) -> Option<f64> {
         match v {
             Value::F64(x) => Some(x),
-            Value::Nan64(bits) => {
-                let x = f64_from_bits_with_nan(bits);
-                if x.is_nan() {
-                    return Some(0.0f64 / 0.0);
-                }
-                Some(x)
-            }
+            Value::Nan64(bits) => Some(f64_from_bits_with_nan(bits)),
             _ => None,
         }
     }
