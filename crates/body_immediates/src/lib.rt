@@ -180,10 +180,12 @@ pub fn fielded_at(s: &[u8], at: usize, code: u64) -> Read<Instruction>
     let (x, field) = number::u32_at(s, at)?;
     let (i, next) = number::u32_at(s, field)?;
     let kept = type_read::kept_number(x);
-    if code == 0x02 {
-        return Ok((Instruction::StructGet(kept, i), next));
-    }
-    Ok((Instruction::StructSet(kept, i), next))
+    let instruction = if code == 0x02 {
+        Instruction::StructGet(kept, i)
+    } else {
+        Instruction::StructSet(kept, i)
+    };
+    Ok((instruction, next))
 }
 
 // FB 14/15 ref.test (null), 16/17 ref.cast (null), 23/24 ref.cast_desc_eq (null): a heap type.

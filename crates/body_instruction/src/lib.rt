@@ -66,8 +66,7 @@ fn listed_at(s: &[u8], at: usize, n: u64, next: usize) -> Read<Instruction>
     match n {
         0x00 => body_immediates::typed_at(s, next, n),
         0x01 => body_immediates::typed_at(s, next, n),
-        0x02 => body_immediates::fielded_at(s, next, n),
-        0x05 => body_immediates::fielded_at(s, next, n),
+        0x02 | 0x05 => body_immediates::fielded_at(s, next, n),
         0x14 => body_immediates::tested_at(s, next, n),
         0x15 => body_immediates::tested_at(s, next, n),
         0x16 => body_immediates::tested_at(s, next, n),
