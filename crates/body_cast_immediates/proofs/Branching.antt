@@ -104,10 +104,10 @@ module _ (b : ℕ) (s : List ℕ) (at : ℕ) where
   module _ {k : Casting} {next : ℕ} (a : Ok (k, next) ≡ cast_is (cast_at s at)) where
     -- a branching cast's instruction
     abbrev Maker : Type 0
-    Maker = ℕ → Bool → ℕ → Bool → ℕ → Instruction
+    Maker = Bool → Bool → ℕ → ℕ → ℕ → Instruction
 
     abbrev made : Maker → Instruction
-    made make = make k.label k.source_null k.source k.target_null k.target
+    made make = make k.source_null k.target_null k.label k.source k.target
 
     casting_read : (make : Maker) (c : Cast) → cast_at s at ≡ got c next → k ≡ casting_of c → cast_with make c ≡ operation_of (casting b c) → Ok (made make, next) ≡ instruction_is (casting_at b s at)
     unfolding casting_at instruction_of

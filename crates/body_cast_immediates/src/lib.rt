@@ -75,19 +75,19 @@ pub fn casting_at(s: &[u8], at: usize, code: u64) -> Read<Instruction>
     } = cast;
     match code {
         0x18 => Ok((
-            Instruction::BrOnCast(label, source_null, source, target_null, target),
+            Instruction::BrOnCast(source_null, target_null, label, source, target),
             next,
         )),
         0x19 => Ok((
-            Instruction::BrOnCastFail(label, source_null, source, target_null, target),
+            Instruction::BrOnCastFail(source_null, target_null, label, source, target),
             next,
         )),
         0x25 => Ok((
-            Instruction::BrOnCastDescEq(label, source_null, source, target_null, target),
+            Instruction::BrOnCastDescEq(source_null, target_null, label, source, target),
             next,
         )),
         _ => Ok((
-            Instruction::BrOnCastDescEqFail(label, source_null, source, target_null, target),
+            Instruction::BrOnCastDescEqFail(source_null, target_null, label, source, target),
             next,
         )),
     }

@@ -66,14 +66,14 @@ module _ {r : ℕ} (few : r ≤ 4_095) where
         same = λ v e. val_back v ∙ (val_keeps few).same v e;
       }
 
-  pub cast_read : Keeps r cast_names (cast_with cast_of)
+  pub cast_read : Keeps r cast_names (cast_with (λ m n l h k. cast_of l m h n k))
   unfolding cast_names
   cast_read = record { reach = reaches; same = sames }
     where
       reaches : (k : Cast) → below r (heap_names (heap_at_code (heap_code_kept k.source)) ++ heap_names (heap_at_code (heap_code_kept k.target))) ≡ below r (heap_names k.source ++ heap_names k.target)
       reaches k = simp every_append (ap₂ ◌&&◌ (heap_read.reach k.source) (heap_read.reach k.target))
 
-      sames : (k : Cast) → below r (heap_names k.source ++ heap_names k.target) ≡ true → cast_with cast_of k ≡ k
+      sames : (k : Cast) → below r (heap_names k.source ++ heap_names k.target) ≡ true → cast_with (λ m n l h k. cast_of l m h n k) k ≡ k
       sames k e =
           let (source, target) = from_both (below r (heap_names k.source)) (below r (heap_names k.target)) (rw every_append at e) in
           λ i.
@@ -114,7 +114,7 @@ module _ (c : Context) (few : c.count ≤ most_types) where
     unfolding judge_instr
     by_heap make f is h = judged (planned (scope_of c st) (heap_read bound) make f is h)
 
-    by_cast : (make : Cast → Op) (f : Cast → Ruled Plan) → ((k : Cast) → plan_of c (scope_of c st) (make k) ≡ reached c (cast_names k) (f k)) → (k : Cast) → judge_instr c st (op (make (cast_with cast_of k))) ≡ judge_instr c st (op (make k))
+    by_cast : (make : Cast → Op) (f : Cast → Ruled Plan) → ((k : Cast) → plan_of c (scope_of c st) (make k) ≡ reached c (cast_names k) (f k)) → (k : Cast) → judge_instr c st (op (make (cast_with (λ m n l h k. cast_of l m h n k) k))) ≡ judge_instr c st (op (make k))
     unfolding judge_instr
     by_cast make f is k = judged (planned (scope_of c st) (cast_read bound) make f is k)
 

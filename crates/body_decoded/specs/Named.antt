@@ -32,14 +32,14 @@ number_of (Instruction.TheVariants.StructGet x i) = 0
 number_of (Instruction.TheVariants.StructSet x i) = 0
 number_of (Instruction.TheVariants.RefTest n h) = 0
 number_of (Instruction.TheVariants.RefCast n h) = 0
-number_of (Instruction.TheVariants.BrOnCast l m h n k) = 0
-number_of (Instruction.TheVariants.BrOnCastFail l m h n k) = 0
+number_of (Instruction.TheVariants.BrOnCast m n l h k) = 0
+number_of (Instruction.TheVariants.BrOnCastFail m n l h k) = 0
 number_of (Instruction.TheVariants.StructNewDesc x) = x
 number_of (Instruction.TheVariants.StructNewDefaultDesc x) = x
 number_of (Instruction.TheVariants.RefGetDesc x) = 0
 number_of (Instruction.TheVariants.RefCastDescEq n h) = 0
-number_of (Instruction.TheVariants.BrOnCastDescEq l m h n k) = 0
-number_of (Instruction.TheVariants.BrOnCastDescEqFail l m h n k) = 0
+number_of (Instruction.TheVariants.BrOnCastDescEq m n l h k) = 0
+number_of (Instruction.TheVariants.BrOnCastDescEqFail m n l h k) = 0
 
 -- the code keeps the type of an object in 16 bits
 pub record Modest (i : Instruction) : Type 0 where

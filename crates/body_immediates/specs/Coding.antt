@@ -19,8 +19,8 @@ abbrev pub result_code : List Val → ℕ
 result_code [] = 0
 result_code (v ∷ vs) = val_code_kept v + 1
 
-abbrev pub cast_with : {A : Type 0} → (ℕ → Bool → ℕ → Bool → ℕ → A) → Cast → A
-cast_with make k = make k.label k.source_null (heap_code_kept k.source) k.target_null (heap_code_kept k.target)
+abbrev pub cast_with : {A : Type 0} → (Bool → Bool → ℕ → ℕ → ℕ → A) → Cast → A
+cast_with make k = make k.source_null k.target_null k.label (heap_code_kept k.source) (heap_code_kept k.target)
 
 unfoldable pub operation_of : Op → Instruction
 operation_of unreachable = Instruction.TheVariants.Unreachable

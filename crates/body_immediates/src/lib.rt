@@ -12,9 +12,10 @@ use number_values::Integer;
 use scope::{Read, Refused, refusals};
 
 // An instruction of document 01, or of request 1 of document 02, in their order. A constant is its bits, a numeric
-// instruction its code. A block's or loop's result is 0 for none, else one more than its code. A
-// bool says "null" where an instruction has both forms. A branching cast: label, whether the source may be null, the
-// source, whether the target may be, the target.
+// instruction its code. A block's or loop's result is 0 for none, else one more than its code. A bool says "null" where an
+// instruction has both forms. A branching cast, in the order of its bytes: whether the source may be null, whether the
+// target may be, the label, the source, the target. A bool further on, where no other row has a number, would take the
+// unused bytes beside it along in each copy, apart from the rest: this is copied at each step of a run.
 #[derive(Clone, Copy)]
 pub enum Instruction {
     Unreachable,
@@ -44,14 +45,14 @@ pub enum Instruction {
     StructSet(u64, u64),
     RefTest(bool, u64),
     RefCast(bool, u64),
-    BrOnCast(u64, bool, u64, bool, u64),
-    BrOnCastFail(u64, bool, u64, bool, u64),
+    BrOnCast(bool, bool, u64, u64, u64),
+    BrOnCastFail(bool, bool, u64, u64, u64),
     StructNewDesc(u64),
     StructNewDefaultDesc(u64),
     RefGetDesc(u64),
     RefCastDescEq(bool, u64),
-    BrOnCastDescEq(u64, bool, u64, bool, u64),
-    BrOnCastDescEqFail(u64, bool, u64, bool, u64),
+    BrOnCastDescEq(bool, bool, u64, u64, u64),
+    BrOnCastDescEqFail(bool, bool, u64, u64, u64),
 }
 
 // "A block has type 40 or one value type.": 0, or one more than the code of its type.

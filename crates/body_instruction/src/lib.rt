@@ -58,7 +58,8 @@ fn single_at(s: &[u8], at: usize, b: u64, next: usize) -> Read<Instruction>
     }
 }
 
-// What the number n at `at`, read after FB, begins; what follows it is read at `next`.
+// What the number n at `at`, read after FB, begins; what follows it is read at `next`. A number has a line of its own here too, but for
+// struct.get and struct.set: their reader is long, and is put there only while it has one caller.
 #[tactic(auto, using(crate::proofs::Codes::listed_exits), unfolding(crate::proofs::Codes::rows))]
 fn listed_at(s: &[u8], at: usize, n: u64, next: usize) -> Read<Instruction>
     ensures { result ≡ instruction_is (listed_at n s.now at next) }

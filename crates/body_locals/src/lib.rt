@@ -48,7 +48,8 @@ fn fill(work: &mut [u32], at: u64, k: u64, code: u64)
     }
 }
 
-// n entries, after so many parameters: how many locals there are with the parameters. Local i has its word at `first` + i.
+// n entries, after so many parameters: how many locals there are with the parameters. Local i has its word at `first` + i. The
+// entries are counted down, as the definition does: how many are left is then all that the loop has to keep of them.
 pub fn locals_at(
     s: &[u8],
     at: usize,
@@ -63,7 +64,7 @@ pub fn locals_at(
 {
     let mut next = at;
     let mut count = before;
-    for _ in 0..n {
+    for _ in (0..n).rev() {
         let (entry, following) = entry_at(s, next, types, count)?;
         fill(work, first + count, entry.count, entry.code);
         count += entry.count;

@@ -151,7 +151,7 @@ pub fn act_of(
             let plan = body_plan_casts::ref_cast(rows, shared, codes, types, n, h);
             Act::Does(plan)
         }
-        Instruction::BrOnCast(l, m, h, n, k) => {
+        Instruction::BrOnCast(m, n, l, h, k) => {
             let source = Reference { null: m, heap: h };
             let target = Reference { null: n, heap: k };
             let plan = body_plan_branches::br_on_cast(
@@ -159,7 +159,7 @@ pub fn act_of(
             );
             Act::Does(plan)
         }
-        Instruction::BrOnCastFail(l, m, h, n, k) => {
+        Instruction::BrOnCastFail(m, n, l, h, k) => {
             let source = Reference { null: m, heap: h };
             let target = Reference { null: n, heap: k };
             let plan = body_plan_branches::br_on_cast(
@@ -185,7 +185,7 @@ pub fn act_of(
             let plan = body_plan_casts::cast_desc_eq(rows, shared, codes, types, n, h);
             Act::Does(plan)
         }
-        Instruction::BrOnCastDescEq(l, m, h, n, k) => {
+        Instruction::BrOnCastDescEq(m, n, l, h, k) => {
             let source = Reference { null: m, heap: h };
             let target = Reference { null: n, heap: k };
             let plan = body_plan_branches::br_on_cast_desc(
@@ -193,7 +193,7 @@ pub fn act_of(
             );
             Act::Does(plan)
         }
-        Instruction::BrOnCastDescEqFail(l, m, h, n, k) => {
+        Instruction::BrOnCastDescEqFail(m, n, l, h, k) => {
             let source = Reference { null: m, heap: h };
             let target = Reference { null: n, heap: k };
             let plan = body_plan_branches::br_on_cast_desc(

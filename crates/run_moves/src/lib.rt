@@ -117,7 +117,7 @@ pub fn move_of(
             let first = run_stack::top(operands, base, height);
             run_move_casts::cast_move(rows, shared, codes, objects, n, first, null, h)
         }
-        Instruction::BrOnCast(l, source_null, source, null, h) => {
+        Instruction::BrOnCast(source_null, null, l, source, h) => {
             let first = run_stack::top(operands, base, height);
             run_move_casts::on_cast_move(
                 rows,
@@ -133,7 +133,7 @@ pub fn move_of(
                 h,
             )
         }
-        Instruction::BrOnCastFail(l, source_null, source, null, h) => {
+        Instruction::BrOnCastFail(source_null, null, l, source, h) => {
             let first = run_stack::top(operands, base, height);
             run_move_casts::on_cast_fail_move(
                 rows,
@@ -166,7 +166,7 @@ pub fn move_of(
             let second = run_move_operands::second_of(operands, base, height);
             run_move_casts::descriptor_cast_move(objects, n, first, second, null, h)
         }
-        Instruction::BrOnCastDescEq(l, source_null, source, null, h) => {
+        Instruction::BrOnCastDescEq(source_null, null, l, source, h) => {
             let first = run_stack::top(operands, base, height);
             let second = run_move_operands::second_of(operands, base, height);
             run_move_casts::on_descriptor_move(
@@ -181,7 +181,7 @@ pub fn move_of(
                 h,
             )
         }
-        Instruction::BrOnCastDescEqFail(l, source_null, source, null, h) => {
+        Instruction::BrOnCastDescEqFail(source_null, null, l, source, h) => {
             let first = run_stack::top(operands, base, height);
             let second = run_move_operands::second_of(operands, base, height);
             run_move_casts::on_descriptor_fail_move(

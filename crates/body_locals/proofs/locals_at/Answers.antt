@@ -1,6 +1,4 @@
 -- `body_locals::locals_at` meets its contract: each turn takes one entry from what the definition still has to read.
-use Prim.Native.Nat.{◌+◌, ◌-◌}
-use mathlib.Core.Path.{◌≡◌}
 use native.Mathlib.Omega.{arith}
 use Rattle.body_locals.proofs.Listing.{listed-done, listed_refused, listed_space, listed_turn}
 use Rattle.body_locals.proofs.locals_at.Goals as goal
@@ -12,9 +10,7 @@ pub fill-requires : goal.fill-requires
 fill-requires c = listed_space c.loop.invariant (omega arith) c.in_ok-entry.ensures c.requires
 
 pub loop-preserved : goal.loop-preserved
-loop-preserved c =
-    let one_less : c.args.n - (c.loop.counter + 1) ≡ c.args.n - c.loop.counter - 1 = omega arith in
-    rw one_less (listed_turn c.loop.invariant (omega arith) c.in_ok-entry.ensures c.fill.ensures)
+loop-preserved c = listed_turn c.loop.invariant (omega arith) c.in_ok-entry.ensures c.fill.ensures
 
 pub returns : goal.returns
 returns c = listed-done c.loop.invariant (omega arith)

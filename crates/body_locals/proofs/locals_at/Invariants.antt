@@ -1,6 +1,5 @@
-use Prim.Native.Nat.{◌-◌}
 use Rattle.body_locals.proofs.Listing.{Listed}
 use Rattle.body_locals.proofs.locals_at.Given as goal
 
 abbrev pub invariant-loop : goal.invariant-loop
-invariant-loop l = Listed l.types l.n l.before l.s l.at l.initial.work l.work l.first l.next (l.n - l.counter) l.count
+invariant-loop l = Listed l.types l.n l.before l.s l.at l.initial.work l.work l.first l.next l.counter l.count
